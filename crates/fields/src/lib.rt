@@ -1,0 +1,1 @@
+// Numbers in bytes: reading and writing them at a place of a slice.
