@@ -1,0 +1,189 @@
+-- Every call of document 01 as a function of its inputs: the number returned, the answer, and every byte of image, output and
+-- scratch afterwards, on every image and argument. Over half the capacity of a page, which is 12. Assumes nothing.
+use Prim.Native.Nat.{ℕ, _*_}
+use mathlib.Core.Bool.{Bool, true, false, cond, not, _&&_}
+use mathlib.Core.List.{List, [], _∷_}
+use lib.ListN.{length}
+use lib.Dec.{eqb, leb, ltb}
+use lib.IntN.{ℤ}
+use Rattle.rule.specs.declared.Pair.{Pair}
+use Rattle.rule.specs.declared.Average.{Average}
+use Rattle.rule.specs.declared.Average.the-variants.{Nothing}
+use Rattle.rule.specs.Time.{END, value-ok, kind-ok, window-ok, lengthened}
+use Rattle.rule.specs.Pairs.{none, entry-effect, opposite, combine}
+use Rattle.rule.specs.Averages.{average}
+use Rattle.fields.specs.Bytes.{patch}
+use Rattle.page.specs.declared.Head.{Head}
+use Rattle.page.specs.Layout.{head-of, joined}
+use Rattle.page.specs.Fit.{head-fit, most-changes}
+use Rattle.image.specs.Images.{Image, page-at, pages-in, length-ok, image-of, image-bytes, fresh}
+use Rattle.image.specs.Sound.{sound}
+use Rattle.image.specs.Instant.{Looked, look-up}
+use Rattle.image.specs.Listing.{Run, Walked, walk-over, join, run-bytes}
+use Rattle.steps.specs.Change.{change, lacks-pages}
+use Rattle.calls.specs.Refusals.{first, scratch-after}
+
+-- the head of an image
+unfoldable pub head : ℕ → List ℕ → Head
+head half img = head-of (page-at half img 0)
+
+-- the head is fit for an image of that length
+unfoldable pub head-ok : ℕ → List ℕ → Bool
+head-ok half img = head-fit half (pages-in half img) (page-at half img 0)
+
+-- Format
+
+pub record Formatted : Type 0 where
+  pub number : ℕ
+  pub image : List ℕ
+
+unfoldable pub format-number : ℕ → ℕ → ℕ → List ℕ → ℕ
+format-number half kind window img =
+    first ((16, not (length-ok half img)) ∷ (14, not (kind-ok kind && window-ok window)) ∷ [])
+
+unfoldable pub format : ℕ → ℕ → ℕ → List ℕ → Formatted
+format half kind window img =
+    let number = format-number half kind window img in
+    let done = image-bytes half (fresh (pages-in half img) kind window) in
+    record { number = number; image = cond (eqb number 0) done img }
+
+-- Enter and withdraw
+
+pub data Side : Type 0 where
+  entering : Side
+  withdrawing : Side
+
+unfoldable pub withdraws : Side → Bool
+withdraws entering = false
+withdraws withdrawing = true
+
+-- "an entry adds (v, 1), a withdrawal (−v, −1), whether or not such a booking is live"
+unfoldable pub effect : Side → ℤ → Pair
+effect entering v = entry-effect v
+effect withdrawing v = opposite (entry-effect v)
+
+pub record Booked : Type 0 where
+  pub number : ℕ
+  pub image : List ℕ
+  pub scratch : List ℕ
+
+unfoldable pub book-number : ℕ → Side → ℤ → ℕ → ℕ → List ℕ → List ℕ → ℕ
+book-number half side v s e img scratch =
+    let h = head half img in
+    first
+    ((16, not (length-ok half img))
+    ∷ (17, ltb (length scratch) (pages-in half img))
+    ∷ (11, leb e s)
+    ∷ (13, not (value-ok v))
+    ∷ (21, not (sound half img))
+    ∷ (22, withdraws side && not (eqb (h .kind) 1))
+    ∷ (23, eqb (h .changes) most-changes)
+    ∷ (24, lacks-pages half s (lengthened e (h .window)) (image-of half img))
+    ∷ [])
+
+-- the image that an accepted change leaves
+unfoldable pub changed : ℕ → Side → ℤ → ℕ → ℕ → List ℕ → List ℕ
+changed half side v s e img =
+    let h = head half img in
+    image-bytes half (change half (combine (h .kind)) s (lengthened e (h .window)) (effect side v) (image-of half img))
+
+unfoldable pub book : ℕ → Side → ℤ → ℕ → ℕ → List ℕ → List ℕ → Booked
+book half side v s e img scratch =
+    let number = book-number half side v s e img scratch in
+    let done = changed half side v s e img in
+    record {
+      number = number;
+      image = cond (eqb number 0) done img;
+      scratch = scratch-after number (pages-in half img) scratch;
+    }
+
+-- Instant
+
+pub record Instant : Type 0 where
+  pub number : ℕ
+  pub pair : Pair
+  pub pages : ℕ
+
+unfoldable pub instant-number : ℕ → ℕ → List ℕ → ℕ
+instant-number half t img =
+    first
+    ((16, not (length-ok half img))
+    ∷ (12, leb END t)
+    ∷ (21, not (head-ok half img && look-up half img t .fit))
+    ∷ [])
+
+-- "It reports the tree pages read: the height if answered, or if a page is unfit, the pages up to and including it (0 for the
+-- head and at other refusals)."
+unfoldable pub instant : ℕ → ℕ → List ℕ → Instant
+instant half t img =
+    let number = instant-number half t img in
+    let looked = look-up half img t in
+    record {
+      number = number;
+      pair = cond (eqb number 0) (looked .pair) none;
+      pages = cond (length-ok half img && (ltb t END && head-ok half img)) (looked .pages) 0;
+    }
+
+-- Average: "The average's pair is taken by an instant call."
+
+pub record Averaged : Type 0 where
+  pub number : ℕ
+  pub average : Average
+
+unfoldable pub average-at : ℕ → ℕ → List ℕ → Averaged
+average-at half t img =
+    let r = instant half t img in
+    record { number = r .number; average = cond (eqb (r .number) 0) (average (head half img .kind) (r .pair)) Nothing }
+
+-- Span listing
+
+pub record Listed : Type 0 where
+  pub number : ℕ
+  pub runs : ℕ
+  pub output : List ℕ
+
+unfoldable pub runs-over : ℕ → ℕ → ℕ → List ℕ → List Run
+runs-over half a b img = join (walk-over half img a b .runs)
+
+-- "output shorter than the runs": in bytes
+unfoldable pub too-short : List ℕ → List Run → Bool
+too-short out runs = ltb (length out) (16 * length runs)
+
+-- "Bytes past the last run keep what they held."
+unfoldable pub written : List ℕ → List Run → List ℕ
+written out runs = patch out 0 (joined run-bytes runs)
+
+unfoldable pub listing-number : ℕ → ℕ → ℕ → List ℕ → List ℕ → ℕ
+listing-number half a b img out =
+    first
+    ((16, not (length-ok half img))
+    ∷ (11, leb b a)
+    ∷ (21, not (head-ok half img && walk-over half img a b .fit))
+    ∷ (15, too-short out (runs-over half a b img))
+    ∷ [])
+
+unfoldable pub listing : ℕ → ℕ → ℕ → List ℕ → List ℕ → Listed
+listing half a b img out =
+    let number = listing-number half a b img out in
+    let runs = runs-over half a b img in
+    record {
+      number = number;
+      runs = cond (eqb number 0) (length runs) 0;
+      output = cond (eqb number 0) (written out runs) out;
+    }
+
+-- Audit
+
+pub record Audited : Type 0 where
+  pub number : ℕ
+  pub scratch : List ℕ
+
+unfoldable pub audit : ℕ → List ℕ → List ℕ → Audited
+audit half img scratch =
+    let number =
+    first
+    ((16, not (length-ok half img))
+    ∷ (17, ltb (length scratch) (pages-in half img))
+    ∷ (21, not (sound half img))
+    ∷ []) in
+    record { number = number; scratch = scratch-after number (pages-in half img) scratch }

@@ -1,0 +1,1 @@
+-- The three demands, over the calls of document 01 as Calls.antt defines them. Assumes nothing.

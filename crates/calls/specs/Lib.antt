@@ -1,0 +1,5 @@
+pub mod Refusals
+pub mod Calls
+pub mod Book
+pub mod Lists
+pub mod Demands

@@ -1,0 +1,1 @@
+// The calls of document 01: their definitions stand in specs/.

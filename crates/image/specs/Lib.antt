@@ -1,0 +1,4 @@
+pub mod Images
+pub mod Sound
+pub mod Instant
+pub mod Listing

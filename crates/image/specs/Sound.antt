@@ -1,0 +1,61 @@
+-- Document 01, "The page": the sound image. Each page below the high mark but the head is reachable exactly once: by the tree
+-- or by the chain of free pages. Assumes nothing.
+use Prim.Native.Nat.{ℕ, zero, suc, _+_, _-_}
+use mathlib.Core.Bool.{Bool, true, cond, _&&_}
+use mathlib.Core.List.{List, [], _∷_}
+use lib.ListN.{length}
+use lib.Dec.{eqb}
+use Rattle.fields.specs.Bytes.{every}
+use Rattle.page.specs.declared.Entry.{Entry}
+use Rattle.page.specs.declared.Head.{Head}
+use Rattle.page.specs.Layout.{number-of, child-at, entries-of, next-of, free-ok, never-used-ok, head-of, joined}
+use Rattle.page.specs.Fit.{Place, root-place, place-below, page-fit, head-fit}
+use Rattle.image.specs.Images.{page-at, pages-in}
+
+-- "Audit goes by page and entry in turn: a page is checked by its entries, and an inner entry by its page below."
+-- The level falls on the way down, so that the walk ends on every image.
+unfoldable pub tree-fit : ℕ → Head → List ℕ → ℕ → Place → ℕ → Bool
+tree-fit half h img zero at p = page-fit half h at (page-at half img p)
+tree-fit half h img (suc l) at p =
+    let s = page-at half img p in
+    page-fit half h at s
+    && every (number-of s) (λ i. tree-fit half h img l (place-below half s at i) (child-at half s i))
+
+-- the pages of the tree, each as often as an entry leads to it
+unfoldable pub tree-pages : ℕ → List ℕ → ℕ → ℕ → List ℕ
+tree-pages half img zero p = p ∷ []
+tree-pages half img (suc l) p =
+    p ∷ joined (λ e. tree-pages half img l (e .child)) (entries-of half (page-at half img p))
+
+-- the pages of the chain from page p on, at most as many as asked for: a chain that returns to itself has a page twice
+unfoldable pub chain-pages : ℕ → List ℕ → ℕ → ℕ → List ℕ
+chain-pages half img zero p = []
+chain-pages half img (suc most) p = cond (eqb p 0) [] (p ∷ chain-pages half img most (next-of (page-at half img p)))
+
+-- how often p stands in a list
+unfoldable pub times : ℕ → List ℕ → ℕ
+times p [] = 0
+times p (q ∷ qs) = cond (eqb p q) 1 0 + times p qs
+
+unfoldable pub all-of : (ℕ → Bool) → List ℕ → Bool
+all-of ok [] = true
+all-of ok (p ∷ ps) = ok p && all-of ok ps
+
+-- "each page below the high mark except 0 is once in the tree or once in the chain"
+unfoldable pub each-once : ℕ → List ℕ → List ℕ → Bool
+each-once mark tree chain = every (mark - 1) (λ i. eqb (times (suc i) tree + times (suc i) chain) 1)
+
+-- "An image is sound if head and all tree pages are fit, each page below the high mark except 0 is once in the tree or once in
+-- the chain, the chain length is true, and free and never used pages read as above."
+unfoldable pub sound : ℕ → List ℕ → Bool
+sound half img =
+    let n = pages-in half img in
+    let h = head-of (page-at half img 0) in
+    let tree = tree-pages half img (h .height - 1) (h .root) in
+    let chain = chain-pages half img n (h .free) in
+    head-fit half n (page-at half img 0)
+    && (tree-fit half h img (h .height - 1) (root-place h) (h .root)
+    && (each-once (h .mark) tree chain
+    && (eqb (length chain) (h .chain)
+    && (all-of (λ p. free-ok half (page-at half img p)) chain
+    && every (n - h .mark) (λ i. never-used-ok (page-at half img (h .mark + i)))))))

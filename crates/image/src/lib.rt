@@ -1,0 +1,1 @@
+// The image as a whole: its definitions stand in specs/.

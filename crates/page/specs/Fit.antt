@@ -1,0 +1,107 @@
+-- Document 01, "The page": a page fit at its place, and the head fit. Assumes nothing.
+use Prim.Native.Nat.{ℕ, zero, suc, _+_, _*_, _-_, _<_, _≤_, pred}
+use mathlib.Core.Bool.{Bool, true, false, cond, not, _&&_, _||_}
+use mathlib.Core.List.{List}
+use lib.Dec.{leb, ltb, eqb}
+use lib.IntN.{ℤ, pos, natAbs}
+use Rattle.rule.specs.declared.Pair.{Pair}
+use Rattle.rule.specs.Pairs.{none, same-pair, same-number}
+use Rattle.rule.specs.Time.{END, most-value, value-ok, kind-ok, window-ok}
+use Rattle.fields.specs.Bytes.{part, all-are, every}
+use Rattle.page.specs.declared.Head.{Head}
+use Rattle.page.specs.Layout.{capacity, page-size, level-of, number-of, start-at, pair-at, child-at, unused-ok, head-of}
+
+-- A page's place in the tree: the level expected there, whether it is the root's, the span of the entry that leads to it,
+-- and what the absolute sums and counts of the entries above it add to.
+pub record Place : Type 0 where
+  pub level : ℕ
+  pub is-root : Bool
+  pub lo : ℕ
+  pub hi : ℕ
+  pub sums : ℕ
+  pub counts : ℕ
+
+-- "(root: height − 1)", "(root: 0)", "(root: END)"
+unfoldable pub root-place : Head → Place
+root-place h = record { level = h .height - 1; is-root = true; lo = 0; hi = END; sums = 0; counts = 0 }
+
+-- where the i-th entry of a page's bytes ends
+unfoldable pub end-at : List ℕ → ℕ → ℕ → ℕ
+end-at s hi i = cond (ltb (suc i) (number-of s)) (start-at s (suc i)) hi
+
+-- the place of the page under the i-th entry
+unfoldable pub place-below : ℕ → List ℕ → Place → ℕ → Place
+place-below half s at i =
+    record {
+      level = at .level - 1;
+      is-root = false;
+      lo = start-at s i;
+      hi = end-at s (at .hi) i;
+      sums = at .sums + natAbs (pair-at half s i .sum);
+      counts = at .counts + natAbs (pair-at half s i .count);
+    }
+
+-- "it has 12 to 24 entries (root leaf 1 to 24, inner root 2 to 24)"
+unfoldable pub fewest : ℕ → Place → ℕ
+fewest half at = cond (at .is-root) (cond (eqb (at .level) 0) 1 2) half
+
+unfoldable pub number-ok : ℕ → Place → List ℕ → Bool
+number-ok half at s = leb (fewest half at) (number-of s) && leb (number-of s) (capacity half)
+
+-- "starts rise strictly, the first is the parent entry's start (root: 0), the last lies below that entry's end (root: END)"
+unfoldable pub starts-ok : Place → List ℕ → Bool
+starts-ok at s =
+    eqb (start-at s 0) (at .lo)
+    && (every (number-of s - 1) (λ i. ltb (start-at s i) (start-at s (suc i)))
+    && ltb (start-at s (number-of s - 1)) (at .hi))
+
+-- "an inner entry's child lies in 1 to n−1, a leaf's is 0"
+unfoldable pub child-ok : ℕ → ℕ → ℕ → Bool
+child-ok pages level child = cond (eqb level 0) (eqb child 0) (leb 1 child && ltb child pages)
+
+unfoldable pub children-ok : ℕ → ℕ → Place → List ℕ → Bool
+children-ok half pages at s = every (number-of s) (λ i. child-ok pages (at .level) (child-at half s i))
+
+-- "for kind 1 the absolute sums of an entry and of those above it on its way add to at most 1,000,000 × changes, absolute
+-- counts to at most changes; kinds 2 and 3 have (0, 0) or a value with 1"
+unfoldable pub pair-ok : Head → Place → Pair → Bool
+pair-ok h at p =
+    cond (eqb (h .kind) 1)
+    (leb (at .sums + natAbs (p .sum)) (most-value * h .changes) && leb (at .counts + natAbs (p .count)) (h .changes))
+    (same-pair p none || (value-ok (p .sum) && same-number (p .count) (pos 1)))
+
+unfoldable pub pairs-ok : ℕ → Head → Place → List ℕ → Bool
+pairs-ok half h at s = every (number-of s) (λ i. pair-ok h at (pair-at half s i))
+
+-- "A page is fit at its place if its level is the one expected there", and all of the above.
+-- The number of entries stands before everything that uses it.
+unfoldable pub page-fit : ℕ → Head → Place → List ℕ → Bool
+page-fit half h at s =
+    eqb (level-of s) (at .level)
+    && (number-ok half at s
+    && (starts-ok at s
+    && (unused-ok half s
+    && (children-ok half (h .pages) at s
+    && pairs-ok half h at s))))
+
+-- "The head is fit if n matches the length, changes ≤ 1,000,000,000, the root lies in 1 to n−1, the chain's first page is 0
+-- or there, the other fields keep the ranges named, and its rest is FF." The chain's length has no range of its own.
+abbrev pub most-changes : ℕ
+most-changes = 1000000000
+
+abbrev pub most-height : ℕ
+most-height = 4
+
+unfoldable pub ranges-ok : ℕ → Head → Bool
+ranges-ok pages h =
+    eqb (h .pages) pages
+    && (leb 1 (h .height) && leb (h .height) most-height
+    && (leb 1 (h .root) && ltb (h .root) pages
+    && (ltb (h .free) pages
+    && (leb 2 (h .mark) && leb (h .mark) pages
+    && (kind-ok (h .kind)
+    && (window-ok (h .window)
+    && leb (h .changes) most-changes))))))
+
+unfoldable pub head-fit : ℕ → ℕ → List ℕ → Bool
+head-fit half pages s = ranges-ok pages (head-of s) && all-are 255 (part s 36 (page-size half - 36))

@@ -1,0 +1,122 @@
+-- Document 01, "The page": where the numbers of a page stand, over half the capacity of a page, which is 12. Assumes nothing.
+use Prim.Native.Nat.{ℕ, zero, suc, _+_, _*_, _-_, _/_, min}
+use mathlib.Core.Bool.{Bool, true, false, cond, _&&_}
+use mathlib.Core.List.{List, [], _∷_, _++_}
+use lib.ListN.{length, take, drop}
+use lib.IntN.{ℤ}
+use lib.Dec.{eqb}
+use Rattle.rule.specs.declared.Pair.{Pair}
+use Rattle.fields.specs.Bytes.{part, unused, all-are}
+use Rattle.fields.specs.Numbers.{u32-at, i32-at, i64-at, u32-bytes, i32-bytes, i64-bytes}
+use Rattle.page.specs.declared.Entry.{Entry}
+use Rattle.page.specs.declared.Head.{Head}
+use Rattle.page.specs.Entries.{entry}
+
+-- All that follows from the capacity of a page stands here: half of it is the one number that differs between chips.
+abbrev pub capacity : ℕ → ℕ
+capacity half = 2 * half
+
+-- "level (u32, leaf 0), number of entries (u32), 24 bytes FF; then two parallel arrays of 24: starts (u32), and entries of 16 bytes"
+abbrev pub start-place : ℕ → ℕ
+start-place i = 32 + 4 * i
+
+abbrev pub entry-place : ℕ → ℕ → ℕ
+entry-place half i = 32 + 4 * capacity half + 16 * i
+
+-- "The image is n pages of 512 bytes"
+abbrev pub page-size : ℕ → ℕ
+page-size half = 32 + 20 * capacity half
+
+-- Reading a tree page
+
+unfoldable pub level-of : List ℕ → ℕ
+level-of s = u32-at s 0
+
+unfoldable pub number-of : List ℕ → ℕ
+number-of s = u32-at s 4
+
+-- the list of the values of f below n
+unfoldable pub listed : {A : Type 0} → ℕ → (ℕ → A) → List A
+listed zero f = []
+listed (suc n) f = listed n f ++ (f n ∷ [])
+
+unfoldable pub start-at : List ℕ → ℕ → ℕ
+start-at s i = u32-at s (start-place i)
+
+-- "sum (i64), count (i32), child page (u32, 0 in a leaf)"
+unfoldable pub pair-at : ℕ → List ℕ → ℕ → Pair
+pair-at half s i = record { sum = i64-at s (entry-place half i); count = i32-at s (entry-place half i + 8) }
+
+unfoldable pub child-at : ℕ → List ℕ → ℕ → ℕ
+child-at half s i = u32-at s (entry-place half i + 12)
+
+unfoldable pub entry-at : ℕ → List ℕ → ℕ → Entry
+entry-at half s i = entry (start-at s i) (pair-at half s i) (child-at half s i)
+
+-- A page's entries. The number is held against the capacity before it is used: no place past the arrays is read.
+unfoldable pub entries-of : ℕ → List ℕ → List Entry
+entries-of half s = listed (min (number-of s) (capacity half)) (λ i. entry-at half s i)
+
+-- "Places past the number are FF." And the 24 bytes before the arrays.
+unfoldable pub unused-ok : ℕ → List ℕ → Bool
+unused-ok half s =
+    let n = number-of s in
+    let past = capacity half - n in
+    all-are 255 (part s 8 24)
+    && (all-are 255 (part s (start-place n) (4 * past))
+    && all-are 255 (part s (entry-place half n) (16 * past)))
+
+-- Writing a tree page
+
+unfoldable pub joined : {A : Type 0} → (A → List ℕ) → List A → List ℕ
+joined f [] = []
+joined f (x ∷ xs) = f x ++ joined f xs
+
+unfoldable pub entry-bytes : Entry → List ℕ
+entry-bytes e = i64-bytes (e .pair .sum) ++ (i32-bytes (e .pair .count) ++ u32-bytes (e .child))
+
+unfoldable pub tree-bytes : ℕ → ℕ → List Entry → List ℕ
+tree-bytes half level es =
+    let past = capacity half - length es in
+    u32-bytes level ++ (u32-bytes (length es) ++ (unused 24
+    ++ (joined (λ e. u32-bytes (e .start)) es ++ (unused (4 * past)
+    ++ (joined entry-bytes es ++ unused (16 * past))))))
+
+-- "Free page: level field 255, next free page (0 ends the chain), rest FF."
+abbrev pub free-level : ℕ
+free-level = 255
+
+unfoldable pub next-of : List ℕ → ℕ
+next-of s = u32-at s 4
+
+unfoldable pub free-bytes : ℕ → ℕ → List ℕ
+free-bytes half next = u32-bytes free-level ++ (u32-bytes next ++ unused (page-size half - 8))
+
+unfoldable pub free-ok : ℕ → List ℕ → Bool
+free-ok half s = eqb (level-of s) free-level && all-are 255 (part s 8 (page-size half - 8))
+
+-- "From the high mark on, pages are all FF."
+unfoldable pub never-used-ok : List ℕ → Bool
+never-used-ok s = all-are 255 s
+
+-- "Page 0, the head, u32 each: n, height (1 to 4), root page, first free page (0 none), free chain length, high mark
+-- (lowest page never used, 2 to n), kind, window, changes. Rest FF."
+unfoldable pub head-of : List ℕ → Head
+head-of s =
+    record {
+      pages = u32-at s 0;
+      height = u32-at s 4;
+      root = u32-at s 8;
+      free = u32-at s 12;
+      chain = u32-at s 16;
+      mark = u32-at s 20;
+      kind = u32-at s 24;
+      window = u32-at s 28;
+      changes = u32-at s 32;
+    }
+
+unfoldable pub head-bytes : ℕ → Head → List ℕ
+head-bytes half h =
+    joined u32-bytes
+    (h .pages ∷ h .height ∷ h .root ∷ h .free ∷ h .chain ∷ h .mark ∷ h .kind ∷ h .window ∷ h .changes ∷ [])
+    ++ unused (page-size half - 36)

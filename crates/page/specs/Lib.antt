@@ -1,0 +1,4 @@
+pub mod Entries
+pub mod Layout
+pub mod Decoded
+pub mod Fit

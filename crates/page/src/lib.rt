@@ -1,0 +1,34 @@
+// A page of the image: the head, a tree page, a free page.
+// Document 01, "The page"; docs/FORMAT.md has the fields' places.
+use rule::Pair;
+
+// An entry of a tree page: from start up to the next entry's start its pair counts; a leaf's child is 0.
+pub struct Entry {
+    pub start: u32,
+    pub pair: Pair,
+    pub child: u32,
+}
+
+// The numbers of page 0, in the order in which they stand there.
+pub struct Head {
+    pub pages: u32,
+    pub height: u32,
+    pub root: u32,
+    pub free: u32,
+    pub chain: u32,
+    pub mark: u32,
+    pub kind: u32,
+    pub window: u32,
+    pub changes: u32,
+}
+
+// A decoded tree page: its level, its number of entries, and an array for each of an entry's numbers. There is a place more
+// than a written page has, for the entry that makes it split. What stands past the number means nothing.
+pub struct Page {
+    pub level: u32,
+    pub number: usize,
+    pub starts: [u32; 25],
+    pub sums: [i64; 25],
+    pub counts: [i32; 25],
+    pub children: [u32; 25],
+}

@@ -1,0 +1,66 @@
+-- Document 01, "One change in five steps": the five together, 24's condition, and the pages that the steps name. Assumes nothing.
+use Prim.Native.Nat.{ℕ, zero, suc, _+_, _-_}
+use mathlib.Core.Bool.{Bool, cond}
+use mathlib.Core.List.{List, [], _∷_, _++_}
+use lib.Dec.{ltb}
+use Rattle.rule.specs.declared.Pair.{Pair}
+use Rattle.page.specs.declared.Entry.{Entry}
+use Rattle.page.specs.Entries.{at, place}
+use Rattle.image.specs.Images.{Image}
+use Rattle.steps.specs.Supply.{entries, spares, pages-taken, counted}
+use Rattle.steps.specs.Cut.{cut}
+use Rattle.steps.specs.Spread.{spread}
+use Rattle.steps.specs.Heal.{heal, heal-page, short, neighbour}
+
+-- "A. Cut at s. B. Cut at e′."
+unfoldable pub cuts : ℕ → ℕ → ℕ → Image → Image
+cuts half s e X = cut half e (cut half s X)
+
+-- "A and B together take more pages than chain and pages from the high mark hold"
+unfoldable pub lacks-pages : ℕ → ℕ → ℕ → Image → Bool
+lacks-pages half s e X =
+    ltb (X .head .chain + (X .head .pages - X .head .mark)) (pages-taken X (cuts half s e X))
+
+-- "The way to t, in the image as the step finds it: the root, then each time the child of the last entry starting at t or
+-- before, down to a leaf."
+unfoldable pub way-from : ℕ → ℕ → ℕ → Image → List ℕ
+way-from t zero p X = p ∷ []
+way-from t (suc l) p X = p ∷ way-from t l (at (entries X p) (place t (entries X p)) .child) X
+
+unfoldable pub way : ℕ → Image → List ℕ
+way t X = way-from t (X .head .height - 1) (X .head .root) X
+
+module _ (half : ℕ) (_⊕_ : Pair → Pair → Pair) where
+  -- "C. Combine the effect into [s, e′). D. Heal at s. E. Heal at e′. Then changes rises by 1."
+  unfoldable pub change : ℕ → ℕ → Pair → Image → Image
+  change s e effect X = counted (heal half _⊕_ e (heal half _⊕_ s (spread _⊕_ s e effect (cuts half s e X))))
+
+  -- "Each step may write only the head, pages on the way to its instant (C: to s and e′), the neighbour each turns to, and pages
+  -- taken or given back." A page given back is on the way or is the neighbour of one that is.
+
+  unfoldable pub cut-names : ℕ → Image → List ℕ
+  cut-names t X = way t X ++ spares (pages-taken X (cut half t X)) X
+
+  unfoldable pub spread-names : ℕ → ℕ → Image → List ℕ
+  spread-names s e X = way s X ++ way e X
+
+  -- the neighbours that the pages on the way turn to, below page p of the level named
+  unfoldable pub turned-to : ℕ → ℕ → ℕ → Image → List ℕ
+  turned-to t zero p X = []
+  turned-to t (suc l) p X =
+      let i = place t (entries X p) in
+      let q = at (entries X p) i .child in
+      let n = at (entries X p) (neighbour i) .child in
+      turned-to t l q X ++ cond (short half q (heal-page half _⊕_ t l q X)) (n ∷ []) []
+
+  unfoldable pub heal-names : ℕ → Image → List ℕ
+  heal-names t X = way t X ++ turned-to t (X .head .height - 1) (X .head .root) X
+
+  -- the head, and what each of the five names in the image as it finds it
+  unfoldable pub change-names : ℕ → ℕ → Pair → Image → List ℕ
+  change-names s e effect X =
+      let A = cut half s X in
+      let B = cut half e A in
+      let C = spread _⊕_ s e effect B in
+      let D = heal half _⊕_ s C in
+      0 ∷ (cut-names s X ++ (cut-names e A ++ (spread-names s e B ++ (heal-names s C ++ heal-names e D))))

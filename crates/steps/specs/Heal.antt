@@ -1,0 +1,95 @@
+-- Document 01, "One change in five steps", steps D and E: heal at t. Over half the capacity and any combining rule. Assumes nothing.
+use Prim.Native.Nat.{ℕ, zero, suc, _-_, _+_}
+use mathlib.Core.Bool.{Bool, cond, not, _&&_}
+use mathlib.Core.List.{List, [], _∷_, _++_}
+use lib.ListN.{length, take, drop}
+use lib.Dec.{eqb, leb, ltb}
+use Rattle.rule.specs.declared.Pair.{Pair}
+use Rattle.rule.specs.Pairs.{none, same-pair}
+use Rattle.page.specs.declared.Entry.{Entry}
+use Rattle.page.specs.Entries.{entry, at, place, splice, push}
+use Rattle.image.specs.Images.{Image, tree}
+use Rattle.steps.specs.Supply.{entries, put, given-back, with-root}
+
+-- "only if t starts a leaf entry that isn't first in its page, with the same pair as the one before"
+unfoldable pub heals : ℕ → List Entry → ℕ → Bool
+heals t es i = ltb 0 i && (eqb (at es i .start) t && same-pair (at es i .pair) (at es (i - 1) .pair))
+
+-- "A page other than the root left with 11"
+unfoldable pub short : ℕ → ℕ → Image → Bool
+short half p X = ltb (length (entries X p)) half
+
+-- "turns to its left neighbour under the same parent, else the right": the neighbour's place, for the page under the i-th entry
+unfoldable pub neighbour : ℕ → ℕ
+neighbour i = cond (eqb i 0) 1 (i - 1)
+
+-- the place of the left one of the two
+unfoldable pub left-of : ℕ → ℕ
+left-of i = i - 1
+
+module _ (_⊕_ : Pair → Pair → Pair) where
+  -- the entries of the page under e, the pair of e combined into each
+  unfoldable pub pushed : Image → Entry → List Entry
+  pushed X e = push _⊕_ (e .pair) (entries X (e .child))
+
+  -- "Each of the two parent pairs is first combined into its page's entries and set to (0, 0)": all entries of the two pages
+  -- under the l-th entry of page p and the next
+  unfoldable pub both : ℕ → ℕ → Image → List Entry
+  both p l X = pushed X (at (entries X p) l) ++ pushed X (at (entries X p) (suc l))
+
+  -- "A neighbour with 13 or more gives its nearest entry, and the right page's parent start follows": the left page has k of all
+  unfoldable pub give : ℕ → ℕ → ℕ → ℕ → Image → Image
+  give level p l k X =
+      let es = entries X p in
+      let a = at es l in
+      let b = at es (suc l) in
+      let left = take k (both p l X) in
+      let right = drop k (both p l X) in
+      put p (tree (suc level)
+      (splice l (entry (a .start) none (a .child) ∷ [])
+      (splice (suc l) (entry (at right 0 .start) none (b .child) ∷ []) es)))
+      (put (b .child) (tree level right) (put (a .child) (tree level left) X))
+
+  -- "else both join in the left page, the right is given back, the parent loses its entry"
+  unfoldable pub merge : ℕ → ℕ → ℕ → Image → Image
+  merge level p l X =
+      let es = entries X p in
+      let a = at es l in
+      let b = at es (suc l) in
+      put p (tree (suc level) (splice l (entry (a .start) none (a .child) ∷ []) (splice (suc l) [] es)))
+      (given-back (b .child) (put (a .child) (tree level (both p l X)) X))
+
+  -- "An inner root with one entry combines its pair into its child's entries, is given back, and the child becomes root."
+  unfoldable pub lowered : Image → Image
+  lowered X =
+      let h = X .head in
+      let e = at (entries X (h .root)) 0 in
+      with-root (h .height - 1) (e .child)
+      (given-back (h .root) (put (e .child) (tree (h .height - 2) (pushed X e)) X))
+
+  unfoldable pub shrunk : Image → Image
+  shrunk X = cond (ltb 1 (X .head .height) && eqb (length (entries X (X .head .root))) 1) (lowered X) X
+
+module _ (half : ℕ) (_⊕_ : Pair → Pair → Pair) where
+  -- The page under the i-th entry of page p turns to its neighbour, which has n entries: a left neighbour that gives keeps all but
+  -- its last, and a right one makes the left page one longer.
+  unfoldable pub turn : ℕ → ℕ → ℕ → Image → Image
+  turn level p i X =
+      let n = length (entries X (at (entries X p) (neighbour i) .child)) in
+      let k = cond (eqb i 0) half (n - 1) in
+      cond (ltb half n) (give _⊕_ level p (left-of i) k X) (merge _⊕_ level p (left-of i) X)
+
+  -- page p of the level named: the leaf entry goes, and on the way back each page that is left short turns
+  unfoldable pub heal-page : ℕ → ℕ → ℕ → Image → Image
+  heal-page t zero p X =
+      let es = entries X p in
+      let i = place t es in
+      cond (heals t es i) (put p (tree zero (splice i [] es)) X) X
+  heal-page t (suc l) p X =
+      let i = place t (entries X p) in
+      let q = at (entries X p) i .child in
+      let Y = heal-page t l q X in
+      cond (short half q Y) (turn l p i Y) Y
+
+  unfoldable pub heal : ℕ → Image → Image
+  heal t X = shrunk _⊕_ (heal-page t (X .head .height - 1) (X .head .root) X)

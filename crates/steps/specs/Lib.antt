@@ -1,0 +1,5 @@
+pub mod Supply
+pub mod Cut
+pub mod Spread
+pub mod Heal
+pub mod Change

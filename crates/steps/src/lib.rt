@@ -1,0 +1,1 @@
+// The five steps of a change: their definitions stand in specs/.
