@@ -54,8 +54,9 @@ never-used-level = 4294967295
 
 unfoldable pub cell-of : ℕ → List ℕ → Cell
 cell-of half s =
-    cond (eqb (level-of s) free-level) (free (next-of s))
-    (cond (eqb (level-of s) never-used-level) never-used (tree (level-of s) (entries-of half s)))
+    let level = level-of s in
+    cond (eqb level free-level) (free (next-of s))
+    (cond (eqb level never-used-level) never-used (tree level (entries-of half s)))
 
 unfoldable pub cell-bytes : ℕ → Cell → List ℕ
 cell-bytes half (tree level es) = tree-bytes half level es
