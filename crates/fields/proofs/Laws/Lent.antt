@@ -1,0 +1,23 @@
+-- A part of a slice that is lent as `&s[a..e]` or `&mut s[a..e]`: what it shows is a `part`, and the slice that it came back to is a `patch`. Assumes nothing.
+use mathlib.Core.Path.{_≡_, refl, sym, ap, _∙_}
+use Prim.Native.Nat.{ℕ, _+_, _-_, _≤_}
+use native.Mathlib.Omega.{arith}
+use mathlib.Core.List.{List, _++_}
+use lib.ListN.{length, take, drop}
+use lib.Seq.{drop-drop}
+use borrow.Rule.Slice.PartMut.{midOf, putMid}
+use Rattle.fields.specs.Bytes.{part, patch}
+
+-- what the part from a to e shows
+pub lent-part : (s : List ℕ) (a e n : ℕ) → a + n ≡ e → midOf a (e - a) s ≡ part s a n
+unfolding part
+lent-part s a e n q =
+    let d : e - a ≡ n = omega arith in
+    ap (λ k. take k (drop a s)) d
+
+-- the slice once the part came back as ys
+pub back-patch : (s : List ℕ) (a e n : ℕ) (ys : List ℕ) → a + n ≡ e → length ys ≡ n → putMid a (e - a) s ys ≡ patch s a ys
+unfolding patch
+back-patch s a e n ys q l =
+    let d : a + (e - a) ≡ a + length ys = omega arith in
+    ap (λ r. take a s ++ (ys ++ r)) (drop-drop (e - a) a s ∙ ap (λ k. drop k s) d)

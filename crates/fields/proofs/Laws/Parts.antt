@@ -1,0 +1,207 @@
+-- The laws of `part` and `patch`: what is read after something was written, parts of parts, and writes that meet. Assumes nothing.
+use mathlib.Core.Path.{_≡_, refl, sym, ap, _∙_}
+use Prim.Native.Nat.{ℕ, zero, suc, _+_, _-_, _≤_, _<_}
+use native.Mathlib.Nat.{add-zero, zero-add, add-assoc, add-sub-of-le, suc-add}
+use native.Mathlib.Numerals.{add-one}
+use native.Mathlib.Omega.{arith}
+use mathlib.Core.List.{List, [], _∷_, _++_, append-assoc, append-nil}
+use lib.ListN.{length, getD, set, take, drop, length-append, length-take, length-drop, take-append-drop}
+use lib.Seq.{length-take-le, take-length, drop-length, take-take, take-add, drop-cons, drop-drop, take-at, drop-at, take-append-le, drop-append-le, take-append-add, drop-append-add, getD-take, getD-drop, set-split}
+use Rattle.fields.specs.Bytes.{part, patch}
+
+-- ---- a part
+
+pub length-part : (s : List ℕ) (o n : ℕ) → o + n ≤ length s → length (part s o n) ≡ n
+unfolding part
+length-part s o n h = simp (length-take, length-drop) (omega arith)
+
+pub getD-part : (s : List ℕ) (o n i : ℕ) → i < n → getD (part s o n) i 0 ≡ getD s (o + i) 0
+unfolding part
+getD-part s o n i h = getD-take n (drop o s) i 0 h ∙ getD-drop o s i 0
+
+-- the whole list is its part
+pub part-whole : (s : List ℕ) (n : ℕ) → length s ≡ n → part s 0 n ≡ s
+unfolding part
+part-whole s n e = rw (← e) (take-length s)
+
+pub part-none : (s : List ℕ) (o : ℕ) → part s o 0 ≡ []
+unfolding part
+part-none s o = refl
+
+pub part-first : (s : List ℕ) (o n : ℕ) → o < length s → part s o (suc n) ≡ getD s o 0 ∷ part s (o + 1) n
+unfolding part
+part-first s o n h = rw (add-one, drop-cons s o 0 h)
+
+-- two parts, one after the other
+pub part-add : (s : List ℕ) (o n m : ℕ) → part s o (n + m) ≡ part s o n ++ part s (o + n) m
+unfolding part
+part-add s o n m = take-add n m (drop o s) ∙ ap (λ l. take n (drop o s) ++ take m l) (drop-drop n o s)
+
+-- a part of a part
+take-drop-take : (m o n : ℕ) (l : List ℕ) → o + m ≤ n → take m (drop o (take n l)) ≡ take m (drop o l)
+take-drop-take m zero n l h = take-take m n l (omega arith)
+take-drop-take m (suc o) zero l h = absurd (omega arith)
+take-drop-take m (suc o) (suc n) [] h = refl
+take-drop-take m (suc o) (suc n) (x ∷ l) h = take-drop-take m o n l (omega arith)
+
+pub part-part : (s : List ℕ) (a n o m : ℕ) → o + m ≤ n → part (part s a n) o m ≡ part s (a + o) m
+unfolding part
+part-part s a n o m h = take-drop-take m o n (drop a s) h ∙ ap (take m) (drop-drop o a s)
+
+-- a part of an append: within its first list, past it, and a list in the middle
+pub part-append-left : (xs ys : List ℕ) (o n : ℕ) → o + n ≤ length xs → part (xs ++ ys) o n ≡ part xs o n
+unfolding part
+part-append-left xs ys o n h =
+    let d : o ≤ length xs = omega arith in
+    let t : n ≤ length (drop o xs) = simp length-drop (omega arith) in
+    ap (take n) (drop-append-le o xs ys d) ∙ take-append-le n (drop o xs) ys t
+
+pub part-append-right : (xs ys : List ℕ) (o n : ℕ) → part (xs ++ ys) (length xs + o) n ≡ part ys o n
+unfolding part
+part-append-right xs ys o n = ap (take n) (sym (drop-drop o (length xs) (xs ++ ys)) ∙ ap (drop o) (drop-at xs ys (length xs) refl))
+
+pub part-middle : (xs ys zs : List ℕ) (o n : ℕ) → length xs ≡ o → length ys ≡ n → part (xs ++ (ys ++ zs)) o n ≡ ys
+unfolding part
+part-middle xs ys zs o n e f = ap (take n) (drop-at xs (ys ++ zs) o e) ∙ take-at ys zs n f
+
+-- ---- a patch
+
+pub length-patch : (s : List ℕ) (o : ℕ) (bs : List ℕ) → o + length bs ≤ length s → length (patch s o bs) ≡ length s
+unfolding patch
+length-patch s o bs h = simp (length-append, length-take, length-drop) (omega arith)
+
+take-patch : (s : List ℕ) (o : ℕ) (bs : List ℕ) → o ≤ length s → take (o + length bs) (patch s o bs) ≡ take o s ++ bs
+unfolding patch
+take-patch s o bs h =
+    ap (take (o + length bs)) (sym (append-assoc (take o s) bs (drop (o + length bs) s)))
+    ∙ take-at (take o s ++ bs) (drop (o + length bs) s) (o + length bs) (simp (length-append, length-take) (omega arith))
+
+-- before a patch and after it nothing changes
+take-patch-before : (s : List ℕ) (o : ℕ) (bs : List ℕ) (i : ℕ) → i ≤ o → o ≤ length s → take i (patch s o bs) ≡ take i s
+unfolding patch
+take-patch-before s o bs i g h =
+    take-append-le i (take o s) (bs ++ drop (o + length bs) s) (simp length-take (omega arith)) ∙ take-take i o s g
+
+drop-patch-after : (s : List ℕ) (o : ℕ) (bs : List ℕ) (i : ℕ) → o + length bs ≤ i → o ≤ length s → drop i (patch s o bs) ≡ drop i s
+unfolding patch
+drop-patch-after s o bs i g h =
+    let n : ℕ = o + length bs in
+    let e : n + (i - n) ≡ i = add-sub-of-le g in
+    ap (λ k. drop k (patch s o bs)) (sym e)
+    ∙ sym (drop-drop (i - n) n (patch s o bs))
+    ∙ ap (λ l. drop (i - n) (drop n l)) (sym (append-assoc (take o s) bs (drop n s)))
+    ∙ ap (drop (i - n)) (drop-at (take o s ++ bs) (drop n s) n (simp (length-append, length-take) (omega arith)))
+    ∙ drop-drop (i - n) n s
+    ∙ ap (λ k. drop k s) e
+
+-- what a patch wrote stands at its place, and other parts are as they were
+pub part-patch-same : (s : List ℕ) (o : ℕ) (bs : List ℕ) (n : ℕ) → length bs ≡ n → o ≤ length s → part (patch s o bs) o n ≡ bs
+unfolding patch
+part-patch-same s o bs n e h = part-middle (take o s) bs (drop (o + length bs) s) o n (length-take-le o s h) e
+
+pub part-patch-before : (s : List ℕ) (o : ℕ) (bs : List ℕ) (i n : ℕ) → i + n ≤ o → o ≤ length s → part (patch s o bs) i n ≡ part s i n
+unfolding part
+part-patch-before s o bs i n g h =
+    sym (take-drop-take n i o (patch s o bs) g)
+    ∙ ap (λ l. take n (drop i l)) (take-patch-before s o bs o (omega arith) h)
+    ∙ take-drop-take n i o s g
+
+pub part-patch-after : (s : List ℕ) (o : ℕ) (bs : List ℕ) (i n : ℕ) → o + length bs ≤ i → o ≤ length s → part (patch s o bs) i n ≡ part s i n
+unfolding part
+part-patch-after s o bs i n g h = ap (take n) (drop-patch-after s o bs i g h)
+
+-- writing nothing, a part back, the whole list
+pub patch-none : (s : List ℕ) (o : ℕ) → patch s o [] ≡ s
+unfolding patch
+patch-none s o = rw add-zero (take-append-drop o s)
+
+drop-taken : (n : ℕ) (l : List ℕ) → drop (length (take n l)) l ≡ drop n l
+drop-taken zero l = refl
+drop-taken (suc n) [] = refl
+drop-taken (suc n) (x ∷ l) = drop-taken n l
+
+pub patch-part : (s : List ℕ) (a n : ℕ) → patch s a (part s a n) ≡ s
+unfolding part patch
+patch-part s a n =
+    ap (λ l. take a s ++ (take n (drop a s) ++ l)) (sym (drop-drop (length (take n (drop a s))) a s) ∙ drop-taken n (drop a s))
+    ∙ ap (λ l. take a s ++ l) (take-append-drop n (drop a s))
+    ∙ take-append-drop a s
+
+pub patch-whole : (s bs : List ℕ) → length bs ≡ length s → patch s 0 bs ≡ bs
+unfolding patch
+patch-whole s bs e = rw (zero-add, e) (ap (λ l. bs ++ l) (drop-length s) ∙ append-nil bs)
+
+-- a store is a patch of one byte
+pub set-patch : (s : List ℕ) (i v : ℕ) → i < length s → set s i v ≡ patch s i (v ∷ [])
+unfolding patch
+set-patch s i v h = rw add-one (set-split s i v h)
+
+-- adjacent patches join
+pub patch-patch-next : (s : List ℕ) (o : ℕ) (xs ys : List ℕ) (p : ℕ) → o + length xs ≡ p → o ≤ length s → patch (patch s o xs) p ys ≡ patch s o (xs ++ ys)
+unfolding patch
+patch-patch-next s o xs ys p e h =
+    let d : p + length ys ≡ o + length (xs ++ ys) = simp length-append (omega arith) in
+    ap (λ l. l ++ (ys ++ drop (p + length ys) (patch s o xs))) (ap (λ k. take k (patch s o xs)) (sym e) ∙ take-patch s o xs h)
+    ∙ ap (λ l. take o s ++ xs ++ (ys ++ l)) (drop-patch-after s o xs (p + length ys) (omega arith) h ∙ ap (λ k. drop k s) d)
+    ∙ append-assoc (take o s) xs (ys ++ drop (o + length (xs ++ ys)) s)
+    ∙ ap (λ l. take o s ++ l) (sym (append-assoc xs ys (drop (o + length (xs ++ ys)) s)))
+
+-- a patch is gone where a later one covers it
+pub patch-patch-cover : (s : List ℕ) (i : ℕ) (xs : List ℕ) (o : ℕ) (ys : List ℕ)
+    → o ≤ i → i + length xs ≤ o + length ys → i ≤ length s → patch (patch s i xs) o ys ≡ patch s o ys
+unfolding patch
+patch-patch-cover s i xs o ys g k h =
+    ap (λ l. l ++ (ys ++ drop (o + length ys) (patch s i xs))) (take-patch-before s i xs o g h)
+    ∙ ap (λ l. take o s ++ (ys ++ l)) (drop-patch-after s i xs (o + length ys) k h)
+
+-- a patch of an append, within its first list or past it
+pub patch-append-left : (xs ys : List ℕ) (o : ℕ) (bs : List ℕ) → o + length bs ≤ length xs → patch (xs ++ ys) o bs ≡ patch xs o bs ++ ys
+unfolding patch
+patch-append-left xs ys o bs h =
+    ap (λ l. l ++ (bs ++ drop (o + length bs) (xs ++ ys))) (take-append-le o xs ys (omega arith))
+    ∙ ap (λ l. take o xs ++ (bs ++ l)) (drop-append-le (o + length bs) xs ys h)
+    ∙ simp append-assoc
+
+pub patch-append-right : (xs ys : List ℕ) (o : ℕ) (bs : List ℕ) → patch (xs ++ ys) (length xs + o) bs ≡ xs ++ patch ys o bs
+unfolding patch
+patch-append-right xs ys o bs =
+    ap (λ l. l ++ (bs ++ drop (length xs + o + length bs) (xs ++ ys))) (take-append-add xs ys o)
+    ∙ ap (λ l. xs ++ take o ys ++ (bs ++ l)) (ap (λ k. drop k (xs ++ ys)) (add-assoc (length xs) o (length bs)) ∙ drop-append-add xs ys (o + length bs))
+    ∙ append-assoc xs (take o ys) (bs ++ drop (o + length bs) ys)
+
+-- a list as what stands before a part, the part, and what stands after it
+around : (s : List ℕ) (a n : ℕ) → take a s ++ (part s a n ++ drop (a + n) s) ≡ s
+unfolding part
+around s a n =
+    ap (λ l. take a s ++ (take n (drop a s) ++ l)) (sym (drop-drop n a s))
+    ∙ ap (λ l. take a s ++ l) (take-append-drop n (drop a s))
+    ∙ take-append-drop a s
+
+-- a patch inside a part that is put back
+pub patch-patch-part : (s : List ℕ) (a n o : ℕ) (bs : List ℕ) → o + length bs ≤ n → a + n ≤ length s → patch s a (patch (part s a n) o bs) ≡ patch s (a + o) bs
+unfolding patch
+patch-patch-part s a n o bs g h =
+    let p : List ℕ = part s a n in
+    let e : length p ≡ n = length-part s a n h in
+    let i : o + length bs ≤ length p = omega arith in
+    ap (λ k. take a s ++ (patch p o bs ++ drop (a + k) s)) (length-patch p o bs i ∙ e)
+    ∙ ap (λ l. take a s ++ l) (sym (patch-append-left p (drop (a + n) s) o bs i))
+    ∙ sym (patch-append-right (take a s) (p ++ drop (a + n) s) o bs)
+    ∙ ap (λ k. patch (take a s ++ (p ++ drop (a + n) s)) (k + o) bs) (length-take-le a s (omega arith))
+    ∙ ap (λ l. patch l (a + o) bs) (around s a n)
+
+-- patches of places apart may change their order
+pub patch-patch-apart : (s : List ℕ) (o : ℕ) (xs : List ℕ) (p : ℕ) (ys : List ℕ) → o + length xs ≤ p → p ≤ length s → patch (patch s o xs) p ys ≡ patch (patch s p ys) o xs
+patch-patch-apart s o xs p ys g h =
+    let a : List ℕ = take p s in
+    let e : length a ≡ p = length-take-le p s h in
+    let i : o + length xs ≤ length a = omega arith in
+    let f : length (patch a o xs) ≡ p = length-patch a o xs i ∙ e in
+    ap (λ l. patch (patch l o xs) p ys) (sym (take-append-drop p s))
+    ∙ ap (λ l. patch l p ys) (patch-append-left a (drop p s) o xs i)
+    ∙ patch-append-at (patch a o xs) (drop p s) p ys f
+    ∙ sym (patch-append-left a (patch (drop p s) 0 ys) o xs i)
+    ∙ ap (λ l. patch l o xs) (sym (patch-append-at a (drop p s) p ys e) ∙ ap (λ l. patch l p ys) (take-append-drop p s))
+  where
+    patch-append-at : (l r : List ℕ) (k : ℕ) (bs : List ℕ) → length l ≡ k → patch (l ++ r) k bs ≡ l ++ patch r 0 bs
+    patch-append-at l r k bs q = ap (λ n. patch (l ++ r) n bs) (sym (add-zero (length l) ∙ q)) ∙ patch-append-right l r 0 bs
