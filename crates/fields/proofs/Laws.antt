@@ -3,5 +3,6 @@
 pub mod Parts
 pub mod Digits
 pub mod Places
+pub mod Signs
 pub mod Tests
 pub mod Lent

@@ -1,1 +1,6 @@
-// Numbers in bytes: reading and writing them at a place of a slice.
+// Numbers in bytes: reading and writing them at a place of a slice, and runs of one byte.
+pub mod fill;
+pub mod read;
+mod sign;
+mod widen;
+pub mod write;

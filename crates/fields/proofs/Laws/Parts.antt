@@ -5,8 +5,8 @@ use native.Mathlib.Nat.{add-zero, zero-add, add-assoc, add-sub-of-le, suc-add}
 use native.Mathlib.Numerals.{add-one}
 use native.Mathlib.Omega.{arith}
 use mathlib.Core.List.{List, [], _∷_, _++_, append-assoc, append-nil}
-use lib.ListN.{length, getD, set, take, drop, length-append, length-take, length-drop, take-append-drop}
-use lib.Seq.{length-take-le, take-length, drop-length, take-take, take-add, drop-cons, drop-drop, take-at, drop-at, take-append-le, drop-append-le, take-append-add, drop-append-add, getD-take, getD-drop, set-split}
+use lib.ListN.{length, getD, set, take, drop, replicate, length-replicate, replicate-append-replicate, length-append, length-take, length-drop, take-append-drop}
+use lib.Seq.{length-take-le, take-length, drop-length, take-take, take-add, drop-cons, drop-drop, take-at, drop-at, take-append-le, drop-append-le, take-append-add, drop-append-add, getD-take, getD-drop, set-split, sets, sets-eq}
 use Rattle.fields.specs.Bytes.{part, patch}
 
 -- ---- a part
@@ -136,6 +136,11 @@ pub set-patch : (s : List ℕ) (i v : ℕ) → i < length s → set s i v ≡ pa
 unfolding patch
 set-patch s i v h = rw add-one (set-split s i v h)
 
+-- and stores one after the other, as `sets` has them
+pub sets-patch : (s : List ℕ) (o : ℕ) (bs : List ℕ) → o + length bs ≤ length s → sets s o bs ≡ patch s o bs
+unfolding patch
+sets-patch s o bs h = sets-eq bs s o h ∙ append-assoc (take o s) bs (drop (o + length bs) s)
+
 -- adjacent patches join
 pub patch-patch-next : (s : List ℕ) (o : ℕ) (xs ys : List ℕ) (p : ℕ) → o + length xs ≡ p → o ≤ length s → patch (patch s o xs) p ys ≡ patch s o (xs ++ ys)
 unfolding patch
@@ -145,6 +150,16 @@ patch-patch-next s o xs ys p e h =
     ∙ ap (λ l. take o s ++ xs ++ (ys ++ l)) (drop-patch-after s o xs (p + length ys) (omega arith) h ∙ ap (λ k. drop k s) d)
     ∙ append-assoc (take o s) xs (ys ++ drop (o + length (xs ++ ys)) s)
     ∙ ap (λ l. take o s ++ l) (sym (append-assoc xs ys (drop (o + length (xs ++ ys)) s)))
+
+-- a store right after a patch, and after a run of one byte
+pub set-patch-next : (s : List ℕ) (o : ℕ) (bs : List ℕ) (i v : ℕ) → o + length bs ≡ i → i < length s → set (patch s o bs) i v ≡ patch s o (bs ++ (v ∷ []))
+set-patch-next s o bs i v e h =
+    let l : length (patch s o bs) ≡ length s = length-patch s o bs (omega arith) in
+    set-patch (patch s o bs) i v (omega arith) ∙ patch-patch-next s o bs (v ∷ []) i e (omega arith)
+
+pub fill-more : (s : List ℕ) (a i b : ℕ) → a + i < length s → set (patch s a (replicate i b)) (a + i) b ≡ patch s a (replicate (i + 1) b)
+fill-more s a i b h =
+    set-patch-next s a (replicate i b) (a + i) b (ap (λ k. a + k) (length-replicate i b)) h ∙ ap (patch s a) (replicate-append-replicate i 1 b)
 
 -- a patch is gone where a later one covers it
 pub patch-patch-cover : (s : List ℕ) (i : ℕ) (xs : List ℕ) (o : ℕ) (ys : List ℕ)

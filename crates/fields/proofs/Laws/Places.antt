@@ -13,8 +13,8 @@ use mir.Val.{Fits, SFits, bits, toZ, ofZ}
 use mir.ValLaws.{toZ-ofZ, ofZ-toZ, toZ-fits, ofZ-fits}
 use Rattle.fields.specs.Bytes.{part, patch, unused}
 use Rattle.fields.specs.Numbers.{num, digits, u32-at, i32-at, i64-at, u32-bytes, i32-bytes, i64-bytes}
-use Rattle.fields.proofs.Laws.Parts.{length-part, part-first, part-part, part-patch-same, part-patch-before, part-patch-after}
-use Rattle.fields.proofs.Laws.Digits.{Bytes, bytes-part, bytes-digits, length-digits, num-lt, digits-num, num-digits}
+use Rattle.fields.proofs.Laws.Parts.{length-part, part-first, part-add, part-part, part-patch-same, part-patch-before, part-patch-after}
+use Rattle.fields.proofs.Laws.Digits.{Bytes, bytes-part, bytes-digits, length-digits, num-lt, digits-num, num-digits, num-append}
 
 -- A number of `size` bytes: `at` reads it and `bytes` has its bytes. `Fit` says which numbers have that many bytes.
 pub record Field {A : Type 0} (at : List ℕ → ℕ → A) (bytes : A → List ℕ) (size : ℕ) (Fit : A → Type 0) : Type 0 where
@@ -102,8 +102,20 @@ pub i64-unused : i64-bytes (negsuc 0) ≡ unused 8
 unfolding i64-bytes digits unused
 i64-unused = refl
 
--- ---- byte by byte, as the code reads
+-- ---- numbers from their bytes, as the code reads them
 
-pub num-part-first : (s : List ℕ) (o n : ℕ) → o < length s → num (part s o (suc n)) ≡ getD s o 0 + 256 * num (part s (o + 1) n)
-unfolding num
-num-part-first s o n h = ap num (part-first s o n h)
+pub num-part-add : (s : List ℕ) (o n m : ℕ) → o + n ≤ length s → num (part s o (n + m)) ≡ num (part s o n) + 256 ^ n * num (part s (o + n) m)
+num-part-add s o n m h =
+    ap num (part-add s o n m)
+    ∙ num-append (part s o n) (part s (o + n) m)
+    ∙ ap (λ k. num (part s o n) + 256 ^ k * num (part s (o + n) m)) (length-part s o n h)
+
+num-part-one : (s : List ℕ) (o : ℕ) → o < length s → num (part s o 1) ≡ getD s o 0
+unfolding num part
+num-part-one s o h = ap num (part-first s o 0 h) ∙ omega arith
+
+pub num-part-four : (s : List ℕ) (o : ℕ) → o + 4 ≤ length s
+    → num (part s o 4) ≡ getD s o 0 + 256 * getD s (o + 1) 0 + 65536 * getD s (o + 2) 0 + 16777216 * getD s (o + 3) 0
+num-part-four s o h =
+    omega (arith, num-part-add s o 3 1 (omega arith), num-part-add s o 2 1 (omega arith), num-part-add s o 1 1 (omega arith),
+    num-part-one s o (omega arith), num-part-one s (o + 1) (omega arith), num-part-one s (o + 2) (omega arith), num-part-one s (o + 3) (omega arith))
