@@ -1,7 +1,8 @@
 // Reading a number at a place of a slice.
-use super::sign::{signed32, signed64};
-use super::widen::{byte, half};
-
+use super::sign::signed32;
+use super::sign::signed64;
+use super::widen::byte;
+use super::widen::half;
 ghost use mathlib.Core.Path.{_≡_};
 ghost use Prim.Native.Nat.{_+_, _≤_};
 ghost use lib.ListN.{length};

@@ -1,6 +1,6 @@
 // Writing a number at a place of a slice.
-use super::sign::{bits32, bits64};
-
+use super::sign::bits32;
+use super::sign::bits64;
 ghost use mathlib.Core.Path.{_≡_};
 ghost use Prim.Native.Nat.{_+_, _≤_};
 ghost use lib.ListN.{length};

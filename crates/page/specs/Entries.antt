@@ -34,11 +34,11 @@ unfoldable pub end-of : ℕ → List Entry → ℕ → ℕ
 end-of hi es i = getD (map (λ e. e .start) es) (suc i) hi
 
 -- xs in the place of the i-th entry
-unfoldable pub splice : ℕ → List Entry → List Entry → List Entry
+unfoldable pub splice : {A : Type 0} → ℕ → List A → List A → List A
 splice i xs es = take i es ++ (xs ++ drop (suc i) es)
 
 -- e as the i-th entry, those from there on behind it
-unfoldable pub inserted : ℕ → Entry → List Entry → List Entry
+unfoldable pub inserted : {A : Type 0} → ℕ → A → List A → List A
 inserted i e es = take i es ++ (e ∷ drop i es)
 
 -- "combined into its page's entries"

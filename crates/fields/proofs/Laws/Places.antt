@@ -117,5 +117,13 @@ num-part-one s o h = ap num (part-first s o 0 h) ∙ omega arith
 pub num-part-four : (s : List ℕ) (o : ℕ) → o + 4 ≤ length s
     → num (part s o 4) ≡ getD s o 0 + 256 * getD s (o + 1) 0 + 65536 * getD s (o + 2) 0 + 16777216 * getD s (o + 3) 0
 num-part-four s o h =
-    omega (arith, num-part-add s o 3 1 (omega arith), num-part-add s o 2 1 (omega arith), num-part-add s o 1 1 (omega arith),
-    num-part-one s o (omega arith), num-part-one s (o + 1) (omega arith), num-part-one s (o + 2) (omega arith), num-part-one s (o + 3) (omega arith))
+    omega (
+      arith,
+      num-part-add s o 3 1 (omega arith),
+      num-part-add s o 2 1 (omega arith),
+      num-part-add s o 1 1 (omega arith),
+      num-part-one s o (omega arith),
+      num-part-one s (o + 1) (omega arith),
+      num-part-one s (o + 2) (omega arith),
+      num-part-one s (o + 3) (omega arith),
+    )

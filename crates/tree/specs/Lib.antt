@@ -1,0 +1,6 @@
+pub mod Tree
+pub mod Supply
+pub mod Cut
+pub mod Spread
+pub mod Heal
+pub mod Shape

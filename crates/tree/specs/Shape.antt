@@ -1,0 +1,24 @@
+-- What is kept of a tree by every change: consecutive spans, and how many entries a page has. Assumes nothing.
+use Prim.Native.Nat.{ℕ, zero, suc, _≤_, _<_}
+use mathlib.Core.Path.{_≡_}
+use mathlib.Core.List.{List, [], _∷_}
+use lib.ListN.{length}
+use Rattle.rule.specs.Time.{END}
+use Rattle.page.specs.Layout.{capacity}
+use Rattle.tree.specs.Tree.{Ent, Kid, Ents, Tree}
+
+-- Entries that follow each other from lo to hi with no gap, each of which is Q from its start to its end.
+pub data Seg {A : Type 0} (Q : ℕ → ℕ → Ent A → Type 0) : ℕ → ℕ → List (Ent A) → Type 0 where
+  done : {hi : ℕ} → Seg Q hi hi []
+  more : {lo mid hi : ℕ} {x : Ent A} {es : List (Ent A)}
+      → x .entry .start ≡ lo → lo < mid → Q lo mid x → Seg Q mid hi es → Seg Q lo hi (x ∷ es)
+
+-- how many entries a page other than the root has
+pub record Filled (half : ℕ) {A : Type 0} (es : List A) : Type 0 where
+  pub least : half ≤ length es
+  pub most : length es ≤ capacity half
+
+-- An entry of a page of level l from lo to hi: a leaf's is B, an inner one leads to a filled page over the same span.
+unfoldable pub Shaped : ℕ → (ℕ → ℕ → Ent (Kid 0) → Type 0) → (l : ℕ) → ℕ → ℕ → Ent (Kid l) → Type 0
+Shaped half B zero lo hi x = B lo hi x
+Shaped half B (suc l) lo hi x = Filled half (x .kid) × Seg (λ a b y. Shaped half B l a b y) lo hi (x .kid)
