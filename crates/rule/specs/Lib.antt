@@ -1,3 +1,4 @@
 pub mod Time
 pub mod Pairs
 pub mod Averages
+pub mod Bounds

@@ -1,6 +1,10 @@
 // Pairs of a sum and a count, the combining rule of each kind, and the average.
 // Document 01, "Time and value".
 
+pub mod averages;
+pub mod combine;
+pub mod time;
+
 // What an index answers at an instant, and what a tree entry holds.
 pub struct Pair {
     pub sum: i64,

@@ -1,0 +1,6 @@
+-- The laws that the crates above cite, by what they speak of.
+pub mod Tests
+pub mod Signed
+pub mod Order
+pub mod Laws
+pub mod Rounding

@@ -1,0 +1,84 @@
+-- Signed numbers: the absolute value of each operation's result, and from it that the result fits its width. Assumes nothing.
+use Prim.Native.Nat.{ℕ, zero, suc, _+_, _-_, _*_, _/_, _≤_, _<_, _^_}
+use mathlib.Core.Path.{_≡_, refl, sym, ap, _∙_}
+use mathlib.Core.Logic.{_↔_}
+use mathlib.Core.Bool.{Bool, true, false, cond, _&&_, and-true, false≢true}
+use native.Mathlib.Nat.{le-refl, zero-div, div-le-self, lt-of-le-of-lt}
+use native.Mathlib.Omega.{arith}
+use lib.Dec.{leb, ltb, eqb, leb·suc-suc}
+use lib.IntN.{ℤ, pos, negsuc, negℤ, _+ℤ_, _-ℤ_, _*ℤ_, natAbs, subℕ, pos-ne-negsuc}
+use lib.Signed.{mag, quotZ, leZ}
+use borrow.Author.Tests.{eqb-true, eq-eqb, ltb-true}
+use mir.Syntax.{Width}
+use mir.Val.{SFits, hbits, ofZ, toZ}
+use mir.ValLaws.{toZ-ofZ}
+use Rattle.rule.specs.Pairs.{same-number}
+use Rattle.rule.proofs.Tests.{one-test}
+
+-- ---- what fits a width
+
+mag-natAbs : (z : ℤ) → mag z ≤ natAbs z
+mag-natAbs (pos n) = le-refl n
+mag-natAbs (negsuc n) = omega arith
+
+-- a number whose absolute value is below half the width's power fits
+pub sfits-natAbs : (w : Width) {z : ℤ} → natAbs z < 2 ^ hbits w → SFits w z
+sfits-natAbs w {z} h = record { sfits = lt-of-le-of-lt (mag-natAbs z) h }
+
+-- ---- absolute values
+
+pub natAbs-neg : (z : ℤ) → natAbs (negℤ z) ≡ natAbs z
+natAbs-neg (pos zero) = refl
+natAbs-neg (pos (suc n)) = refl
+natAbs-neg (negsuc n) = refl
+
+natAbs-sub : (a b : ℕ) → natAbs (subℕ a b) ≤ a + b
+natAbs-sub a b = go (ltb a b) refl
+  where
+    go : (t : Bool) → ltb a b ≡ t → natAbs (cond t (negsuc (b - suc a)) (pos (a - b))) ≤ a + b
+    go true e = let h : a < b = ltb-true a b e in omega arith
+    go false e = omega arith
+
+pub natAbs-add : (a b : ℤ) → natAbs (a +ℤ b) ≤ natAbs a + natAbs b
+natAbs-add (pos a) (pos b) = le-refl (a + b)
+natAbs-add (pos a) (negsuc b) = natAbs-sub a (suc b)
+natAbs-add (negsuc a) (pos b) = omega (arith, natAbs-sub b (suc a))
+natAbs-add (negsuc a) (negsuc b) = omega arith
+
+pub natAbs-mul : (a b : ℤ) → natAbs (a *ℤ b) ≡ natAbs a * natAbs b
+natAbs-mul (pos a) (pos b) = refl
+natAbs-mul (pos a) (negsuc b) = natAbs-neg (pos (a * suc b))
+natAbs-mul (negsuc a) (pos b) = natAbs-neg (pos (suc a * b))
+natAbs-mul (negsuc a) (negsuc b) = refl
+
+pub natAbs-quot : (a b : ℤ) → natAbs (quotZ a b) ≡ natAbs a / natAbs b
+natAbs-quot (pos a) (pos b) = refl
+natAbs-quot (pos a) (negsuc b) = natAbs-neg (pos (a / suc b))
+natAbs-quot (negsuc a) (pos b) = natAbs-neg (pos (suc a / b))
+natAbs-quot (negsuc a) (negsuc b) = refl
+
+-- division cuts towards zero: the sign of what is divided passes to the quotient
+pub quot-neg : (a b : ℕ) → quotZ (negℤ (pos a)) (pos b) ≡ negℤ (pos (a / b))
+quot-neg zero b = rw (zero-div b)
+quot-neg (suc a) b = refl
+
+-- from −m to m is an absolute value of at most m
+pub within : (k : ℕ) (z : ℤ) → leZ (negsuc k) z && leZ z (pos (suc k)) ≡ leb (natAbs z) (suc k)
+within k (pos n) = refl
+within k (negsuc n) = and-true (leb n k) ∙ sym (leb·suc-suc n k)
+
+-- ---- equal numbers
+
+pub same-number-is : (a b : ℤ) → (same-number a b ≡ true) ↔ (a ≡ b)
+unfolding same-number
+same-number-is (pos a) (pos b) = (λ e. ap pos (eqb-true a b e), λ e. eq-eqb a b (ap natAbs e))
+same-number-is (pos a) (negsuc b) = (λ e. absurd (false≢true e), λ e. absurd (pos-ne-negsuc a b e))
+same-number-is (negsuc a) (pos b) = (λ e. absurd (false≢true e), λ e. absurd (pos-ne-negsuc b a (sym e)))
+same-number-is (negsuc a) (negsuc b) = (λ e. ap negsuc (eqb-true a b e), λ e. eq-eqb a b (ap mag e))
+
+-- the machine compares bits
+pub same-bits : (w : Width) {a b : ℤ} → SFits w a → SFits w b → eqb (ofZ w a) (ofZ w b) ≡ same-number a b
+same-bits w {a} {b} fa fb = one-test (eqb (ofZ w a) (ofZ w b)) (same-number a b) (back, λ e. eq-eqb _ _ (ap (ofZ w) e)) (same-number-is a b)
+  where
+    back : eqb (ofZ w a) (ofZ w b) ≡ true → a ≡ b
+    back e = sym (toZ-ofZ w a fa) ∙ ap (toZ w) (eqb-true _ _ e) ∙ toZ-ofZ w b fb

@@ -1,0 +1,37 @@
+// Instants, values, kinds and windows. Document 01, "Time and value".
+
+ghost use mathlib.Core.Path.{_≡_};
+ghost use Rattle.rule.specs.Time.{value-ok, kind-ok, window-ok, lengthened};
+
+// Whether a number is a value.
+pub fn in_range(v: i64) -> bool
+    ensures { λ r. ⌜ r ≡ value-ok v ⌝ }
+{
+    (-1000000 <= v) & (v <= 1000000)
+}
+
+// Whether a number names a kind.
+pub fn kind_ok(kind: u32) -> bool
+    ensures { λ r. ⌜ r ≡ kind-ok kind ⌝ }
+{
+    (1 <= kind) & (kind <= 3)
+}
+
+// Whether a number is a window's length.
+pub fn window_ok(w: u32) -> bool
+    ensures { λ r. ⌜ r ≡ window-ok w ⌝ }
+{
+    w <= 1000000000
+}
+
+// Where the effect of a booking up to e ends: the sum may pass 32 bits, so it is taken in 64.
+pub fn lengthened(e: u32, w: u32) -> u32
+    ensures { λ r. ⌜ r ≡ lengthened e w ⌝ }
+{
+    let sum = e as u64 + w as u64;
+    if sum < 4294967295 {
+        sum as u32
+    } else {
+        4294967295
+    }
+}
