@@ -4,3 +4,4 @@ pub mod Signed
 pub mod Order
 pub mod Laws
 pub mod Rounding
+pub mod Window

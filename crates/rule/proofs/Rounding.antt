@@ -3,18 +3,18 @@ use Prim.Native.Nat.{ℕ, suc, _+_, _*_, _/_, _≤_, _<_}
 use mathlib.Core.Path.{_≡_, refl, sym, ap, _∙_}
 use native.Mathlib.Nat.{div-mul-le-self, div-le-self, lt-div-mul-add, div-eq-of-lt-le, mul-assoc, mul-left-comm, add-mul, one-mul, not-suc-le-zero}
 use native.Mathlib.Omega.{arith}
-use mathlib.Core.Bool.{Bool, true, false, not, _&&_, _||_, true≢false}
-use lib.Dec.{eqb, leb}
+use mathlib.Core.Bool.{Bool, true, false, not, _||_, true≢false}
+use lib.Dec.{eqb}
 use lib.IntN.{ℤ, pos, negsuc, negℤ, natAbs, _+ℤ_, _-ℤ_, _*ℤ_, negℤ-+ℤ}
 use lib.Signed.{quotZ, leZ, ltZ, natAbs-le}
-use borrow.Author.Tests.{ltb-true, leb-true, leb-false, lt-ltb, le-ltb}
+use borrow.Author.Tests.{ltb-true, leb-false, lt-ltb, le-ltb}
 use mir.Syntax.{w32, w64}
 use mir.Val.{SFits, ofZ}
 use Rattle.rule.specs.declared.Pair.{Pair}
 use Rattle.rule.specs.declared.Average.the-variants.{Hundredths, Nothing, Beyond}
 use Rattle.rule.specs.Averages.{nearest, Nearest, hundredths, signed-as, most-sum, average}
 use Rattle.rule.specs.Bounds.{Averageable}
-use Rattle.rule.proofs.Signed.{sfits-natAbs, natAbs-neg, natAbs-add, natAbs-mul, natAbs-quot, quot-neg, within}
+use Rattle.rule.proofs.Signed.{sfits-natAbs, natAbs-neg, natAbs-add, natAbs-mul, natAbs-quot, quot-neg}
 
 -- the products of the definition and of the two bounds, as multiples of k * d
 abbrev Products : ℕ → ℕ → Type 0
@@ -95,16 +95,11 @@ steps sum count ok =
       done = rw (d .0) (hundredths-by sum (natAbs count));
     }
 
--- ---- the ways out of the code, over the two tests that it makes
+-- ---- the ways out of the code, over the tests that it makes
 
+-- kind 2 or 3, or a count of zero or below
 abbrev pub no-average : ℕ → Pair → Bool
 no-average kind p = not (eqb kind 1) || leZ (p .count) (pos 0)
-
-abbrev pub shown : Pair → Bool
-shown p = leZ (negsuc 999999999999999) (p .sum) && leZ (p .sum) (pos most-sum)
-
-shown-is : (p : Pair) (b : Bool) → shown p ≡ b → leb (natAbs (p .sum)) most-sum ≡ b
-shown-is p b e = sym (within 999999999999999 (p .sum)) ∙ e
 
 right-fails : (a b : Bool) → a || b ≡ false → b ≡ false
 right-fails true b e = absurd (true≢false e)
@@ -115,18 +110,18 @@ module _ (kind : ℕ) (p : Pair) where
   unfolding average
   average-nothing e = rw e
 
-  pub average-beyond : no-average kind p ≡ false → shown p ≡ false → Beyond ≡ average kind p
+  pub average-beyond : no-average kind p ≡ false → most-sum < natAbs (p .sum) → Beyond ≡ average kind p
   unfolding average
-  average-beyond e f = rw (e, lt-ltb most-sum (natAbs (p .sum)) (leb-false (natAbs (p .sum)) most-sum (shown-is p false f)))
+  average-beyond e h = rw (e, lt-ltb most-sum (natAbs (p .sum)) h)
 
-  pub average-shown : no-average kind p ≡ false → shown p ≡ true → Hundredths (hundredths (p .sum) (natAbs (p .count))) ≡ average kind p
+  pub average-shown : no-average kind p ≡ false → natAbs (p .sum) ≤ most-sum → Hundredths (hundredths (p .sum) (natAbs (p .count))) ≡ average kind p
   unfolding average
-  average-shown e f = rw (e, le-ltb most-sum (natAbs (p .sum)) (leb-true (natAbs (p .sum)) most-sum (shown-is p true f)))
+  average-shown e h = rw (e, le-ltb most-sum (natAbs (p .sum)) h)
 
-  pub averageable : no-average kind p ≡ false → shown p ≡ true → SFits w32 (p .count) → Averageable (p .sum) (p .count)
-  averageable e f fits =
+  pub averageable : no-average kind p ≡ false → natAbs (p .sum) ≤ most-sum → SFits w32 (p .count) → Averageable (p .sum) (p .count)
+  averageable e h fits =
       record {
-        shown = leb-true (natAbs (p .sum)) most-sum (shown-is p true f);
+        shown = h;
         some = right-fails (not (eqb kind 1)) (leZ (p .count) (pos 0)) e;
         narrow = omega (arith, natAbs-le (p .count) (fits .sfits));
       }

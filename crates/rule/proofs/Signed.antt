@@ -1,13 +1,13 @@
 -- Signed numbers: the absolute value of each operation's result, and from it that the result fits its width. Assumes nothing.
 use Prim.Native.Nat.{ℕ, zero, suc, _+_, _-_, _*_, _/_, _≤_, _<_, _^_}
-use mathlib.Core.Path.{_≡_, refl, sym, ap, _∙_}
+use mathlib.Core.Path.{_≡_, refl, sym, ap, _∙_, subst⁻¹}
 use mathlib.Core.Logic.{_↔_}
-use mathlib.Core.Bool.{Bool, true, false, cond, _&&_, and-true, false≢true}
-use native.Mathlib.Nat.{le-refl, zero-div, div-le-self, lt-of-le-of-lt}
+use mathlib.Core.Bool.{Bool, true, false, cond, false≢true, true≢false}
+use native.Mathlib.Nat.{le-refl, zero-div, div-le-self, lt-of-le-of-lt, not-suc-le-zero}
 use native.Mathlib.Omega.{arith}
-use lib.Dec.{leb, ltb, eqb, leb·suc-suc}
-use lib.IntN.{ℤ, pos, negsuc, negℤ, _+ℤ_, _-ℤ_, _*ℤ_, natAbs, subℕ, pos-ne-negsuc}
-use lib.Signed.{mag, quotZ, leZ}
+use lib.Dec.{T, ltb, eqb}
+use lib.IntN.{ℤ, pos, negsuc, negℤ, _+ℤ_, _-ℤ_, _*ℤ_, natAbs, subℕ, pos-ne-negsuc, +ℤ-one, +ℤ-idl}
+use lib.Signed.{mag, quotZ, ltZ, nonNeg}
 use borrow.Author.Tests.{eqb-true, eq-eqb, ltb-true}
 use mir.Syntax.{Width}
 use mir.Val.{SFits, hbits, ofZ, toZ}
@@ -62,10 +62,26 @@ pub quot-neg : (a b : ℕ) → quotZ (negℤ (pos a)) (pos b) ≡ negℤ (pos (a
 quot-neg zero b = rw (zero-div b)
 quot-neg (suc a) b = refl
 
--- from −m to m is an absolute value of at most m
-pub within : (k : ℕ) (z : ℤ) → leZ (negsuc k) z && leZ z (pos (suc k)) ≡ leb (natAbs z) (suc k)
-within k (pos n) = refl
-within k (negsuc n) = and-true (leb n k) ∙ sym (leb·suc-suc n k)
+-- ---- the absolute value by the code's way: one more, the opposite, and one more again
+
+pub not-negative : (z : ℤ) → ltZ z (pos 0) ≡ false → T (nonNeg z)
+not-negative (pos n) e = tt
+not-negative (negsuc n) e = absurd (true≢false e)
+
+pub record Towards (z : ℤ) : Type 0 where
+  pub opposite : pos 0 -ℤ (z +ℤ pos 1) ≡ pos (natAbs (z +ℤ pos 1))
+  pub less : natAbs (z +ℤ pos 1) + 1 ≡ natAbs z
+
+-- a negative number's next is nearer to zero
+pub towards : (z : ℤ) → ltZ z (pos 0) ≡ true → Towards z
+towards (pos n) e = absurd (not-suc-le-zero (ltb-true n 0 e))
+towards (negsuc zero) e = record { opposite = refl; less = refl }
+towards (negsuc (suc n)) e =
+    let next = +ℤ-one (negsuc (suc n)) in
+    record {
+      opposite = subst⁻¹ (λ (y : ℤ). pos 0 -ℤ y ≡ pos (natAbs y)) next (+ℤ-idl (pos (suc n)));
+      less = subst⁻¹ (λ (y : ℤ). natAbs y + 1 ≡ suc (suc n)) next (omega arith);
+    }
 
 -- ---- equal numbers
 

@@ -35,3 +35,11 @@ lengthened e w = min (e + w) END
 -- the span [s, e) has the instant t
 unfoldable pub covers : ℕ → ℕ → ℕ → Bool
 covers s e t = leb s t && ltb t e
+
+-- "A booking counts at instant t if [s, e) overlaps [t−w, t]": both have the instant `at`
+pub record Counts (s e w t : ℕ) : Type 0 where
+  pub at : ℕ
+  pub begun : s ≤ at
+  pub live : at < e
+  pub past : at ≤ t
+  pub recent : t ≤ at + w

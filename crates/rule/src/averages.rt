@@ -1,6 +1,7 @@
 // The average, document 01, "Time and value": for kind 1, in hundredths, halves away from zero.
 use crate::Average;
 use crate::Pair;
+use crate::numbers::magnitude;
 ghost use mathlib.Core.Path.{_≡_};
 ghost use lib.IntN.{natAbs};
 ghost use Rattle.rule.specs.Averages.{signed-as, hundredths, average};
@@ -31,7 +32,7 @@ pub fn average(kind: u32, pair: Pair) -> Average
     if (kind != 1) | (count <= 0) {
         return Average::Nothing;
     }
-    if (-1000000000000000 <= sum) & (sum <= 1000000000000000) {
+    if magnitude(sum) <= 1000000000000000 {
         return Average::Hundredths(rounded(sum, count as i64));
     }
     Average::Beyond

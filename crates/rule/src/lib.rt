@@ -3,6 +3,7 @@
 
 pub mod averages;
 pub mod combine;
+pub mod numbers;
 pub mod time;
 
 // What an index answers at an instant, and what a tree entry holds.

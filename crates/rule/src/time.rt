@@ -1,5 +1,5 @@
 // Instants, values, kinds and windows. Document 01, "Time and value".
-
+use crate::numbers::magnitude;
 ghost use mathlib.Core.Path.{_≡_};
 ghost use Rattle.rule.specs.Time.{value-ok, kind-ok, window-ok, lengthened};
 
@@ -7,7 +7,7 @@ ghost use Rattle.rule.specs.Time.{value-ok, kind-ok, window-ok, lengthen
 pub fn in_range(v: i64) -> bool
     ensures { λ r. ⌜ r ≡ value-ok v ⌝ }
 {
-    (-1000000 <= v) & (v <= 1000000)
+    magnitude(v) <= 1000000
 }
 
 // Whether a number names a kind.
