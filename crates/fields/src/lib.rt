@@ -2,5 +2,4 @@
 pub mod fill;
 pub mod read;
 mod sign;
-mod widen;
 pub mod write;

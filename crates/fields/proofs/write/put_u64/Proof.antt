@@ -1,3 +1,4 @@
+-- `fields::write::put_u64` meets its contract: eight bytes are four and four. Assumes nothing.
 use mathlib.Core.Path.{sym, ap, _∙_}
 use mathlib.Core.List.{_++_}
 use Prim.Native.Nat.{_+_, _/_, _%_}
@@ -9,35 +10,7 @@ use Rattle.fields.proofs.Laws.Parts.{patch-patch-next}
 use Rattle.fields.proofs.Laws.Digits.{length-digits, digits-mod, digits-add}
 use Rattle.fields.proofs.write.put_u64.Statement.{statement}
 use Rattle.fields.proofs.write.put_u64.Tie as tie
-use Rattle.fields.proofs.write.put_u64.Reads as reads
-use Rattle.fields.proofs.write.put_u64.Lts as lts
-use Rattle.fields.proofs.write.put_u32.Reads as put-u32-reads
 
--- src/write.rt:24:19
-cast-put-u32 : tie.Need-cast-put-u32
-cast-put-u32 c = search needs
-
--- src/write.rt:24:5
-put-u32-requires : tie.Need-put-u32-requires
-put-u32-requires c κs = search needs
-
--- src/write.rt:25:16
-add-put-u32 : tie.Need-add-put-u32
-add-put-u32 c = search needs
-
--- src/write.rt:25:23
-cast-put-u32-2 : tie.Need-cast-put-u32-2
-cast-put-u32-2 c = search needs
-
--- src/write.rt:25:5
-put-u32-requires-2 : tie.Need-put-u32-requires-2
-put-u32-requires-2 c κs = search needs
-
--- src/write.rt:20:1
-same-length : tie.Need-same-length
-same-length c = search needs
-
--- src/write.rt:20:1
 returns : tie.Need-returns
 unfolding u32-bytes
 returns c =
@@ -52,13 +25,4 @@ returns c =
     ∙ ap (patch s o) (sym (digits-add 4 4 v))
 
 pub put-u64-spec : {M : Type 1} → statement M
-put-u64-spec =
-    tie.close
-    (tie.spec
-    cast-put-u32
-    put-u32-requires
-    add-put-u32
-    cast-put-u32-2
-    put-u32-requires-2
-    same-length
-    returns)
+put-u64-spec = tie.close (tie.spec (λ c. search needs) (λ c κs. search needs) (λ c. search needs) (λ c. search needs) (λ c κs. search needs) (λ c. search needs) returns)
