@@ -4,3 +4,4 @@ pub mod Cut
 pub mod Spread
 pub mod Heal
 pub mod Shape
+pub mod Held

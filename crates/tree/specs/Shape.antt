@@ -1,6 +1,7 @@
 -- What is kept of a tree by every change: consecutive spans, and how many entries a page has. Assumes nothing.
 use Prim.Native.Nat.{ℕ, zero, suc, _≤_, _<_}
 use mathlib.Core.Path.{_≡_}
+use mathlib.Core.Logic.{_⊎_}
 use mathlib.Core.List.{List, [], _∷_}
 use lib.ListN.{length}
 use Rattle.rule.specs.Time.{END}
@@ -22,3 +23,22 @@ pub record Filled (half : ℕ) {A : Type 0} (es : List A) : Type 0 where
 unfoldable pub Shaped : ℕ → (ℕ → ℕ → Ent (Kid 0) → Type 0) → (l : ℕ) → ℕ → ℕ → Ent (Kid l) → Type 0
 Shaped half B zero lo hi x = B lo hi x
 Shaped half B (suc l) lo hi x = Filled half (x .kid) × Seg (λ a b y. Shaped half B l a b y) lo hi (x .kid)
+
+-- What is asked of a leaf entry by itself: its child is 0.
+abbrev pub Leaf : ℕ → ℕ → Ent (Kid 0) → Type 0
+Leaf lo hi x = x .entry .child ≡ 0
+
+-- what is asked of it besides, where t is cut: it ends at t or before, or starts there or later
+abbrev pub Apart : ℕ → ℕ → ℕ → Type 0
+Apart t lo hi = (hi ≤ t) ⊎ (t ≤ lo)
+
+-- how many entries a root has: a leaf one at the least, an inner one two
+unfoldable pub root-least : ℕ → ℕ
+root-least zero = 1
+root-least (suc l) = 2
+
+-- A tree as every sound image has it, over a leaf predicate B.
+pub record Formed (half : ℕ) (B : ℕ → ℕ → Ent (Kid 0) → Type 0) (T : Tree) : Type 0 where
+  pub least : root-least (T .level) ≤ length (T .ents)
+  pub most : length (T .ents) ≤ capacity half
+  pub spans : Seg (λ lo hi x. Shaped half B (T .level) lo hi x) 0 END (T .ents)
