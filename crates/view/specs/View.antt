@@ -1,0 +1,35 @@
+-- Which tree and which supply of pages an image shows. A means of proof: it carries what is proved of trees over to images.
+-- Assumes nothing.
+use Prim.Native.Nat.{ℕ, zero, suc, _≤_, _<_}
+use mathlib.Core.Path.{_≡_}
+use mathlib.Core.List.{List, [], _∷_}
+use lib.ListN.{length}
+use Rattle.image.specs.Images.{Image, Cell, tree, free, never-used}
+use Rattle.tree.specs.Tree.{Ent, Kid, Ents, bare, Tree}
+use Rattle.tree.specs.Cut.{State, root-ent}
+use Rattle.tree.specs.Held.{All, held}
+
+-- the pages hold what is below an entry of a page of level l
+unfoldable pub Shows : (l : ℕ) → (ℕ → Cell) → Ent (Kid l) → Type 0
+Shows zero pages x = Unit {0}
+Shows (suc l) pages x =
+    (pages (x .entry .child) ≡ tree l (bare (x .kid))) × All (λ y. Shows l pages y) (x .kid)
+
+-- free pages that lead from one to the next, from page p on
+pub data Linked (pages : ℕ → Cell) : ℕ → List ℕ → Type 0 where
+  ends : Linked pages 0 []
+  leads : {p next : ℕ} {ps : List ℕ} → pages p ≡ free next → Linked pages next ps → Linked pages p (p ∷ ps)
+
+-- An image shows a tree and a supply.
+pub record Shown (X : Image) (Y : State) : Type 0 where
+  pub height : X .head .height ≡ suc (Y .tree .level)
+  pub root : X .head .root ≡ Y .tree .root
+  pub below : Shows (suc (Y .tree .level)) (X .page) (root-ent (Y .tree))
+  pub length-true : X .head .chain ≡ length (Y .supply .chain)
+  pub linked : Linked (X .page) (X .head .free) (Y .supply .chain)
+  pub mark : X .head .mark ≡ Y .supply .mark
+  pub unused : (p : ℕ) → X .head .mark ≤ p → p < X .head .pages → X .page p ≡ never-used
+
+-- no page is held twice
+unfoldable pub Once : State → Type 0
+Once Y = (p : ℕ) → held p Y ≤ 1

@@ -1,0 +1,1 @@
+// Which tree an image shows: a means of proof. Its definitions stand in specs/.
