@@ -44,8 +44,8 @@ cut-ent half t zero x S = record { became = cut-leaf t x; supply = S }
 cut-ent half t (suc l) x S =
     let i = place t (bare (x .kid)) in
     let r = cut-ent half t l (getD (x .kid) i (no-ent l)) S in
-    cond (eqb (length (r .became)) 1) (record { became = x ∷ []; supply = r .supply })
-    (settled half x (splice i (r .became) (x .kid)) (r .supply))
+    let es = splice i (r .became) (x .kid) in
+    cond (eqb (length (r .became)) 1) (kept x es (r .supply)) (settled half x es (r .supply))
 
 -- a tree with its supply
 pub record State : Type 0 where
