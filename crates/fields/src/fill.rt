@@ -23,9 +23,9 @@ pub fn fill(s: &mut [u8], a: usize, n: usize, b: u8)
     requires { ⌜ a + n ≤ length (now s) ⌝ }
     ensures { λ _. ⌜ now (s .exit) ≡ patch (now (s .entry)) a (replicate n b) ⌝ }
 {
-    let mut i = 0;
-    while i < n {
-        s[a + i] = b;
-        i += 1;
+    let mut k = 0;
+    while k < n {
+        s[a + k] = b;
+        k += 1;
     }
 }

@@ -1,7 +1,7 @@
 -- The laws of `part` and `patch`: what is read after something was written, parts of parts, and writes that meet. Assumes nothing.
 use mathlib.Core.Path.{_≡_, refl, sym, ap, _∙_}
 use Prim.Native.Nat.{ℕ, zero, suc, _+_, _-_, _≤_, _<_}
-use native.Mathlib.Nat.{add-zero, zero-add, add-assoc, add-sub-of-le, suc-add}
+use native.Mathlib.Nat.{add-zero, zero-add, add-assoc, add-sub-of-le}
 use native.Mathlib.Numerals.{add-one}
 use native.Mathlib.Omega.{arith}
 use mathlib.Core.List.{List, [], _∷_, _++_, append-assoc, append-nil}
@@ -64,6 +64,14 @@ pub part-middle : (xs ys zs : List ℕ) (o n : ℕ) → length xs ≡ o → leng
 unfolding part
 part-middle xs ys zs o n e f = ap (take n) (drop-at xs (ys ++ zs) o e) ∙ take-at ys zs n f
 
+-- a list as what stands before a part, the part, and what stands after it
+around : (s : List ℕ) (a n : ℕ) → take a s ++ (part s a n ++ drop (a + n) s) ≡ s
+unfolding part
+around s a n =
+    ap (λ l. take a s ++ (take n (drop a s) ++ l)) (sym (drop-drop n a s))
+    ∙ ap (λ l. take a s ++ l) (take-append-drop n (drop a s))
+    ∙ take-append-drop a s
+
 -- ---- a patch
 
 pub length-patch : (s : List ℕ) (o : ℕ) (bs : List ℕ) → o + length bs ≤ length s → length (patch s o bs) ≡ length s
@@ -94,7 +102,7 @@ drop-patch-after s o bs i g h =
     ∙ drop-drop (i - n) n s
     ∙ ap (λ k. drop k s) e
 
--- what a patch wrote stands at its place, and other parts are as they were
+-- what a patch wrote stands at its place; parts before it and after it are as they were; a part inside it is a part of what was written
 pub part-patch-same : (s : List ℕ) (o : ℕ) (bs : List ℕ) (n : ℕ) → length bs ≡ n → o ≤ length s → part (patch s o bs) o n ≡ bs
 unfolding patch
 part-patch-same s o bs n e h = part-middle (take o s) bs (drop (o + length bs) s) o n (length-take-le o s h) e
@@ -110,6 +118,9 @@ pub part-patch-after : (s : List ℕ) (o : ℕ) (bs : List ℕ) (i n : ℕ) → 
 unfolding part
 part-patch-after s o bs i n g h = ap (take n) (drop-patch-after s o bs i g h)
 
+pub part-patch-inside : (s : List ℕ) (o : ℕ) (bs : List ℕ) (i n : ℕ) → i + n ≤ length bs → o ≤ length s → part (patch s o bs) (o + i) n ≡ part bs i n
+part-patch-inside s o bs i n g h = sym (part-part (patch s o bs) o (length bs) i n g) ∙ ap (λ l. part l i n) (part-patch-same s o bs (length bs) refl h)
+
 -- writing nothing, a part back, the whole list
 pub patch-none : (s : List ℕ) (o : ℕ) → patch s o [] ≡ s
 unfolding patch
@@ -123,9 +134,7 @@ drop-taken (suc n) (x ∷ l) = drop-taken n l
 pub patch-part : (s : List ℕ) (a n : ℕ) → patch s a (part s a n) ≡ s
 unfolding part patch
 patch-part s a n =
-    ap (λ l. take a s ++ (take n (drop a s) ++ l)) (sym (drop-drop (length (take n (drop a s))) a s) ∙ drop-taken n (drop a s))
-    ∙ ap (λ l. take a s ++ l) (take-append-drop n (drop a s))
-    ∙ take-append-drop a s
+    ap (λ l. take a s ++ (part s a n ++ l)) (sym (drop-drop (length (part s a n)) a s) ∙ drop-taken n (drop a s) ∙ drop-drop n a s) ∙ around s a n
 
 pub patch-whole : (s bs : List ℕ) → length bs ≡ length s → patch s 0 bs ≡ bs
 unfolding patch
@@ -183,14 +192,6 @@ patch-append-right xs ys o bs =
     ap (λ l. l ++ (bs ++ drop (length xs + o + length bs) (xs ++ ys))) (take-append-add xs ys o)
     ∙ ap (λ l. xs ++ take o ys ++ (bs ++ l)) (ap (λ k. drop k (xs ++ ys)) (add-assoc (length xs) o (length bs)) ∙ drop-append-add xs ys (o + length bs))
     ∙ append-assoc xs (take o ys) (bs ++ drop (o + length bs) ys)
-
--- a list as what stands before a part, the part, and what stands after it
-around : (s : List ℕ) (a n : ℕ) → take a s ++ (part s a n ++ drop (a + n) s) ≡ s
-unfolding part
-around s a n =
-    ap (λ l. take a s ++ (take n (drop a s) ++ l)) (sym (drop-drop n a s))
-    ∙ ap (λ l. take a s ++ l) (take-append-drop n (drop a s))
-    ∙ take-append-drop a s
 
 -- a patch inside a part that is put back
 pub patch-patch-part : (s : List ℕ) (a n o : ℕ) (bs : List ℕ) → o + length bs ≤ n → a + n ≤ length s → patch s a (patch (part s a n) o bs) ≡ patch s (a + o) bs

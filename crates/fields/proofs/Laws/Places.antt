@@ -1,19 +1,19 @@
 -- The laws of a number at a place of a list, which the three kinds u32, i32 and i64 share as the record `Field`. So a law above is stated once, for any `Field`.
 -- Assumes nothing.
 use mathlib.Core.Path.{_≡_, refl, sym, ap, _∙_}
-use Prim.Native.Nat.{ℕ, zero, suc, _+_, _*_, _^_, _≤_, _<_}
+use Prim.Native.Nat.{ℕ, _+_, _*_, _^_, _≤_, _<_}
 use native.Mathlib.Nat.{lt-of-lt-of-le, pow-le-pow-right}
 use native.Mathlib.Omega.{arith}
-use mathlib.Core.List.{List, [], _∷_}
-use lib.ListN.{length, getD, take, drop, length-take}
-use lib.IntN.{ℤ, negsuc}
+use mathlib.Core.List.{List, _++_}
+use lib.ListN.{length, getD, length-take}
+use lib.IntN.{negsuc}
 use lib.Dec.{lit<}
 use mir.Syntax.{Width, w32, w64}
 use mir.Val.{Fits, SFits, bits, toZ, ofZ}
 use mir.ValLaws.{toZ-ofZ, ofZ-toZ, toZ-fits, ofZ-fits}
 use Rattle.fields.specs.Bytes.{part, patch, unused}
 use Rattle.fields.specs.Numbers.{num, digits, u32-at, i32-at, i64-at, u32-bytes, i32-bytes, i64-bytes}
-use Rattle.fields.proofs.Laws.Parts.{length-part, part-first, part-add, part-part, part-patch-same, part-patch-before, part-patch-after}
+use Rattle.fields.proofs.Laws.Parts.{length-part, part-first, part-add, part-part, part-append-left, part-append-right, part-patch-same, part-patch-before, part-patch-after, part-patch-inside}
 use Rattle.fields.proofs.Laws.Digits.{Bytes, bytes-part, bytes-digits, length-digits, num-lt, digits-num, num-digits, num-append}
 
 -- A number of `size` bytes: `at` reads it and `bytes` has its bytes. `Fit` says which numbers have that many bytes.
@@ -73,20 +73,29 @@ i64 = signed w64 8 refl
 
 -- ---- the laws of any kind
 
-module _ {A : Type 0} {at : List ℕ → ℕ → A} {bytes : A → List ℕ} {size : ℕ} {Fit : A → Type 0} (F : Field at bytes size Fit) (s : List ℕ) (o : ℕ) where
-  -- what was written is read, and a number at a place apart is as it was
-  pub at-patch-same : (a : A) → o ≤ length s → Fit a → at (patch s o (bytes a)) o ≡ a
-  at-patch-same a h f = F .at-bytes (patch s o (bytes a)) o a (part-patch-same s o (bytes a) size (F .length-bytes a) h) f
+module _ {A : Type 0} {at : List ℕ → ℕ → A} {bytes : A → List ℕ} {size : ℕ} {Fit : A → Type 0} (F : Field at bytes size Fit) where
+  -- after a patch: the number that was written is read, numbers before it and after it are as they were, a number inside it is read from what was written
+  pub at-patch-same : (s : List ℕ) (o : ℕ) (a : A) → o ≤ length s → Fit a → at (patch s o (bytes a)) o ≡ a
+  at-patch-same s o a h f = F .at-bytes (patch s o (bytes a)) o a (part-patch-same s o (bytes a) size (F .length-bytes a) h) f
 
-  pub at-patch-before : (bs : List ℕ) (i : ℕ) → i + size ≤ o → o ≤ length s → at (patch s o bs) i ≡ at s i
-  at-patch-before bs i g h = F .at-part (patch s o bs) i s i (part-patch-before s o bs i size g h)
+  pub at-patch-before : (s : List ℕ) (o : ℕ) (bs : List ℕ) (i : ℕ) → i + size ≤ o → o ≤ length s → at (patch s o bs) i ≡ at s i
+  at-patch-before s o bs i g h = F .at-part (patch s o bs) i s i (part-patch-before s o bs i size g h)
 
-  pub at-patch-after : (bs : List ℕ) (i : ℕ) → o + length bs ≤ i → o ≤ length s → at (patch s o bs) i ≡ at s i
-  at-patch-after bs i g h = F .at-part (patch s o bs) i s i (part-patch-after s o bs i size g h)
+  pub at-patch-after : (s : List ℕ) (o : ℕ) (bs : List ℕ) (i : ℕ) → o + length bs ≤ i → o ≤ length s → at (patch s o bs) i ≡ at s i
+  at-patch-after s o bs i g h = F .at-part (patch s o bs) i s i (part-patch-after s o bs i size g h)
 
-  -- a number in a part
-  pub at-in-part : (n i : ℕ) → i + size ≤ n → at (part s o n) i ≡ at s (o + i)
-  at-in-part n i h = F .at-part (part s o n) i s (o + i) (part-part s o n i size h)
+  pub at-patch-inside : (s : List ℕ) (o : ℕ) (bs : List ℕ) (i : ℕ) → i + size ≤ length bs → o ≤ length s → at (patch s o bs) (o + i) ≡ at bs i
+  at-patch-inside s o bs i g h = F .at-part (patch s o bs) (o + i) bs i (part-patch-inside s o bs i size g h)
+
+  -- in a part and in an append
+  pub at-in-part : (s : List ℕ) (o n i : ℕ) → i + size ≤ n → at (part s o n) i ≡ at s (o + i)
+  at-in-part s o n i h = F .at-part (part s o n) i s (o + i) (part-part s o n i size h)
+
+  pub at-append-left : (xs ys : List ℕ) (i : ℕ) → i + size ≤ length xs → at (xs ++ ys) i ≡ at xs i
+  at-append-left xs ys i h = F .at-part (xs ++ ys) i xs i (part-append-left xs ys i size h)
+
+  pub at-append-right : (xs ys : List ℕ) (i : ℕ) → at (xs ++ ys) (length xs + i) ≡ at ys i
+  at-append-right xs ys i = F .at-part (xs ++ ys) (length xs + i) ys i (part-append-right xs ys i size)
 
 -- ---- unused places: all bytes of 2 ^ 32 - 1 and of -1 are FF
 

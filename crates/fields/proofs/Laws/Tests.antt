@@ -1,6 +1,6 @@
 -- The laws of the tests: `all-are` over a list, `every` over the numbers below n, and of unused bytes. Assumes nothing.
 use mathlib.Core.Path.{_≡_, refl, sym, ap, _∙_}
-use mathlib.Core.Bool.{Bool, true, false, _&&_, and-eq-true-iff, and-true, and-assoc}
+use mathlib.Core.Bool.{Bool, true, _&&_, and-eq-true-iff, and-true, and-assoc}
 use Prim.Native.Nat.{ℕ, zero, suc, _+_, _-_, _≤_, _<_}
 use native.Mathlib.Decide.{decLt}
 use native.Mathlib.Numerals.{add-one}
@@ -45,6 +45,10 @@ all-are-more b s a i h =
     ∙ ap (λ t. all-are b (part s a i) && t) (and-true (eqb (getD s (a + i) 0) b))
 
 -- ---- unused bytes
+
+pub unused-replicate : (n : ℕ) → replicate n 255 ≡ unused n
+unfolding unused
+unused-replicate n = refl
 
 pub length-unused : (n : ℕ) → length (unused n) ≡ n
 unfolding unused

@@ -13,4 +13,8 @@ returns c =
     omega (arith, num-part-add (args .s .now) (args .o) 4 4 (omega arith))
 
 pub get-u64-spec : {M : Type 1} → statement M
-get-u64-spec = tie.close (tie.spec (λ c κs. search needs) (λ c κs. search needs) (λ c. search needs) (λ c κs. search needs) (λ c κs. search needs) (λ c. search needs) (λ c. search needs) returns)
+get-u64-spec =
+    tie.close
+    (tie.spec (λ c κs. search needs) (λ c κs. search needs)
+    (λ c. search needs) (λ c κs. search needs) (λ c κs. search needs)
+    (λ c. search needs) (λ c. search needs) returns)

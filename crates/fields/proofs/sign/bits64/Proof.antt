@@ -1,32 +1,14 @@
--- `fields::sign::bits64` meets its contract: what is cast is below half, the bits themselves or the bits turned. Assumes nothing.
-use Prim.Native.Nat.{_-_, _<_, _^_}
-use native.Mathlib.Omega.{arith}
+-- `fields::sign::bits64` meets its contract. Assumes nothing.
 use mir.Syntax.{w64}
-use mir.Val.{ofZ}
-use Rattle.fields.proofs.Laws.Signs.{half-cast, half-abs, pos-half, neg-half, neg-bits}
+use Rattle.fields.proofs.Laws.Signs.{pos-cast, pos-bits, neg-cast, neg-le, neg-bits}
 use Rattle.fields.proofs.sign.bits64.Statement.{statement}
 use Rattle.fields.proofs.sign.bits64.Tie as tie
 
-turned : (c : tie.Then1) → 18446744073709551615 - ofZ w64 (c .before .args .z) < 2 ^ 63
-turned c = neg-half w64 (c .before .args .z) (c .before .fits .z) (c .if1 .taken)
-
-plain : (c : tie.Else1) → ofZ w64 (c .before .args .z) < 2 ^ 63
-plain c = pos-half w64 (c .before .args .z) (c .before .fits .z) (c .if1 .left)
-
-cast-result : tie.Need-cast-result
-cast-result c = half-cast w64 _ (turned c)
-
-sub-result : tie.Need-sub-result
-sub-result c = rw (half-abs w64 _ (turned c)) (omega arith)
-
-cast-result-2 : tie.Need-cast-result-2
-cast-result-2 c = half-cast w64 _ (plain c)
-
-returns : tie.Need-returns
-returns c = neg-bits w64 (c .before .args .z) (c .before .fits .z) (c .if1 .taken)
-
-returns-2 : tie.Need-returns-2
-returns-2 c = half-abs w64 _ (plain c)
-
 pub bits64-spec : {M : Type 1} → statement M
-bits64-spec = tie.close (tie.spec cast-result sub-result cast-result-2 returns returns-2)
+bits64-spec =
+    tie.close
+    (tie.spec (λ c. neg-cast w64 (c .before .fits .z) (c .if1 .taken))
+    (λ c. neg-le w64 (c .before .fits .z) (c .if1 .taken))
+    (λ c. pos-cast w64 (c .before .fits .z) (c .if1 .left))
+    (λ c. neg-bits w64 (c .before .fits .z) (c .if1 .taken))
+    (λ c. pos-bits w64 (c .before .fits .z) (c .if1 .left)))

@@ -25,4 +25,8 @@ returns c =
     ∙ ap (patch s o) (sym (digits-add 4 4 v))
 
 pub put-u64-spec : {M : Type 1} → statement M
-put-u64-spec = tie.close (tie.spec (λ c. search needs) (λ c κs. search needs) (λ c. search needs) (λ c. search needs) (λ c κs. search needs) (λ c. search needs) returns)
+put-u64-spec =
+    tie.close
+    (tie.spec (λ c. search needs) (λ c κs. search needs)
+    (λ c. search needs) (λ c. search needs) (λ c κs. search needs)
+    (λ c. search needs) returns)
