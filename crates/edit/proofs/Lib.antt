@@ -1,0 +1,5 @@
+pub mod Listed
+pub mod Places
+pub mod Moved
+pub mod Edits
+pub mod Pushed

@@ -1,0 +1,161 @@
+-- The places of a decoded page, and a store of an entry at one of them. Assumes nothing.
+use mathlib.Core.Path.{_≡_, refl, sym, ap, _∙_}
+use mathlib.Core.List.{List, [], _∷_, _++_}
+use Prim.Native.Nat.{ℕ, suc, _≤_, _<_, _^_}
+use native.Mathlib.Omega.{arith}
+use native.Mathlib.Decide.{ℕ-discrete}
+use lib.ListN.{length, getD, take, set, length-set}
+use lib.IntN.{pos}
+use lib.Signed.{mag}
+use mir.Syntax.{w32, w64}
+use mir.Val.{toZ, ofZ}
+use mir.ValLaws.{toZ-ofZ}
+use lib.Seq.{getD-set-same, getD-set-other, set-getD, set-at, ext-getD}
+use Rattle.rule.specs.declared.Pair.{Pair}
+use Rattle.rule.proofs.Laws.{pair-eq}
+use Rattle.page.specs.declared.Entry.{Entry}
+use Rattle.page.specs.declared.Page.{Page}
+use Rattle.page.specs.Entries.{entry, no-entry, at}
+use Rattle.page.specs.Decoded.{shown-at, shown}
+use Rattle.edit.specs.Shows.{firsts}
+use Rattle.edit.proofs.Listed.{listed-more, listed-length, listed-at, listed-take}
+
+module _ (p : Page) where
+  pub firsts-more : (n : ℕ) → firsts (suc n) p ≡ firsts n p ++ (shown-at p n ∷ [])
+  unfolding firsts
+  firsts-more n = listed-more (λ i. shown-at p i) n
+
+  pub firsts-length : (n : ℕ) → length (firsts n p) ≡ n
+  unfolding firsts
+  firsts-length n = listed-length (λ i. shown-at p i) n
+
+  pub firsts-at : (n : ℕ) (d : Entry) (i : ℕ) → i < n → getD (firsts n p) i d ≡ shown-at p i
+  unfolding firsts
+  firsts-at n d i h = listed-at (λ i. shown-at p i) n d i h
+
+  pub firsts-take : (n k : ℕ) → k ≤ n → take k (firsts n p) ≡ firsts k p
+  unfolding firsts
+  firsts-take n k h = listed-take (λ i. shown-at p i) n k no-entry h
+
+  pub shown-firsts : {n : ℕ} → p .number ≡ n → shown p ≡ firsts n p
+  unfolding shown firsts
+  shown-firsts h = ap (λ n. firsts n p) h
+
+  pub shown-length : length (shown p) ≡ p .number
+  shown-length = rw (shown-firsts refl) (firsts-length (p .number))
+
+  pub shown-get : (i : ℕ) → i < p .number → at (shown p) i ≡ shown-at p i
+  shown-get i h = rw (shown-firsts refl) (firsts-at (p .number) no-entry i h)
+
+-- the page said to have n entries
+abbrev pub cut : ℕ → Page → Page
+cut n p =
+    record {
+      level = p .level;
+      number = n;
+      starts = p .starts;
+      sums = p .sums;
+      counts = p .counts;
+      children = p .children;
+    }
+
+pub cut-firsts : (n : ℕ) (p : Page) → shown (cut n p) ≡ firsts n p
+unfolding shown firsts shown-at
+cut-firsts n p = refl
+
+-- A pair whose numbers went through registers, where a signed number is its bits; and an entry with such a pair.
+abbrev pub passed-pair : Pair → Pair
+passed-pair q = record { sum = toZ w64 (ofZ w64 (q .sum)); count = toZ w32 (ofZ w32 (q .count)) }
+
+abbrev pub passed : Entry → Entry
+passed e = entry (e .start) (passed-pair (e .pair)) (e .child)
+
+pub pair-passed : (q : Pair) → mag (q .sum) < 2 ^ 63 → mag (q .count) < 2 ^ 31 → passed-pair q ≡ q
+pair-passed q s n = pair-eq (toZ-ofZ w64 (q .sum) (record { sfits = s })) (toZ-ofZ w32 (q .count) (record { sfits = n }))
+
+pub entry-passed : (e : Entry) → mag (e .pair .sum) < 2 ^ 63 → mag (e .pair .count) < 2 ^ 31 → passed e ≡ e
+entry-passed e s n = ap (λ q. entry (e .start) q (e .child)) (pair-passed (e .pair) s n)
+
+-- each array has its 25 places
+pub record Wide (p : Page) : Type 0 where
+  pub starts : length (p .starts) ≡ 25
+  pub sums : length (p .sums) ≡ 25
+  pub counts : length (p .counts) ≡ 25
+  pub children : length (p .children) ≡ 25
+
+-- e at the i-th place of the four arrays
+abbrev pub stored : ℕ → Entry → Page → Page
+stored i e p =
+    record {
+      level = p .level;
+      number = p .number;
+      starts = set (p .starts) i (e .start);
+      sums = set (p .sums) i (e .pair .sum);
+      counts = set (p .counts) i (e .pair .count);
+      children = set (p .children) i (e .child);
+    }
+
+module _ (i : ℕ) (e : Entry) (p : Page) where
+  pub stored-wide : Wide p → Wide (stored i e p)
+  stored-wide w =
+      record {
+        starts = simp length-set (w .starts);
+        sums = simp length-set (w .sums);
+        counts = simp length-set (w .counts);
+        children = simp length-set (w .children);
+      }
+
+  stored-same : Wide p → i < 25 → shown-at (stored i e p) i ≡ e
+  unfolding shown-at
+  stored-same w h =
+      λ k.
+      entry (there (p .starts) (e .start) 0 (w .starts) k)
+      (record {
+        sum = there (p .sums) (e .pair .sum) (pos 0) (w .sums) k;
+        count = there (p .counts) (e .pair .count) (pos 0) (w .counts) k;
+      })
+      (there (p .children) (e .child) 0 (w .children) k)
+    where
+      there : {A : Type 0} (l : List A) (a d : A) → length l ≡ 25 → getD (set l i a) i d ≡ a
+      there l a d long = getD-set-same l i a d (omega arith)
+
+  stored-other : (k : ℕ) → (k ≡ i → ⊥) → shown-at (stored i e p) k ≡ shown-at p k
+  unfolding shown-at
+  stored-other k h = simp getD-set-other
+
+  -- The one law of a store: of the places as a list it is a store too.
+  pub firsts-stored : Wide p → i < 25 → (n : ℕ) → firsts n (stored i e p) ≡ set (firsts n p) i e
+  firsts-stored w h n =
+      ext-getD no-entry _ _ (firsts-length (stored i e p) n ∙ sym (length-set (firsts n p) i e ∙ firsts-length p n))
+      (λ k below.
+      let inside : k < n = rw (firsts-length (stored i e p) n) at below in
+      firsts-at (stored i e p) n no-entry k inside ∙ go k inside (ℕ-discrete k i))
+    where
+      go : (k : ℕ) → k < n → Dec (k ≡ i) → shown-at (stored i e p) k ≡ getD (set (firsts n p) i e) k no-entry
+      go k inside (yes same) =
+          rw same (stored-same w h ∙ sym (getD-set-same (firsts n p) i e no-entry (rw (firsts-length p n, ← same) inside)))
+      go k inside (no other) =
+          stored-other k other
+          ∙ sym (getD-set-other (firsts n p) i k e no-entry other ∙ firsts-at p n no-entry k inside)
+
+  pub firsts-put : Wide p → i < 25 → firsts (suc i) (stored i e p) ≡ firsts i p ++ (e ∷ [])
+  firsts-put w h =
+      firsts-stored w h (suc i)
+      ∙ rw (firsts-more p i) (set-at (firsts i p) (shown-at p i) [] e i (firsts-length p i))
+
+-- q as the pair of the i-th place
+abbrev pub paired : ℕ → Pair → Page → Page
+paired i q p =
+    record {
+      level = p .level;
+      number = p .number;
+      starts = p .starts;
+      sums = set (p .sums) i (q .sum);
+      counts = set (p .counts) i (q .count);
+      children = p .children;
+    }
+
+-- is a store of the whole entry, of which start and child stand there already
+pub paired-stored : (i : ℕ) (q : Pair) (p : Page) → paired i q p ≡ stored i (entry (shown-at p i .start) q (shown-at p i .child)) p
+unfolding shown-at
+paired-stored i q p = rw (set-getD (p .starts) i 0, set-getD (p .children) i 0)

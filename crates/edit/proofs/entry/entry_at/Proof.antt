@@ -1,0 +1,28 @@
+-- `edit::entry::entry_at` meets its contract: what the four arrays hold at i is the i-th entry. Assumes nothing.
+use mathlib.Core.Path.{sym, _∙_}
+use native.Mathlib.Omega.{arith}
+use Rattle.page.specs.Decoded.{shown-at}
+use Rattle.edit.proofs.Places.{entry-passed, shown-get}
+use Rattle.edit.proofs.entry.entry_at.Statement.{statement}
+use Rattle.edit.proofs.entry.entry_at.Tie as tie
+
+returns : tie.Need-returns
+unfolding shown-at
+returns c =
+    let args = c .before .before .before .before .args in
+    entry-passed (shown-at (args .t1) (args .i)) (omega arith) (omega arith)
+    ∙ sym (shown-get (args .t1) (args .i) (omega arith))
+
+pub entry-at-spec : {M : Type 1} → statement M
+entry-at-spec =
+    tie.close
+    (tie.spec
+    (λ c. omega arith)
+    (λ c. omega arith)
+    (λ c. omega arith)
+    (λ c. omega arith)
+    (λ c. omega arith)
+    (λ c. omega arith)
+    (λ c. omega arith)
+    (λ c. omega arith)
+    returns)

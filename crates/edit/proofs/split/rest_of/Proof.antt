@@ -1,0 +1,14 @@
+-- `edit::split::rest_of` meets its contract: the places from the k-th on, behind none. Assumes nothing.
+use native.Mathlib.Omega.{arith}
+use Rattle.page.specs.Decoded.{shown}
+use Rattle.page.specs.Layout.{listed}
+use Rattle.edit.specs.Shows.{firsts}
+use Rattle.edit.proofs.split.rest_of.Statement.{statement}
+use Rattle.edit.proofs.split.rest_of.Tie as tie
+
+returns : tie.Need-returns
+unfolding shown firsts listed
+returns c = c .joined .ensures
+
+pub rest-of-spec : {M : Type 1} → statement M
+rest-of-spec = tie.close (tie.spec (λ c κs. omega arith) returns)

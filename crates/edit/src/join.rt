@@ -1,0 +1,38 @@
+// The one loop that moves entries: room for an entry, a hole closed, a half split off and two pages joined are all made of it.
+use page::Page;
+ghost use Prim.Native.Nat.{_+_, _≤_};
+ghost use mathlib.Core.List.{_++_};
+ghost use lib.ListN.{drop};
+ghost use Rattle.page.specs.Decoded.{shown};
+ghost use Rattle.edit.specs.Shows.{Shows, firsts};
+
+// The first places of p, `kept` of them, and behind those the places of q from `from` up to `end`.
+// Where p and q are one page, entries move within it: q is read as it was, so none is overwritten before it is moved.
+pub fn joined(p: Page, kept: usize, q: Page, from: usize, end: usize) -> Page
+    requires { ⌜ (from ≤ end) × (end ≤ 25) × (kept + end ≤ from + 25) ⌝ }
+    ensures { λ r. ⌜ Shows (p .level) (firsts kept p ++ drop from (firsts end q)) r ⌝ }
+{
+    let mut r = p;
+    let mut to = kept;
+    let mut i = from;
+    while i < end {
+        let sum = q.sums[i];
+        let count = q.counts[i];
+        r.starts[to] = q.starts[i];
+        r.sums[to] = sum;
+        r.counts[to] = count;
+        r.children[to] = q.children[i];
+        to = to + 1;
+        i = i + 1;
+    }
+    r.number = to;
+    r
+}
+
+// All entries of p, then all of q.
+pub fn append(p: Page, q: Page) -> Page
+    requires { ⌜ p .number + q .number ≤ 25 ⌝ }
+    ensures { λ r. ⌜ Shows (p .level) (shown p ++ shown q) r ⌝ }
+{
+    joined(p, p.number, q, 0, q.number)
+}
