@@ -11,7 +11,7 @@ use mir.Syntax.{w32, w64}
 use mir.Val.{SFits}
 use Rattle.rule.specs.declared.Pair.{Pair}
 use Rattle.rule.specs.Time.{most-value, value-ok}
-use Rattle.rule.specs.Pairs.{none, opposite, same-number, same-pair, added, greater, lesser, better, combine, Lawful, Invertible}
+use Rattle.rule.specs.Pairs.{none, same-number, same-pair, added, greater, lesser, better, combine, Lawful, Invertible}
 use Rattle.rule.specs.Bounds.{Combinable, value-or-none}
 use Rattle.rule.proofs.Tests.{fails, both, either}
 use Rattle.rule.proofs.Signed.{sfits-natAbs, natAbs-add, same-number-is}
@@ -162,18 +162,28 @@ combine-some kind p q k e f = rw (k, e, f) (go (eqb kind 2))
 
 -- ---- bounds
 
--- the better of two numbers is no greater than both together
+-- the better of two numbers is no farther from zero than both are
 pub best-bound : {best : ℤ → ℤ → ℤ} → Best best → (a b : ℤ) → natAbs (best a b) ≤ max (natAbs a) (natAbs b)
 best-bound {best} choice a b = ⊎-elim (λ e. rw e (omega arith)) (λ e. rw e (omega arith)) (choice .picks a b)
+
+pub better-sum-bound : {best : ℤ → ℤ → ℤ} → Best best → (p q : Pair) → natAbs (better best p q .sum) ≤ max (natAbs (p .sum)) (natAbs (q .sum))
+better-sum-bound {best} choice p q =
+    better-is best (λ r. natAbs (r .sum) ≤ max (natAbs (p .sum)) (natAbs (q .sum))) p q (omega arith) (omega arith)
+    (best-bound choice (p .sum) (q .sum))
 
 pub combine-sum-bound : (kind : ℕ) (p q : Pair) → natAbs (combine kind p q .sum) ≤ natAbs (p .sum) + natAbs (q .sum)
 unfolding added
 combine-sum-bound kind p q =
     by-kind (λ rule. natAbs (rule p q .sum) ≤ natAbs (p .sum) + natAbs (q .sum))
     (natAbs-add (p .sum) (q .sum))
-    (λ best choice.
-    better-is best (λ r. natAbs (r .sum) ≤ natAbs (p .sum) + natAbs (q .sum)) p q (omega arith) (omega arith)
-    (omega (arith, best-bound choice (p .sum) (q .sum))))
+    (λ best choice. omega (arith, better-sum-bound choice p q))
+    kind
+
+-- kinds 2 and 3 answer one of the two values
+pub choice-sum-bound : (kind : ℕ) (p q : Pair) → eqb kind 1 ≡ false → natAbs (combine kind p q .sum) ≤ max (natAbs (p .sum)) (natAbs (q .sum))
+choice-sum-bound kind p q =
+    by-choice (λ rule. natAbs (rule p q .sum) ≤ max (natAbs (p .sum)) (natAbs (q .sum)))
+    (λ best choice. better-sum-bound choice p q)
     kind
 
 -- a value's mark may be a count where there was none
@@ -185,6 +195,7 @@ combine-count-bound kind p q =
     (λ best choice. better-is best (λ r. natAbs (r .count) ≤ max 1 (natAbs (p .count) + natAbs (q .count))) p q (omega arith) (omega arith) (omega arith))
     kind
 
+-- kind 1 has no such mark
 pub total-count-bound : (p q : Pair) → natAbs (combine 1 p q .count) ≤ natAbs (p .count) + natAbs (q .count)
 unfolding combine added
 total-count-bound p q = natAbs-add (p .count) (q .count)

@@ -1,7 +1,7 @@
 -- Document 01, "Time and value": the pair that an index answers, and how two pairs of a kind are combined. Assumes nothing.
 use Prim.Native.Nat.{ℕ}
 use mathlib.Core.Path.{_≡_}
-use mathlib.Core.Bool.{Bool, true, false, cond, _&&_}
+use mathlib.Core.Bool.{Bool, false, cond, _&&_}
 use lib.Dec.{eqb}
 use lib.IntN.{ℤ, pos, negsuc, _+ℤ_, negℤ}
 use lib.Signed.{leZ}

@@ -1,7 +1,7 @@
 -- Document 01, "Time and value": instants, spans, values, kinds and windows. Assumes nothing.
 use Prim.Native.Nat.{ℕ, _+_, _<_, _≤_, min}
 use mathlib.Core.Bool.{Bool, _&&_}
-use lib.Dec.{leb, ltb, eqb}
+use lib.Dec.{leb, ltb}
 use lib.IntN.{ℤ, natAbs}
 
 -- "Instants are 0 to 4,294,967,294. END = 4,294,967,295 is no instant."

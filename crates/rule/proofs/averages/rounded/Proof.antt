@@ -1,8 +1,5 @@
 -- `rule::averages::rounded` meets its contract: each step's number fits and is read back as it is. Assumes nothing.
 use mathlib.Core.Path.{_≡_}
-use lib.IntN.{ℤ, pos, _+ℤ_, _*ℤ_}
-use mir.Syntax.{w64}
-use mir.Val.{SFits}
 use mir.Facts.{toZ-ofZ}
 use borrow.Author.Needs.{needs}
 use Rattle.rule.specs.Averages.{signed-as}

@@ -2,7 +2,7 @@
 use Prim.Native.Nat.{_<_, _^_}
 use mathlib.Core.Path.{_≡_, _∙_}
 use native.Mathlib.Omega.{arith}
-use lib.IntN.{ℤ, pos, natAbs, _+ℤ_, _-ℤ_}
+use lib.IntN.{pos, natAbs, _+ℤ_, _-ℤ_}
 use lib.Signed.{natAbs-le}
 use borrow.Author.Needs.{needs}
 use mir.Syntax.{w64}
