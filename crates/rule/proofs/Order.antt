@@ -14,6 +14,7 @@ pub record Best (best : ℤ → ℤ → ℤ) : Type 0 where
   pub comm : (a b : ℤ) → best a b ≡ best b a
   pub picks : (a b : ℤ) → (best a b ≡ a) ⊎ (best a b ≡ b)
 
+-- What makes an order total, for a test.
 record Total (le : ℤ → ℤ → Bool) : Type 0 where
   trans : (a b c : ℤ) → le a b ≡ true → le b c ≡ true → le a c ≡ true
   antisym : (a b : ℤ) → le a b ≡ true → le b a ≡ true → a ≡ b
@@ -83,6 +84,7 @@ leZ-total = record { trans = trans; antisym = antisym; total = total }
     total (negsuc a) (pos b) e = absurd (true≢false e)
     total (negsuc a) (negsuc b) e = le-leb a b (le-of-lt (leb-false b a e))
 
+-- the order read from the other end
 flip : (ℤ → ℤ → Bool) → ℤ → ℤ → Bool
 flip le a b = le b a
 
@@ -102,10 +104,11 @@ least = first-best leZ leZ-total
 pub greatest : Best greater
 unfolding greater flip
 greatest =
+    let g = first-best (flip leZ) (flip-total leZ leZ-total) in
     record {
-      assoc = λ a b c. sym (first-assoc (flip leZ) (flip-total leZ leZ-total) c b a);
-      comm = λ a b. first-comm (flip leZ) (flip-total leZ leZ-total) b a;
-      picks = λ a b. ⊎-swap (first-picks (flip leZ) (flip-total leZ leZ-total) b a);
+      assoc = λ a b c. sym (g .assoc c b a);
+      comm = λ a b. g .comm b a;
+      picks = λ a b. ⊎-swap (g .picks b a);
     }
 
 -- one comparison picks: the second if a ≤ b goes with wanting the greater, else the first
