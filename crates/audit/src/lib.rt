@@ -1,0 +1,1 @@
+// The audit of an image: soundness by counting.
