@@ -1,4 +1,5 @@
 pub mod Entries
 pub mod Layout
 pub mod Decoded
+pub mod Widths
 pub mod Fit

@@ -2,6 +2,8 @@
 // Document 01, "The page"; docs/FORMAT.md has the fields' places.
 use rule::Pair;
 
+pub mod at;
+
 // An entry of a tree page: from start up to the next entry's start its pair counts; a leaf's child is 0.
 pub struct Entry {
     pub start: u32,

@@ -1,0 +1,83 @@
+-- An entry and its bytes: it is read where they stand, and they are the bytes of what is read. Assumes nothing.
+use mathlib.Core.Path.{_≡_, refl, sym, ap, _∙_}
+use mathlib.Core.List.{List, [], _∷_, _++_, append-assoc, append-nil}
+use Prim.Native.Nat.{ℕ, _+_, _*_, _≤_, _<_}
+use native.Mathlib.Nat.{add-zero}
+use native.Mathlib.Omega.{arith}
+use lib.ListN.{length, length-append}
+use lib.Dec.{lit<}
+use Rattle.fields.specs.Bytes.{part}
+use Rattle.fields.specs.Numbers.{u32-at, i32-at, i64-at, u32-bytes, i32-bytes, i64-bytes}
+use Rattle.fields.proofs.Laws.Digits.{Bytes, bytes-append}
+use Rattle.fields.proofs.Laws.Places.{Field, u32, i32, i64}
+use Rattle.page.specs.declared.Entry.{Entry}
+use Rattle.page.specs.Entries.{no-entry}
+use Rattle.page.specs.Layout.{capacity, start-place, entry-place, start-at, pair-at, child-at, entry-at, entry-bytes}
+use Rattle.page.specs.Widths.{Entry-fits}
+use Rattle.page.proofs.Laws.Pieces.{part-pieces, part-inside}
+
+-- the two pieces of an entry: its start, and its place in the array of entries
+abbrev pub start-bytes : Entry → List ℕ
+start-bytes e = u32-bytes (e .start)
+
+pub length-start-bytes : (e : Entry) → length (start-bytes e) ≡ 4
+length-start-bytes e = u32 .length-bytes (e .start)
+
+pub bytes-start-bytes : (e : Entry) → Bytes (start-bytes e)
+bytes-start-bytes e = u32 .bytes-bytes (e .start)
+
+pub length-entry-bytes : (e : Entry) → length (entry-bytes e) ≡ 16
+unfolding entry-bytes
+length-entry-bytes e = simp (length-append, i64 .length-bytes, i32 .length-bytes, u32 .length-bytes)
+
+pub bytes-entry-bytes : (e : Entry) → Bytes (entry-bytes e)
+unfolding entry-bytes
+bytes-entry-bytes e =
+    bytes-append (i64-bytes (e .pair .sum)) (i32-bytes (e .pair .count) ++ u32-bytes (e .child)) (i64 .bytes-bytes (e .pair .sum))
+    (bytes-append (i32-bytes (e .pair .count)) (u32-bytes (e .child)) (i32 .bytes-bytes (e .pair .count)) (u32 .bytes-bytes (e .child)))
+
+pub no-entry-fits : Entry-fits no-entry
+no-entry-fits = record { start = lit< tt; sum = record { sfits = lit< tt }; count = record { sfits = lit< tt }; child = lit< tt }
+
+module _ (half : ℕ) (s : List ℕ) (i : ℕ) where
+  -- where an entry's bytes stand, it is read
+  pub entry-at-bytes : (e : Entry) → part s (start-place i) 4 ≡ start-bytes e → part s (entry-place half i) 16 ≡ entry-bytes e → Entry-fits e → entry-at half s i ≡ e
+  unfolding entry-at start-at pair-at child-at entry-bytes
+  entry-at-bytes e f g w =
+      let o : ℕ = entry-place half i in
+      let a : List ℕ = i64-bytes (e .pair .sum) in
+      let b : List ℕ = i32-bytes (e .pair .count) in
+      let c : List ℕ = u32-bytes (e .child) in
+      let la : length a ≡ 8 = i64 .length-bytes (e .pair .sum) in
+      let lb : length b ≡ 4 = i32 .length-bytes (e .pair .count) in
+      let lab : length (a ++ b) ≡ 12 = length-append a b ∙ (λ j. la j + lb j) in
+      let k : part s o 16 ≡ a ++ b ++ (c ++ []) = g ∙ sym (append-assoc a b c) ∙ ap (λ l. a ++ b ++ l) (sym (append-nil c)) in
+      let sum : part s o 8 ≡ a = ap (λ p. part s p 8) (sym (add-zero o)) ∙ part-inside s o 16 [] a (b ++ c) 0 8 g refl la (omega arith) in
+      let count : part s (o + 8) 4 ≡ b = part-inside s o 16 a b c 8 4 g la lb (omega arith) in
+      let child : part s (o + 12) 4 ≡ c = part-inside s o 16 (a ++ b) c [] 12 4 k lab (u32 .length-bytes (e .child)) (omega arith) in
+      λ j. record {
+        start = u32 .at-bytes s (start-place i) (e .start) f (w .start) j;
+        pair = record { sum = i64 .at-bytes s o (e .pair .sum) sum (w .sum) j; count = i32 .at-bytes s (o + 8) (e .pair .count) count (w .count) j };
+        child = u32 .at-bytes s (o + 12) (e .child) child (w .child) j;
+      }
+
+  -- the bytes of the entry that is read are those that stand there
+  pub start-bytes-at : Bytes s → start-place i + 4 ≤ length s → start-bytes (entry-at half s i) ≡ part s (start-place i) 4
+  unfolding entry-at start-at
+  start-bytes-at b h = u32 .bytes-at s (start-place i) b h
+
+  pub entry-bytes-at : Bytes s → entry-place half i + 16 ≤ length s → entry-bytes (entry-at half s i) ≡ part s (entry-place half i) 16
+  unfolding entry-at pair-at child-at entry-bytes
+  entry-bytes-at b h =
+      let o : ℕ = entry-place half i in
+      part-pieces s o 8 (o + 8) 8 refl (i64 .bytes-at s o b (omega arith))
+      (part-pieces s (o + 8) 4 (o + 12) 4 (omega arith) (i32 .bytes-at s (o + 8) b (omega arith)) (u32 .bytes-at s (o + 12) b (omega arith)))
+
+  pub entry-at-fits : Bytes s → Entry-fits (entry-at half s i)
+  unfolding entry-at start-at pair-at child-at
+  entry-at-fits b = record {
+    start = u32 .at-fits s (start-place i) b;
+    sum = i64 .at-fits s (entry-place half i) b;
+    count = i32 .at-fits s (entry-place half i + 8) b;
+    child = u32 .at-fits s (entry-place half i + 12) b;
+  }

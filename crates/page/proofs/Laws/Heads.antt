@@ -1,0 +1,84 @@
+-- The laws of the head's bytes: its nine numbers one after the other, the rest unused. Assumes nothing.
+use mathlib.Core.Path.{_≡_, refl, sym, ap, _∙_}
+use mathlib.Core.Bool.{true}
+use mathlib.Core.List.{List, [], _∷_, _++_}
+use Prim.Native.Nat.{ℕ, _+_, _-_, _*_, _^_, _≤_, _<_}
+use native.Mathlib.Omega.{arith}
+use lib.ListN.{length, getD, length-append}
+use Rattle.fields.specs.Bytes.{part, unused, all-are}
+use Rattle.fields.specs.Numbers.{u32-at, u32-bytes}
+use Rattle.fields.proofs.Laws.Parts.{length-part, part-whole}
+use Rattle.fields.proofs.Laws.Digits.{Bytes, bytes-append, bytes-unused}
+use Rattle.fields.proofs.Laws.Places.{Field, u32}
+use Rattle.fields.proofs.Laws.Tests.{length-unused, all-are-unused, unused-all-are}
+use Rattle.page.specs.declared.Head.{Head}
+use Rattle.page.specs.Layout.{page-size, listed, joined, head-of, head-bytes}
+use Rattle.page.specs.Widths.{Head-fits}
+use Rattle.page.proofs.Laws.Joined.{bytes-joined, length-joined, part-joined, joined-parts}
+use Rattle.page.proofs.Laws.Pieces.{part-pieces, part-last}
+
+-- the head's numbers in their order
+abbrev pub numbers : Head → List ℕ
+numbers h = h .pages ∷ h .height ∷ h .root ∷ h .free ∷ h .chain ∷ h .mark ∷ h .kind ∷ h .window ∷ h .changes ∷ []
+
+module _ (half : ℕ) (h : Head) where
+  pub bytes-head : Bytes (head-bytes half h)
+  unfolding head-bytes
+  bytes-head =
+      bytes-append (joined u32-bytes (numbers h)) (unused (page-size half - 36)) (bytes-joined u32-bytes (u32 .bytes-bytes) (numbers h)) (bytes-unused (page-size half - 36))
+
+  pub length-head : 0 < half → length (head-bytes half h) ≡ page-size half
+  unfolding head-bytes
+  length-head l =
+      let e : length (joined u32-bytes (numbers h)) ≡ 36 = length-joined u32-bytes 4 (u32 .length-bytes) (numbers h) in
+      simp (length-append, length-unused) (omega arith)
+
+  pub head-of-head : Head-fits h → head-of (head-bytes half h) ≡ h
+  unfolding head-of
+  head-of-head w = λ j. record {
+    pages = place 0 (omega arith) (w .pages) j;
+    height = place 1 (omega arith) (w .height) j;
+    root = place 2 (omega arith) (w .root) j;
+    free = place 3 (omega arith) (w .free) j;
+    chain = place 4 (omega arith) (w .chain) j;
+    mark = place 5 (omega arith) (w .mark) j;
+    kind = place 6 (omega arith) (w .kind) j;
+    window = place 7 (omega arith) (w .window) j;
+    changes = place 8 (omega arith) (w .changes) j;
+  }
+    where
+      place : (i : ℕ) → i < 9 → getD (numbers h) i 0 < 2 ^ 32 → u32-at (head-bytes half h) (4 * i) ≡ getD (numbers h) i 0
+      place i l w =
+          u32 .at-bytes (head-bytes half h) (4 * i) (getD (numbers h) i 0)
+          (unfold head-bytes in part-joined u32-bytes 4 (u32 .length-bytes) (numbers h) (unused (page-size half - 36)) 0 i l) w
+
+  -- the rest of the head, as `head-fit` tests it
+  pub head-rest : all-are 255 (part (head-bytes half h) 36 (page-size half - 36)) ≡ true
+  unfolding head-bytes
+  head-rest =
+      let m : ℕ = page-size half - 36 in
+      ap (all-are 255) (part-last (joined u32-bytes (numbers h)) (unused m) 36 m (length-joined u32-bytes 4 (u32 .length-bytes) (numbers h)) (length-unused m)) ∙ all-are-unused m
+
+pub head-of-fits : (s : List ℕ) → Bytes s → Head-fits (head-of s)
+unfolding head-of
+head-of-fits s b = record {
+  pages = u32 .at-fits s 0 b;
+  height = u32 .at-fits s 4 b;
+  root = u32 .at-fits s 8 b;
+  free = u32 .at-fits s 12 b;
+  chain = u32 .at-fits s 16 b;
+  mark = u32 .at-fits s 20 b;
+  kind = u32 .at-fits s 24 b;
+  window = u32 .at-fits s 28 b;
+  changes = u32 .at-fits s 32 b;
+}
+
+-- a head that is read and written again is as it was
+pub head-again : (half : ℕ) (s : List ℕ) → 0 < half → length s ≡ page-size half → Bytes s → all-are 255 (part s 36 (page-size half - 36)) ≡ true → head-bytes half (head-of s) ≡ s
+unfolding head-bytes head-of listed
+head-again half s g l b ok =
+    let m : ℕ = page-size half - 36 in
+    part-pieces s 0 36 36 m refl
+    (joined-parts u32-bytes 4 (u32 .length-bytes) s 0 9 (λ i. u32-at s (0 + 4 * i)) (λ i h. u32 .bytes-at s (0 + 4 * i) b (omega arith)))
+    (sym (unused-all-are m (part s 36 m) (length-part s 36 m (omega arith)) ok))
+    ∙ part-whole s (36 + m) (omega arith)

@@ -1,0 +1,121 @@
+-- The laws of `joined`, the bytes of a list's elements one after the other, and of a run of places of k bytes each, of which the first
+-- hold a list's elements and the others are unused: both arrays of a tree page are such runs. Assumes nothing.
+use mathlib.Core.Path.{_≡_, refl, sym, ap, _∙_}
+use mathlib.Core.List.{List, [], _∷_, _++_, append-assoc, append-nil}
+use Prim.Native.Nat.{ℕ, zero, suc, _+_, _-_, _*_, _≤_, _<_}
+use native.Mathlib.Nat.{mul-zero, mul-suc, mul-add, add-comm, add-zero, zero-add, sub-zero, add-sub-of-le}
+use native.Mathlib.Numerals.{add-one}
+use native.Mathlib.Omega.{arith}
+use lib.ListN.{length, getD, length-append}
+use mir.Facts.{fits-lit}
+use Rattle.fields.specs.Bytes.{part, patch, unused}
+use Rattle.fields.proofs.Laws.Parts.{part-none, part-add, part-append-right, part-middle, patch-append-left, patch-append-right, patch-whole}
+use Rattle.fields.proofs.Laws.Digits.{Bytes, bytes-append, bytes-unused}
+use Rattle.fields.proofs.Laws.Tests.{length-unused, unused-add}
+use Rattle.page.specs.Layout.{listed, joined}
+use Rattle.page.proofs.Laws.Listed.{length-listed}
+use Rattle.page.proofs.Laws.Pieces.{part-last}
+
+module _ {A : Type 0} (f : A → List ℕ) where
+  pub joined-append : (xs ys : List A) → joined f (xs ++ ys) ≡ joined f xs ++ joined f ys
+  unfolding joined
+  joined-append [] ys = refl
+  joined-append (x ∷ xs) ys = ap (λ l. f x ++ l) (joined-append xs ys) ∙ sym (append-assoc (f x) (joined f xs) (joined f ys))
+
+  pub joined-one : (x : A) → joined f (x ∷ []) ≡ f x
+  unfolding joined
+  joined-one x = append-nil (f x)
+
+  pub bytes-joined : ((x : A) → Bytes (f x)) → (xs : List A) → Bytes (joined f xs)
+  unfolding joined
+  bytes-joined h [] i = fits-lit tt
+  bytes-joined h (x ∷ xs) i = bytes-append (f x) (joined f xs) (h x) (bytes-joined h xs) i
+
+-- A run of `room` places of k bytes: the bytes of xs, the others unused.
+unfoldable pub run : {A : Type 0} → (A → List ℕ) → ℕ → ℕ → List A → List ℕ
+run f k room xs = joined f xs ++ unused (k * (room - length xs))
+
+module _ {A : Type 0} (f : A → List ℕ) (k : ℕ) (each : (x : A) → length (f x) ≡ k) where
+  pub length-joined : (xs : List A) → length (joined f xs) ≡ k * length xs
+  unfolding joined
+  length-joined [] = sym (mul-zero k)
+  length-joined (x ∷ xs) = rw (length-append, each x, length-joined xs, mul-suc) (add-comm k (k * length xs))
+
+  -- the i-th element's bytes stand at the i-th place
+  pub part-joined : (xs : List A) (ys : List ℕ) (d : A) (i : ℕ) → i < length xs → part (joined f xs ++ ys) (k * i) k ≡ f (getD xs i d)
+  unfolding joined
+  part-joined [] ys d i h = absurd (omega arith)
+  part-joined (x ∷ xs) ys d zero h =
+      ap (λ l. part l (k * 0) k) (append-assoc (f x) (joined f xs) ys) ∙ part-middle [] (f x) (joined f xs ++ ys) (k * 0) k (sym (mul-zero k)) (each x)
+  part-joined (x ∷ xs) ys d (suc i) h =
+      let e : k * suc i ≡ length (f x) + k * i = rw (mul-suc, each x) (add-comm (k * i) k) in
+      ap (λ l. part l (k * suc i) k) (append-assoc (f x) (joined f xs) ys)
+      ∙ ap (λ o. part (f x ++ (joined f xs ++ ys)) o k) e
+      ∙ part-append-right (f x) (joined f xs ++ ys) (k * i) k
+      ∙ part-joined xs ys d i (omega arith)
+
+  -- the bytes of what stands at n places, one after the other, are the bytes of those places
+  pub joined-parts : (s : List ℕ) (o n : ℕ) (x : ℕ → A) → ((i : ℕ) → i < n → f (x i) ≡ part s (o + k * i) k) → joined f (listed n x) ≡ part s o (k * n)
+  unfolding joined listed
+  joined-parts s o zero x h = sym (rw mul-zero (part-none s o))
+  joined-parts s o (suc n) x h =
+      joined-append f (listed n x) (x n ∷ [])
+      ∙ (λ j. joined-parts s o n x (λ i l. h i (omega arith)) j ++ (joined-one f (x n) ∙ h n (omega arith)) j)
+      ∙ sym (part-add s o (k * n) k)
+      ∙ ap (part s o) (sym (mul-suc k n))
+
+  module _ (room : ℕ) where
+    pub run-none : run f k room [] ≡ unused (k * room)
+    unfolding run joined
+    run-none = ap (λ n. unused (k * n)) (sub-zero room)
+
+    pub bytes-run : ((x : A) → Bytes (f x)) → (xs : List A) → Bytes (run f k room xs)
+    unfolding run
+    bytes-run h xs = bytes-append (joined f xs) (unused (k * (room - length xs))) (bytes-joined f h xs) (bytes-unused (k * (room - length xs)))
+
+    pub length-run : (xs : List A) → length xs ≤ room → length (run f k room xs) ≡ k * room
+    unfolding run
+    length-run xs h =
+        length-append (joined f xs) (unused (k * (room - length xs)))
+        ∙ (λ j. length-joined xs j + length-unused (k * (room - length xs)) j)
+        ∙ sym (mul-add k (length xs) (room - length xs))
+        ∙ ap (λ n. k * n) (add-sub-of-le h)
+
+    pub part-run : (xs : List A) (d : A) (i : ℕ) → i < length xs → part (run f k room xs) (k * i) k ≡ f (getD xs i d)
+    unfolding run
+    part-run xs d i h = part-joined xs (unused (k * (room - length xs))) d i h
+
+    pub part-run-past : (xs : List A) → part (run f k room xs) (k * length xs) (k * (room - length xs)) ≡ unused (k * (room - length xs))
+    unfolding run
+    part-run-past xs =
+        part-last (joined f xs) (unused (k * (room - length xs))) (k * length xs) (k * (room - length xs)) (length-joined xs) (length-unused (k * (room - length xs)))
+
+    -- a run of what stands at n places, those behind them unused, is the bytes of all its places
+    pub run-parts : (s : List ℕ) (o n : ℕ) (x : ℕ → A) → n ≤ room → ((i : ℕ) → i < n → f (x i) ≡ part s (o + k * i) k)
+        → part s (o + k * n) (k * (room - n)) ≡ unused (k * (room - n)) → run f k room (listed n x) ≡ part s o (k * room)
+    unfolding run
+    run-parts s o n x h g past =
+        ap (λ m. joined f (listed n x) ++ unused (k * (room - m))) (length-listed n x)
+        ∙ (λ j. joined-parts s o n x g j ++ sym past j)
+        ∙ sym (part-add s o (k * n) (k * (room - n)))
+        ∙ ap (part s o) (sym (mul-add k n (room - n)) ∙ ap (λ m. k * m) (add-sub-of-le h))
+
+    -- the next element is written
+    pub patch-run : (xs : List A) (x : A) → length xs < room → patch (run f k room xs) (k * length xs) (f x) ≡ run f k room (xs ++ (x ∷ []))
+    unfolding run
+    patch-run xs x h =
+        let m : ℕ = k * (room - suc (length xs)) in
+        let n : length (xs ++ (x ∷ [])) ≡ suc (length xs) = length-append xs (x ∷ []) ∙ add-one (length xs) in
+        let r : room - length xs ≡ suc (room - suc (length xs)) = omega arith in
+        let e : k * (room - length xs) ≡ k + m = ap (λ i. k * i) r ∙ mul-suc k (room - suc (length xs)) ∙ add-comm m k in
+        (λ j. patch (joined f xs ++ (ap unused e ∙ unused-add k m) j) ((sym (length-joined xs) ∙ sym (add-zero (length (joined f xs)))) j) (f x))
+        ∙ patch-append-right (joined f xs) (unused k ++ unused m) 0 (f x)
+        ∙ ap (λ l. joined f xs ++ l) (patch-append-left (unused k) (unused m) 0 (f x) (fits x) ∙ ap (λ l. l ++ unused m) (patch-whole (unused k) (f x) (each x ∙ sym (length-unused k))))
+        ∙ sym (append-assoc (joined f xs) (f x) (unused m))
+        ∙ (λ j. (ap (λ l. joined f xs ++ l) (sym (joined-one f x)) ∙ sym (joined-append f xs (x ∷ []))) j ++ unused (k * (room - sym n j)))
+      where
+        fits : (x : A) → 0 + length (f x) ≤ length (unused k)
+        fits x =
+            let e : length (f x) ≡ k = each x in
+            let g : length (unused k) ≡ k = length-unused k in
+            omega arith

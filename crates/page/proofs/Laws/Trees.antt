@@ -1,0 +1,251 @@
+-- The laws of a tree page's bytes: what is read from them, that they are the page that was read, and that no byte is left over. A page is
+-- taken as three pieces: the 32 bytes before the arrays, and the two arrays, each a run of places. Assumes nothing.
+use mathlib.Core.Path.{_≡_, refl, sym, ap, _∙_}
+use mathlib.Core.Bool.{Bool, true, _&&_, and-eq-true-iff}
+use mathlib.Core.List.{List, [], _∷_, _++_, append-assoc}
+use Prim.Native.Nat.{ℕ, _+_, _-_, _*_, _^_, _≤_, _<_, min}
+use native.Mathlib.Nat.{min-eq-left, add-zero}
+use native.Mathlib.Omega.{arith}
+use lib.ListN.{length, getD, length-append}
+use Rattle.fields.specs.Bytes.{part, patch, unused, all-are}
+use Rattle.fields.specs.Numbers.{u32-at, u32-bytes}
+use Rattle.fields.proofs.Laws.Parts.{length-part, part-whole, part-middle, part-append-left}
+use Rattle.fields.proofs.Laws.Digits.{Bytes, bytes-append, bytes-unused}
+use Rattle.fields.proofs.Laws.Places.{Field, u32}
+use Rattle.fields.proofs.Laws.Tests.{length-unused, unused-add, all-are-unused, unused-all-are}
+use Rattle.page.specs.declared.Entry.{Entry}
+use Rattle.page.specs.Entries.{at, no-entry}
+use Rattle.page.specs.Layout.{capacity, start-place, entry-place, page-size, level-of, number-of, entry-at, entries-of, unused-ok, listed, joined, entry-bytes, tree-bytes}
+use Rattle.page.specs.Widths.{Entry-fits, Entries-fit}
+use Rattle.page.proofs.Laws.Listed.{length-listed, getD-listed, listed-same, listed-getD, listed-each}
+use Rattle.page.proofs.Laws.Joined.{run, run-none, bytes-run, length-run, part-run, part-run-past, run-parts, patch-run}
+use Rattle.page.proofs.Laws.Pieces.{part-pieces, part-second, part-third, patch-second, patch-third}
+use Rattle.page.proofs.Laws.Entries.{start-bytes, length-start-bytes, bytes-start-bytes, length-entry-bytes, bytes-entry-bytes, entry-at-bytes, start-bytes-at, entry-bytes-at, entry-at-fits, no-entry-fits}
+
+-- ---- the three pieces
+
+abbrev top : ℕ → ℕ → List ℕ
+top level number = u32-bytes level ++ (u32-bytes number ++ unused 24)
+
+length-top : (level number : ℕ) → length (top level number) ≡ 32
+length-top level number = simp (length-append, u32 .length-bytes, length-unused)
+
+starts : ℕ → List Entry → List ℕ
+starts half es = run start-bytes 4 (capacity half) es
+
+entries : ℕ → List Entry → List ℕ
+entries half es = run entry-bytes 16 (capacity half) es
+
+-- A tree page while it is written: it says `number` already, and has the entries es.
+pub page-bytes : ℕ → ℕ → ℕ → List Entry → List ℕ
+page-bytes half level number es = top level number ++ (starts half es ++ entries half es)
+
+pub tree-page : (half level : ℕ) (es : List Entry) → tree-bytes half level es ≡ page-bytes half level (length es) es
+unfolding tree-bytes page-bytes run starts entries
+tree-page half level es = simp append-assoc
+
+-- with no entry yet, all is unused behind the two numbers
+pub page-none : (half level number : ℕ) → page-bytes half level number [] ≡ u32-bytes level ++ (u32-bytes number ++ unused (page-size half - 8))
+unfolding page-bytes starts entries
+page-none half level number =
+    let e : 24 + (4 * capacity half + 16 * capacity half) ≡ page-size half - 8 = omega arith in
+    (λ j. top level number ++ (run-none start-bytes 4 length-start-bytes (capacity half) j ++ run-none entry-bytes 16 length-entry-bytes (capacity half) j))
+    ∙ simp append-assoc
+    (ap (λ l. u32-bytes level ++ (u32-bytes number ++ l))
+    (ap (λ l. unused 24 ++ l) (sym (unused-add (4 * capacity half) (16 * capacity half))) ∙ sym (unused-add 24 (4 * capacity half + 16 * capacity half)) ∙ ap unused e))
+
+module _ (half level number : ℕ) (es : List Entry) where
+  length-starts : length es ≤ capacity half → length (starts half es) ≡ 4 * capacity half
+  unfolding starts
+  length-starts h = length-run start-bytes 4 length-start-bytes (capacity half) es h
+
+  pub bytes-page : Bytes (page-bytes half level number es)
+  unfolding page-bytes starts entries
+  bytes-page =
+      bytes-append (top level number) (starts half es ++ entries half es)
+      (bytes-append (u32-bytes level) (u32-bytes number ++ unused 24) (u32 .bytes-bytes level) (bytes-append (u32-bytes number) (unused 24) (u32 .bytes-bytes number) (bytes-unused 24)))
+      (bytes-append (starts half es) (entries half es)
+      (bytes-run start-bytes 4 length-start-bytes (capacity half) bytes-start-bytes es)
+      (bytes-run entry-bytes 16 length-entry-bytes (capacity half) bytes-entry-bytes es))
+
+  module _ (within : length es ≤ capacity half) where
+    pub length-page : length (page-bytes half level number es) ≡ page-size half
+    unfolding page-bytes entries
+    length-page =
+        let b : length (starts half es) ≡ 4 * capacity half = length-starts within in
+        let c : length (entries half es) ≡ 16 * capacity half = length-run entry-bytes 16 length-entry-bytes (capacity half) es within in
+        simp (length-append, u32 .length-bytes, length-unused) (omega arith)
+
+    -- a part of each piece
+    part-top : (o m : ℕ) → o + m ≤ 32 → part (page-bytes half level number es) o m ≡ part (top level number) o m
+    unfolding page-bytes
+    part-top o m h =
+        let e : length (top level number) ≡ 32 = length-top level number in
+        part-append-left (top level number) (starts half es ++ entries half es) o m (omega arith)
+
+    part-starts : (p m : ℕ) → p + m ≤ 4 * capacity half → part (page-bytes half level number es) (32 + p) m ≡ part (starts half es) p m
+    unfolding page-bytes
+    part-starts p m h =
+        let e : length (starts half es) ≡ 4 * capacity half = length-starts within in
+        part-second (top level number) (starts half es) (entries half es) 32 p m (length-top level number) (omega arith)
+
+    part-entries : (p m : ℕ) → part (page-bytes half level number es) (32 + 4 * capacity half + p) m ≡ part (entries half es) p m
+    unfolding page-bytes
+    part-entries p m =
+        part-third (top level number) (starts half es) (entries half es) (32 + 4 * capacity half) p m (λ j. length-top level number j + length-starts within j)
+
+    -- ---- what stands where
+
+    pub page-level : part (page-bytes half level number es) 0 4 ≡ u32-bytes level
+    page-level = part-top 0 4 (omega arith) ∙ part-middle [] (u32-bytes level) (u32-bytes number ++ unused 24) 0 4 refl (u32 .length-bytes level)
+
+    pub page-number : part (page-bytes half level number es) 4 4 ≡ u32-bytes number
+    page-number = part-top 4 4 (omega arith) ∙ part-middle (u32-bytes level) (u32-bytes number) (unused 24) 4 4 (u32 .length-bytes level) (u32 .length-bytes number)
+
+    page-gap : part (page-bytes half level number es) 8 24 ≡ unused 24
+    page-gap =
+        part-top 8 24 (omega arith)
+        ∙ part-third (u32-bytes level) (u32-bytes number) (unused 24) 8 0 24 (λ j. u32 .length-bytes level j + u32 .length-bytes number j)
+        ∙ part-whole (unused 24) 24 (length-unused 24)
+
+    page-entry : (i : ℕ) → i < length es → Entry-fits (at es i) → entry-at half (page-bytes half level number es) i ≡ at es i
+    unfolding starts entries
+    page-entry i h w =
+        entry-at-bytes half (page-bytes half level number es) i (at es i)
+        (part-starts (4 * i) 4 (omega arith) ∙ part-run start-bytes 4 length-start-bytes (capacity half) es no-entry i h)
+        (part-entries (16 * i) 16 ∙ part-run entry-bytes 16 length-entry-bytes (capacity half) es no-entry i h)
+        w
+
+    page-starts-past : part (page-bytes half level number es) (start-place (length es)) (4 * (capacity half - length es)) ≡ unused (4 * (capacity half - length es))
+    unfolding starts
+    page-starts-past =
+        part-starts (4 * length es) (4 * (capacity half - length es)) (omega arith) ∙ part-run-past start-bytes 4 length-start-bytes (capacity half) es
+
+    page-entries-past : part (page-bytes half level number es) (entry-place half (length es)) (16 * (capacity half - length es)) ≡ unused (16 * (capacity half - length es))
+    unfolding entries
+    page-entries-past =
+        part-entries (16 * length es) (16 * (capacity half - length es)) ∙ part-run-past entry-bytes 16 length-entry-bytes (capacity half) es
+
+  -- the next entry is written
+  pub page-more : (e : Entry) → length es < capacity half
+      → patch (patch (page-bytes half level number es) (start-place (length es)) (start-bytes e)) (entry-place half (length es)) (entry-bytes e)
+      ≡ page-bytes half level number (es ++ (e ∷ []))
+  unfolding page-bytes starts entries
+  page-more e h =
+      let a : List ℕ = top level number in
+      let n : ℕ = length es in
+      let la : length a ≡ 32 = length-top level number in
+      let lb : length (starts half es) ≡ 4 * capacity half = length-starts (omega arith) in
+      let ls : length (start-bytes e) ≡ 4 = length-start-bytes e in
+      let f : patch (starts half es) (4 * n) (start-bytes e) ≡ starts half (es ++ (e ∷ [])) = patch-run start-bytes 4 length-start-bytes (capacity half) es e h in
+      let lf : length (starts half (es ++ (e ∷ []))) ≡ 4 * capacity half = length-run start-bytes 4 length-start-bytes (capacity half) (es ++ (e ∷ [])) (one-more e h) in
+      ap (λ l. patch l (entry-place half n) (entry-bytes e))
+      (patch-second a (starts half es) (entries half es) 32 (4 * n) (start-bytes e) la (omega arith) ∙ ap (λ l. a ++ (l ++ entries half es)) f)
+      ∙ patch-third a (starts half (es ++ (e ∷ []))) (entries half es) (32 + 4 * capacity half) (16 * n) (entry-bytes e) (λ j. la j + lf j)
+      ∙ ap (λ l. a ++ (starts half (es ++ (e ∷ [])) ++ l)) (patch-run entry-bytes 16 length-entry-bytes (capacity half) es e h)
+    where
+      one-more : (e : Entry) → length es < capacity half → length (es ++ (e ∷ [])) ≤ capacity half
+      one-more e h = simp length-append (omega arith)
+
+-- ---- tree pages
+
+-- what `unused-ok` tests of a page with n entries
+abbrev unused-from : ℕ → List ℕ → ℕ → Bool
+unused-from half s n =
+    all-are 255 (part s 8 24) && (all-are 255 (part s (start-place n) (4 * (capacity half - n))) && all-are 255 (part s (entry-place half n) (16 * (capacity half - n))))
+
+module _ (half level : ℕ) (es : List Entry) where
+  pub bytes-tree : Bytes (tree-bytes half level es)
+  bytes-tree = rw (tree-page half level es) (bytes-page half level (length es) es)
+
+  module _ (within : length es ≤ capacity half) where
+    pub length-tree : length (tree-bytes half level es) ≡ page-size half
+    length-tree = ap length (tree-page half level es) ∙ length-page half level (length es) es within
+
+    pub level-of-tree : level < 2 ^ 32 → level-of (tree-bytes half level es) ≡ level
+    unfolding level-of
+    level-of-tree w = u32 .at-bytes (tree-bytes half level es) 0 level (ap (λ s. part s 0 4) (tree-page half level es) ∙ page-level half level (length es) es within) w
+
+    module _ (w : length es < 2 ^ 32) where
+      pub number-of-tree : number-of (tree-bytes half level es) ≡ length es
+      unfolding number-of
+      number-of-tree = u32 .at-bytes (tree-bytes half level es) 4 (length es) (ap (λ s. part s 4 4) (tree-page half level es) ∙ page-number half level (length es) es within) w
+
+      pub entry-at-tree : (i : ℕ) → i < length es → Entry-fits (at es i) → entry-at half (tree-bytes half level es) i ≡ at es i
+      entry-at-tree i h f = ap (λ s. entry-at half s i) (tree-page half level es) ∙ page-entry half level (length es) es within i h f
+
+      pub entries-of-tree : Entries-fit es → entries-of half (tree-bytes half level es) ≡ es
+      unfolding entries-of
+      entries-of-tree f =
+          let s : List ℕ = tree-bytes half level es in
+          ap (λ n. listed (min n (capacity half)) (λ i. entry-at half s i)) number-of-tree
+          ∙ ap (λ n. listed n (λ i. entry-at half s i)) (min-eq-left within)
+          ∙ listed-same (length es) (λ i. entry-at half s i) (λ i. at es i) (λ i h. entry-at-tree i h (f i))
+          ∙ listed-getD es no-entry
+
+      pub unused-ok-tree : unused-ok half (tree-bytes half level es) ≡ true
+      unfolding unused-ok
+      unused-ok-tree =
+          let n : ℕ = length es in
+          let past : ℕ = capacity half - n in
+          ap (unused-from half (tree-bytes half level es)) number-of-tree
+          ∙ ap (λ s. unused-from half s n) (tree-page half level es)
+          ∙ (λ j. all-are 255 (page-gap half level n es within j) && (all-are 255 (page-starts-past half level n es within j) && all-are 255 (page-entries-past half level n es within j)))
+          ∙ (λ j. all-are-unused 24 j && (all-are-unused (4 * past) j && all-are-unused (16 * past) j))
+
+-- ---- a page's bytes
+
+pub length-entries-of : (half : ℕ) (s : List ℕ) → length (entries-of half s) ≡ min (number-of s) (capacity half)
+unfolding entries-of
+length-entries-of half s = length-listed (min (number-of s) (capacity half)) (λ i. entry-at half s i)
+
+pub at-entries-of : (half : ℕ) (s : List ℕ) (i : ℕ) → i < number-of s → i < capacity half → at (entries-of half s) i ≡ entry-at half s i
+unfolding entries-of
+at-entries-of half s i g h = getD-listed (min (number-of s) (capacity half)) (λ j. entry-at half s j) no-entry i (omega arith)
+
+pub entries-of-fit : (half : ℕ) (s : List ℕ) → Bytes s → Entries-fit (entries-of half s)
+unfolding entries-of
+entries-of-fit half s b = listed-each Entry-fits (min (number-of s) (capacity half)) (λ i. entry-at half s i) no-entry no-entry-fits (λ i. entry-at-fits half s i b)
+
+-- what the test for unused bytes says of the parts that it looks at
+pub record Unused (half : ℕ) (s : List ℕ) (n : ℕ) : Type 0 where
+  pub gap : part s 8 24 ≡ unused 24
+  pub starts-past : part s (start-place n) (4 * (capacity half - n)) ≡ unused (4 * (capacity half - n))
+  pub entries-past : part s (entry-place half n) (16 * (capacity half - n)) ≡ unused (16 * (capacity half - n))
+
+pub unused-ok-parts : (half : ℕ) (s : List ℕ) → length s ≡ page-size half → number-of s ≤ capacity half → unused-ok half s ≡ true → Unused half s (number-of s)
+unfolding unused-ok
+unused-ok-parts half s l within ok =
+    let n : ℕ = number-of s in
+    let m : ℕ = capacity half - n in
+    let g : Bool = all-are 255 (part s 8 24) in
+    let f : Bool = all-are 255 (part s (start-place n) (4 * m)) in
+    let e : Bool = all-are 255 (part s (entry-place half n) (16 * m)) in
+    let x : (g ≡ true) × (f && e ≡ true) = and-eq-true-iff g (f && e) .0 ok in
+    let y : (f ≡ true) × (e ≡ true) = and-eq-true-iff f e .0 (x .1) in
+    record {
+      gap = unused-all-are 24 (part s 8 24) (length-part s 8 24 (omega arith)) (x .0);
+      starts-past = unused-all-are (4 * m) (part s (start-place n) (4 * m)) (length-part s (start-place n) (4 * m) (omega arith)) (y .0);
+      entries-past = unused-all-are (16 * m) (part s (entry-place half n) (16 * m)) (length-part s (entry-place half n) (16 * m) (omega arith)) (y .1);
+    }
+
+-- a page that is read and written again is as it was
+pub tree-of : (half : ℕ) (s : List ℕ) → length s ≡ page-size half → Bytes s → number-of s ≤ capacity half → unused-ok half s ≡ true
+    → tree-bytes half (level-of s) (entries-of half s) ≡ s
+unfolding page-bytes starts entries entries-of level-of number-of
+tree-of half s l b within ok =
+    let n : ℕ = number-of s in
+    let room : ℕ = capacity half in
+    let x : ℕ → Entry = λ i. entry-at half s i in
+    let u : Unused half s n = unused-ok-parts half s l within ok in
+    let t : top (level-of s) n ≡ part s 0 32
+    = part-pieces s 0 4 4 28 refl (u32 .bytes-at s 0 b (omega arith)) (part-pieces s 4 4 8 24 refl (u32 .bytes-at s 4 b (omega arith)) (sym (u .gap))) in
+    let f : run start-bytes 4 room (listed n x) ≡ part s 32 (4 * room)
+    = run-parts start-bytes 4 length-start-bytes room s 32 n x within (λ i h. start-bytes-at half s i b (omega arith)) (u .starts-past) in
+    let e : run entry-bytes 16 room (listed n x) ≡ part s (32 + 4 * room) (16 * room)
+    = run-parts entry-bytes 16 length-entry-bytes room s (32 + 4 * room) n x within (λ i h. entry-bytes-at half s i b (omega arith)) (u .entries-past) in
+    ap (λ k. tree-bytes half (level-of s) (listed k x)) (min-eq-left within)
+    ∙ tree-page half (level-of s) (listed n x)
+    ∙ ap (λ k. page-bytes half (level-of s) k (listed n x)) (length-listed n x)
+    ∙ part-pieces s 0 32 32 (4 * room + 16 * room) refl t (part-pieces s 32 (4 * room) (32 + 4 * room) (16 * room) refl f e)
+    ∙ part-whole s (32 + (4 * room + 16 * room)) (omega arith)

@@ -1,0 +1,89 @@
+// The numbers of a tree page or a free page, read from its bytes one at a time.
+use super::Entry;
+use fields::read::get_i32;
+use fields::read::get_i64;
+use fields::read::get_u32;
+use rule::Pair;
+ghost use mathlib.Core.Path.{_≡_};
+ghost use Prim.Native.Nat.{_<_};
+ghost use lib.ListN.{length};
+ghost use Rattle.page.specs.Layout.{level-of, number-of, next-of, start-at, pair-at, child-at, entry-at};
+
+// The level of a tree page, or the mark of a free page.
+pub fn level_of(s: &[u8]) -> u32
+    requires { ⌜ length (now s) ≡ 512 ⌝ }
+    ensures { λ r. ⌜ r ≡ level-of (now (s .entry)) ⌝ }
+{
+    get_u32(s, 0)
+}
+
+// The number of entries that a tree page says it has: not yet compared with 24.
+pub fn number_of(s: &[u8]) -> u32
+    requires { ⌜ length (now s) ≡ 512 ⌝ }
+    ensures { λ r. ⌜ r ≡ number-of (now (s .entry)) ⌝ }
+{
+    get_u32(s, 4)
+}
+
+// The page behind a free page in the chain, 0 at its end.
+pub fn next_of(s: &[u8]) -> u32
+    requires { ⌜ length (now s) ≡ 512 ⌝ }
+    ensures { λ r. ⌜ r ≡ next-of (now (s .entry)) ⌝ }
+{
+    get_u32(s, 4)
+}
+
+// The start of the i-th entry.
+pub fn start_at(s: &[u8], i: usize) -> u32
+    requires { ⌜ (length (now s) ≡ 512) × (i < 24) ⌝ }
+    ensures { λ r. ⌜ r ≡ start-at (now (s .entry)) i ⌝ }
+{
+    get_u32(s, 32 + 4 * i)
+}
+
+// The sum of the i-th entry.
+pub fn sum_at(s: &[u8], i: usize) -> i64
+    requires { ⌜ (length (now s) ≡ 512) × (i < 24) ⌝ }
+    ensures { λ r. ⌜ r ≡ pair-at 12 (now (s .entry)) i .sum ⌝ }
+{
+    get_i64(s, 128 + 16 * i)
+}
+
+// The count of the i-th entry.
+pub fn count_at(s: &[u8], i: usize) -> i32
+    requires { ⌜ (length (now s) ≡ 512) × (i < 24) ⌝ }
+    ensures { λ r. ⌜ r ≡ pair-at 12 (now (s .entry)) i .count ⌝ }
+{
+    get_i32(s, 128 + 16 * i + 8)
+}
+
+// The sum and the count of the i-th entry.
+pub fn pair_at(s: &[u8], i: usize) -> Pair
+    requires { ⌜ (length (now s) ≡ 512) × (i < 24) ⌝ }
+    ensures { λ r. ⌜ r ≡ pair-at 12 (now (s .entry)) i ⌝ }
+{
+    Pair {
+        sum: sum_at(s, i),
+        count: count_at(s, i),
+    }
+}
+
+// The child page of the i-th entry, 0 in a leaf.
+pub fn child_at(s: &[u8], i: usize) -> u32
+    requires { ⌜ (length (now s) ≡ 512) × (i < 24) ⌝ }
+    ensures { λ r. ⌜ r ≡ child-at 12 (now (s .entry)) i ⌝ }
+{
+    get_u32(s, 128 + 16 * i + 12)
+}
+
+// The i-th entry.
+pub fn entry_at(s: &[u8], i: usize) -> Entry
+    requires { ⌜ (length (now s) ≡ 512) × (i < 24) ⌝ }
+    ensures { λ r. ⌜ r ≡ entry-at 12 (now (s .entry)) i ⌝ }
+{
+    Entry {
+        start: start_at(s, i),
+        pair: pair_at(s, i),
+        child: child_at(s, i),
+    }
+}
