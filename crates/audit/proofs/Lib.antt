@@ -1,0 +1,13 @@
+-- `Sums` and `Times` have the counting argument over numbers and lists. `Fitness`, `Spans` and `Levels` have what the tests of one page say. `Tree` and `Chain`
+-- have that no page stands twice in a fit tree or in a chain that ends. `Sound` has what soundness says by name, `Used` what follows for the pages below the
+-- high mark, and `Counting` the theorem.
+pub mod Sums
+pub mod Times
+pub mod Fitness
+pub mod Spans
+pub mod Levels
+pub mod Tree
+pub mod Chain
+pub mod Sound
+pub mod Used
+pub mod Counting

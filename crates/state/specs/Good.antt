@@ -1,0 +1,50 @@
+-- A sound image as tree and supply: what soundness gives, what every step keeps or every change restores, and what gives soundness
+-- back. Over half the capacity of a page. Assumes nothing.
+use Prim.Native.Nat.{ℕ, zero, suc, _+_, _*_, _≤_, _<_}
+use mathlib.Core.Path.{_≡_}
+use mathlib.Core.Bool.{Bool, true, false}
+use lib.Dec.{eqb}
+use lib.IntN.{natAbs}
+use Rattle.rule.specs.declared.Pair.{Pair}
+use Rattle.rule.specs.Time.{most-value, kind-ok, window-ok}
+use Rattle.rule.specs.Bounds.{value-or-none}
+use Rattle.page.specs.declared.Head.{Head}
+use Rattle.page.specs.Fit.{most-changes, most-height}
+use Rattle.image.specs.Images.{Image}
+use Rattle.tree.specs.Tree.{Ent, Kid, Tree}
+use Rattle.tree.specs.Cut.{State}
+use Rattle.tree.specs.Shape.{Formed, Leaf}
+use Rattle.tree.specs.Held.{All, Within, held}
+use Rattle.view.specs.View.{Shown}
+
+-- nothing is asked of a pair by itself
+abbrev pub Any : Pair → Type 0
+Any p = Unit {0}
+
+abbrev pub Value-or-none : Pair → Type 0
+Value-or-none p = value-or-none p ≡ true
+
+-- the pairs on every way from the root, for so many changes: "for kind 1 the absolute sums .. add to at most 1,000,000 × changes,
+-- absolute counts to at most changes; kinds 2 and 3 have (0, 0) or a value with 1"
+pub record Bounds (kind changes : ℕ) (T : Tree) : Type 0 where
+  pub sums : eqb kind 1 ≡ true → All (Within (λ p. natAbs (p .sum)) Any (most-value * changes) (T .level) 0) (T .ents)
+  pub counts : eqb kind 1 ≡ true → All (Within (λ p. natAbs (p .count)) Any changes (T .level) 0) (T .ents)
+  pub values : eqb kind 1 ≡ false → All (Within (λ p. 0) Value-or-none 0 (T .level) 0) (T .ents)
+
+-- the head's numbers, but for those that tree and supply show
+pub record Ranges (h : Head) : Type 0 where
+  pub pages-least : 2 ≤ h .pages
+  pub pages-most : h .pages ≤ 1024
+  pub mark-most : h .mark ≤ h .pages
+  pub kind-fits : kind-ok (h .kind) ≡ true
+  pub window-fits : window-ok (h .window) ≡ true
+  pub changes-most : h .changes ≤ most-changes
+
+-- Tree and supply as a sound image has them: "each page below the high mark except 0 is once in the tree or once in the chain"
+pub record Good (half : ℕ) (X : Image) (Y : State) : Type 0 where
+  pub shown : Shown X Y
+  pub formed : Formed half Leaf (Y .tree)
+  pub once : (p : ℕ) → 1 ≤ p → held p Y ≡ 1
+  pub head-apart : held 0 Y ≡ 0
+  pub bounds : Bounds (X .head .kind) (X .head .changes) (Y .tree)
+  pub ranges : Ranges (X .head)
