@@ -65,3 +65,7 @@ pub record Tree : Type 0 where
   pub level : ℕ
   pub root : ℕ
   pub ents : Ents level
+
+-- an instant's pair in a tree
+abbrev pub pair-at : (Pair → Pair → Pair) → Tree → ℕ → Pair
+pair-at _⊕_ T t = pair-in _⊕_ (T .level) t (T .ents)

@@ -1,0 +1,77 @@
+-- Consecutive entries: appended, parted, mapped. Assumes nothing.
+use Prim.Native.Nat.{ℕ, zero, suc, _≤_, _<_}
+use mathlib.Core.Path.{_≡_, refl}
+use mathlib.Core.Logic.{_⊎_, inl, inr}
+use mathlib.Core.Bool.{Bool, true, false, cond}
+use mathlib.Core.List.{List, [], _∷_, _++_}
+use native.Mathlib.Omega.{arith}
+use lib.Dec.{leb}
+use lib.ListN.{length, take, drop}
+use borrow.Author.Tests.{leb-true, leb-false, le-leb, lt-leb}
+use Rattle.page.specs.Entries.{at}
+use Rattle.steps.specs.Spread.{start-of}
+use Rattle.tree.specs.Tree.{Ent, bare}
+use Rattle.tree.specs.Shape.{Asked, Seg, done, more}
+
+pub le-or-lt : (a b : ℕ) → (a ≤ b) ⊎ (b < a)
+le-or-lt a b = go (leb a b) refl
+  where
+    go : (x : Bool) → leb a b ≡ x → (a ≤ b) ⊎ (b < a)
+    go true e = inl (leb-true a b e)
+    go false e = inr (leb-false a b e)
+
+-- the first k and the rest
+pub record Parted {A : Type 0} (Q : Asked A) (lo hi k : ℕ) (es : List (Ent A)) : Type 0 where
+  pub mid : ℕ
+  pub front : Seg Q lo mid (take k es)
+  pub back : Seg Q mid hi (drop k es)
+
+-- the later of two, as the last that starts at t or before
+pub from-yes : {A : Type 0} {a t : ℕ} (x y : A) → a ≤ t → cond (leb a t) x y ≡ x
+from-yes {a} {t} x y h = rw (le-leb a t h)
+
+pub from-no : {A : Type 0} {a t : ℕ} (x y : A) → t < a → cond (leb a t) x y ≡ y
+from-no {a} {t} x y h = rw (lt-leb a t h)
+
+module _ {A : Type 0} {Q : Asked A} where
+  pub seg-le : {lo hi : ℕ} {es : List (Ent A)} → Seg Q lo hi es → lo ≤ hi
+  seg-le done = omega arith
+  seg-le (more e lt q r) = omega (arith, seg-le r)
+
+  pub seg-lt : {lo hi : ℕ} {es : List (Ent A)} → Seg Q lo hi es → 0 < length es → lo < hi
+  seg-lt done n = omega arith
+  seg-lt (more e lt q r) n = omega (arith, seg-le r)
+
+  pub seg-some : {lo hi : ℕ} {es : List (Ent A)} → Seg Q lo hi es → lo < hi → 0 < length es
+  seg-some done lt = omega arith
+  seg-some (more e lt q r) h = omega arith
+
+  pub seg-one : {lo hi : ℕ} {x : Ent A} → x .entry .start ≡ lo → lo < hi → Q lo hi x → Seg Q lo hi (x ∷ [])
+  seg-one e lt q = more e lt q done
+
+  pub seg-append : {lo mid hi : ℕ} {xs ys : List (Ent A)} → Seg Q lo mid xs → Seg Q mid hi ys → Seg Q lo hi (xs ++ ys)
+  seg-append done t = t
+  seg-append (more e lt q r) t = more e lt q (seg-append r t)
+
+  pub seg-head : {lo hi : ℕ} {es : List (Ent A)} → Seg Q lo hi es → lo < hi → at (bare es) 0 .start ≡ lo
+  seg-head done lt = absurd (omega arith)
+  seg-head (more e lt q r) h = e
+
+  pub seg-start : {lo hi : ℕ} {es : List (Ent A)} → Seg Q lo hi es → start-of hi (bare es) ≡ lo
+  unfolding start-of
+  seg-start done = refl
+  seg-start (more e lt q r) = e
+
+  pub seg-part : {lo hi : ℕ} {es : List (Ent A)} (k : ℕ) → Seg Q lo hi es → Parted Q lo hi k es
+  seg-part {lo} zero s = record { mid = lo; front = done; back = s }
+  seg-part {lo} (suc k) done = record { mid = lo; front = done; back = done }
+  seg-part (suc k) (more e lt q r) =
+      let p = seg-part k r in
+      record { mid = p .mid; front = more e lt q (p .front); back = p .back }
+
+-- within the same bounds, by what holds of each entry within them
+pub seg-map : {A : Type 0} {Q R : Asked A} {lo hi : ℕ} {es : List (Ent A)}
+    → ((a b : ℕ) (x : Ent A) → lo ≤ a → b ≤ hi → Q a b x → R a b x) → Seg Q lo hi es → Seg R lo hi es
+seg-map f done = done
+seg-map {lo} {hi} f (more {mid} {x} e lt q r) =
+    more e lt (f lo mid x (omega arith) (omega (arith, seg-le r)) q) (seg-map (λ a b y l h. f a b y (omega arith) h) r)

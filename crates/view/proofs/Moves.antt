@@ -1,0 +1,235 @@
+-- What a write of a page leaves of what an image shows: what is below an entry, and the supply. Assumes nothing.
+use Prim.Native.Nat.{ℕ, zero, suc, _+_, _-_, _≤_, _<_}
+use mathlib.Core.Path.{_≡_, refl, sym, ap, _∙_, subst}
+use mathlib.Core.Bool.{Bool, true, false, cond}
+use mathlib.Core.List.{List, [], _∷_, _++_}
+use native.Mathlib.Omega.{arith}
+use lib.Dec.{eqb, leb}
+use lib.ListN.{length}
+use borrow.Author.Tests.{eq-eqb, ne-eqb, eqb-true, eqb-false, le-leb, leb-true, leb-false}
+use Rattle.page.specs.declared.Entry.{Entry}
+use Rattle.page.specs.declared.Head.{Head}
+use Rattle.image.specs.Images.{Image, Cell, tree, free, never-used, next-in}
+use Rattle.image.specs.Sound.{times}
+use Rattle.steps.specs.Supply.{entries, put, with-supply, spare, taken, given-back, spares, with-root}
+use Rattle.tree.specs.Tree.{Ent, Kid, Ents, bare, over, pages-under}
+use Rattle.tree.specs.Supply.{Supply, next-page, without-next, with-page}
+use Rattle.tree.specs.Held.{times-below, times-spare, All, all-none, all-more}
+use Rattle.view.specs.View.{Shows, Linked, ends, leads, Supplied}
+use Rattle.view.proofs.Lists.{cond-one, hit, hit-self, hit-is, hit-not, times-cons, times-none, under-suc, below-cons}
+
+-- ---- frames
+
+-- only pages that W counts differ
+abbrev pub Frame : (ℕ → Cell) → (ℕ → Cell) → (ℕ → ℕ) → Type 0
+Frame pages pages′ W = (q : ℕ) → W q ≡ 0 → pages′ q ≡ pages q
+
+pub put-at : (p : ℕ) (c : Cell) (X : Image) → put p c X .page p ≡ c
+unfolding put
+put-at p c X = rw (eq-eqb p p refl)
+
+pub put-else : (p : ℕ) (c : Cell) (X : Image) → Frame (X .page) (put p c X .page) (λ q. hit q p)
+unfolding put
+put-else p c X q h = rw (hit-not q p h)
+
+pub put-head : (p : ℕ) (c : Cell) (X : Image) → put p c X .head ≡ X .head
+unfolding put
+put-head p c X = refl
+
+-- ---- what is below an entry
+
+-- What holds of each entry goes on holding where no page below it is written.
+all-move : (l : ℕ) (W : ℕ → ℕ) (Q R : Ent (Kid l) → Type 0)
+    → ((x : Ent (Kid l)) → Q x → ((q : ℕ) → W q + times q (pages-under l x) ≤ 1) → R x)
+    → {es : Ents l}
+    → All Q es
+    → ((q : ℕ) → W q + times-below l q es ≤ 1)
+    → All R es
+all-move l W Q R f all-none h = all-none
+all-move l W Q R f (all-more {x} {xs} s a) h =
+    all-more (f x s (λ q. omega (arith, h q, below-cons l q x xs)))
+    (all-move l W Q R f a (λ q. omega (arith, h q, below-cons l q x xs)))
+
+pub shows-move : (l : ℕ) {pages pages′ : ℕ → Cell} (W : ℕ → ℕ) → Frame pages pages′ W
+    → (x : Ent (Kid l))
+    → Shows l pages x
+    → ((q : ℕ) → W q + times q (pages-under l x) ≤ 1)
+    → Shows l pages′ x
+unfolding Shows
+shows-move zero W frame x s h = tt
+shows-move (suc l) {pages} {pages′} W frame x s h =
+    let p = x .entry .child in (
+      frame p (omega (arith, h p, under-suc l p x, hit-self p)) ∙ s .0,
+      all-move l W (λ y. Shows l pages y) (λ y. Shows l pages′ y) (λ y s′ h′. shows-move l W frame y s′ h′) (s .1)
+          (λ q. omega (arith, h q, under-suc l q x)),
+    )
+
+pub all-shows : (l : ℕ) {pages pages′ : ℕ → Cell} (W : ℕ → ℕ) → Frame pages pages′ W
+    → {es : Ents l}
+    → All (λ y. Shows l pages y) es
+    → ((q : ℕ) → W q + times-below l q es ≤ 1)
+    → All (λ y. Shows l pages′ y) es
+all-shows l {pages} {pages′} W frame a h =
+    all-move l W (λ y. Shows l pages y) (λ y. Shows l pages′ y) (λ y s h′. shows-move l W frame y s h′) a h
+
+-- page p holds the entries of a list that is shown
+pub put-shows : (l : ℕ) (Z : Image) (e : Entry) (es : Ents l) → All (λ y. Shows l (Z .page) y) es
+    → ((q : ℕ) → hit q (e .child) + times-below l q es ≤ 1)
+    → Shows (suc l) (put (e .child) (tree l (bare es)) Z .page) (record { entry = e; kid = es })
+unfolding Shows
+put-shows l Z e es a h =
+    (put-at (e .child) (tree l (bare es)) Z, all-shows l (λ q. hit q (e .child)) (put-else (e .child) (tree l (bare es)) Z) a h)
+
+-- another entry that leads to the same page
+module _ (l : ℕ) (x : Ent (Kid l)) (e : Entry) (c : e .child ≡ x .entry .child) where
+  pub same-shows : (pages : ℕ → Cell) → Shows l pages x → Shows l pages (record { entry = e; kid = x .kid })
+  same-shows = go l x c
+    where
+      go : (l : ℕ) (x : Ent (Kid l)) → e .child ≡ x .entry .child → (pages : ℕ → Cell) → Shows l pages x → Shows l pages (record { entry = e; kid = x .kid })
+      go zero x c pages s = unfold Shows in tt
+      go (suc l) x c pages s = unfold Shows in (ap pages c ∙ s .0, s .1)
+
+  pub same-under : (q : ℕ) → times q (pages-under l (record { entry = e; kid = x .kid })) ≡ times q (pages-under l x)
+  same-under = go l x c
+    where
+      go : (l : ℕ) (x : Ent (Kid l)) → e .child ≡ x .entry .child → (q : ℕ) → times q (pages-under l (record { entry = e; kid = x .kid })) ≡ times q (pages-under l x)
+      go zero x c q = unfold pages-under in refl
+      go (suc l) x c q = unfold pages-under in ap (λ (p : ℕ). times q (p ∷ over (λ y. pages-under l y) (x .kid))) c
+
+-- ---- the head's numbers but those on free pages
+
+unfoldable pub lasting : Head → Head
+lasting h = with-supply 0 0 0 h
+
+-- ---- the supply
+
+pub linked-move : {pages pages′ : ℕ → Cell} (W : ℕ → ℕ) → Frame pages pages′ W
+    → {p : ℕ} {ps : List ℕ}
+    → Linked pages p ps
+    → ((q : ℕ) → W q + times q ps ≤ 1)
+    → Linked pages′ p ps
+linked-move W frame ends h = ends
+linked-move W frame (leads {p} {next} {ps} e r) h =
+    leads (frame p (omega (arith, h p, times-cons p p ps, hit-self p)) ∙ e)
+    (linked-move W frame r (λ q. omega (arith, h q, times-cons q p ps)))
+
+pub spare-from : (S : Supply) (q : ℕ) → S .mark ≤ q → times-spare q S ≡ times q (S .chain) + 1
+unfolding times-spare
+spare-from S q h = rw (le-leb (S .mark) q h)
+
+pub spare-chain : (S : Supply) (q : ℕ) → times q (S .chain) ≤ times-spare q S
+unfolding times-spare
+spare-chain S q = omega arith
+
+pub supplied-move : {X X′ : Image} {S : Supply} (W : ℕ → ℕ) → X′ .head ≡ X .head → Frame (X .page) (X′ .page) W
+    → Supplied X S
+    → ((q : ℕ) → W q + times-spare q S ≤ 1)
+    → Supplied X′ S
+supplied-move {X} {X′} {S} W e frame s h =
+    record {
+      length-true = ap (λ (g : Head). g .chain) e ∙ s .length-true;
+      linked =
+          subst (λ (p : ℕ). Linked (X′ .page) p (S .chain)) (sym (ap (λ (g : Head). g .free) e))
+          (linked-move W frame (s .linked) (λ q. omega (arith, h q, spare-chain S q)));
+      mark = ap (λ (g : Head). g .mark) e ∙ s .mark;
+      unused =
+          λ q m n.
+          let a : X′ .head .mark ≡ X .head .mark = ap (λ (g : Head). g .mark) e in
+          let b : X′ .head .pages ≡ X .head .pages = ap (λ (g : Head). g .pages) e in
+          frame q (omega (arith, h q, spare-from S q (omega (arith, s .mark)))) ∙ s .unused q (omega arith) (omega arith);
+    }
+
+pub put-supplied : {X : Image} {S : Supply} (p : ℕ) (c : Cell) → Supplied X S → ((q : ℕ) → hit q p + times-spare q S ≤ 1) → Supplied (put p c X) S
+put-supplied {X} p c s h = supplied-move (λ q. hit q p) (put-head p c X) (put-else p c X) s h
+
+-- from m on is m, or from the next on
+from-on : (q m : ℕ) → hit q m + cond (leb (suc m) q) 1 0 ≡ cond {A = ℕ} (leb m q) 1 0
+unfolding hit
+from-on q m = go (eqb q m) (leb (suc m) q) (leb m q) refl refl refl
+  where
+    go : (a b c : Bool) → eqb q m ≡ a → leb (suc m) q ≡ b → leb m q ≡ c → cond {A = ℕ} a 1 0 + cond b 1 0 ≡ cond c 1 0
+    go true true c e f g = absurd (omega (arith, eqb-true q m e, leb-true (suc m) q f))
+    go true false true e f g = refl
+    go true false false e f g = absurd (omega (arith, eqb-true q m e, leb-false m q g))
+    go false true true e f g = refl
+    go false true false e f g = absurd (omega (arith, leb-true (suc m) q f, leb-false m q g))
+    go false false true e f g = absurd (eqb-false q m e (omega (arith, leb-false (suc m) q f, leb-true m q g)))
+    go false false false e f g = refl
+
+pub spare-next : (q : ℕ) (S : Supply) → hit q (next-page S) + times-spare q (without-next S) ≡ times-spare q S
+unfolding next-page without-next times-spare
+spare-next q S = go (S .chain) (S .mark)
+  where
+    go : (c : List ℕ) (m : ℕ)
+        → hit q (next-page (record { chain = c; mark = m })) + times-spare q (without-next (record { chain = c; mark = m })) ≡ times-spare q (record { chain = c; mark = m })
+    go [] m = omega (arith, from-on q m, times-none q)
+    go (p ∷ ps) m = omega (arith, times-cons q p ps)
+
+linked-front : {pages : ℕ → Cell} {f p : ℕ} {ps : List ℕ} → Linked pages f (p ∷ ps) → f ≡ p
+linked-front (leads e r) = refl
+
+linked-next : {pages : ℕ → Cell} {f p : ℕ} {ps : List ℕ} → Linked pages f (p ∷ ps) → Linked pages (next-in (pages f)) ps
+unfolding next-in
+linked-next (leads e r) = rw e r
+
+-- the page taken, and the supply then
+pub spare-is : {X : Image} {S : Supply} → Supplied X S → spare X ≡ next-page S
+unfolding spare next-page
+spare-is {X} {S} s = go (S .chain) (S .mark) s
+  where
+    go : (c : List ℕ) (m : ℕ) → Supplied X (record { chain = c; mark = m }) → spare X ≡ next-page (record { chain = c; mark = m })
+    go [] m s = rw (eq-eqb (X .head .chain) 0 (s .length-true)) (s .mark)
+    go (p ∷ ps) m s = rw (ne-eqb (X .head .chain) 0 (λ e. omega (arith, s .length-true))) (linked-front (s .linked))
+
+pub taken-supplied : {X : Image} {S : Supply} → Supplied X S → Supplied (taken X) (without-next S)
+unfolding taken without-next with-supply
+taken-supplied {X} {S} s = go (S .chain) (S .mark) s
+  where
+    go : (c : List ℕ) (m : ℕ) → Supplied X (record { chain = c; mark = m }) → Supplied (taken X) (without-next (record { chain = c; mark = m }))
+    go [] m s =
+        rw (eq-eqb (X .head .chain) 0 (s .length-true))
+        (record { length-true = s .length-true; linked = s .linked; mark = ap suc (s .mark); unused = λ q a b. s .unused q (omega arith) b })
+    go (p ∷ ps) m s =
+        rw (ne-eqb (X .head .chain) 0 (λ e. omega (arith, s .length-true)))
+        (record { length-true = omega (arith, s .length-true); linked = linked-next (s .linked); mark = s .mark; unused = s .unused })
+
+pub taken-page : (X : Image) → taken X .page ≡ X .page
+unfolding taken
+taken-page X = refl
+
+pub taken-lasting : (X : Image) → lasting (taken X .head) ≡ lasting (X .head)
+unfolding taken lasting with-supply
+taken-lasting X = cond-one (λ (h : Head). lasting h ≡ lasting (X .head)) (eqb (X .head .chain) 0) (λ e. refl) (λ e. refl)
+
+pub given-supplied : {X : Image} {S : Supply} (p : ℕ) → Supplied X S → ((q : ℕ) → hit q p + times-spare q S ≤ 1) → Supplied (given-back p X) (with-page p S)
+unfolding given-back with-page with-supply put
+given-supplied {X} {S} p s h =
+    record {
+      length-true = ap suc (s .length-true);
+      linked =
+          leads (put-at p (free (X .head .free)) X)
+          (linked-move (λ q. hit q p) (put-else p (free (X .head .free)) X) (s .linked) (λ q. omega (arith, h q, spare-chain S q)));
+      mark = s .mark;
+      unused = λ q m n. put-else p (free (X .head .free)) X q (omega (arith, h q, spare-from S q (omega (arith, s .mark)))) ∙ s .unused q m n;
+    }
+
+pub given-else : (p : ℕ) (X : Image) → Frame (X .page) (given-back p X .page) (λ q. hit q p)
+unfolding given-back
+given-else p X q h = put-else p (free (X .head .free)) (record { head = with-supply p (suc (X .head .chain)) (X .head .mark) (X .head); page = X .page }) q h
+
+pub rooted-supplied : {X : Image} {S : Supply} (h p : ℕ) → Supplied X S → Supplied (with-root h p X) S
+unfolding with-root
+rooted-supplied h p s = record { length-true = s .length-true; linked = s .linked; mark = s .mark; unused = s .unused }
+
+module _ (h p : ℕ) (X : Image) where
+  pub rooted-page : with-root h p X .page ≡ X .page
+  unfolding with-root
+  rooted-page = refl
+
+  pub rooted-height : with-root h p X .head .height ≡ h
+  unfolding with-root
+  rooted-height = refl
+
+  pub rooted-root : with-root h p X .head .root ≡ p
+  unfolding with-root
+  rooted-root = refl

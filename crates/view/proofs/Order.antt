@@ -1,0 +1,179 @@
+-- Where entries follow each other with no gap, an effect is sent only to pages on the ways to the two ends of its span.
+-- Assumes nothing.
+use Prim.Native.Nat.{ℕ, zero, suc, _+_, _≤_, _<_}
+use mathlib.Core.Path.{_≡_, refl, sym, ap, _∙_}
+use mathlib.Core.Logic.{_⊎_, inl, inr, ⊎-elim}
+use mathlib.Core.Bool.{Bool, true, false, cond, _&&_, true≢false, false≢true}
+use mathlib.Core.List.{List, [], _∷_, _++_}
+use native.Mathlib.Omega.{arith}
+use lib.Dec.{leb, ltb}
+use lib.ListN.{length, getD}
+use borrow.Author.Tests.{leb-true, leb-false, ltb-true, le-leb, lt-leb}
+use Rattle.rule.specs.declared.Pair.{Pair}
+use Rattle.rule.specs.Time.{END}
+use Rattle.page.specs.declared.Entry.{Entry}
+use Rattle.page.specs.Entries.{last-from, place}
+use Rattle.image.specs.Images.{Image}
+use Rattle.image.specs.Sound.{times}
+use Rattle.steps.specs.Spread.{inside, meets, start-of, spread as spread-x}
+use Rattle.steps.specs.Change.{way, spread-names}
+use Rattle.tree.specs.Tree.{Ent, Kid, Ents, no-ent, bare}
+use Rattle.tree.specs.Shape.{Seg, done, more}
+use Rattle.tree.specs.Cut.{State, root-ent}
+use Rattle.tree.specs.Spread.{spread}
+use Rattle.view.specs.View.{Shown, Once, Stocked, Ordered}
+use Rattle.view.proofs.Lists.{cond-one, hit, times-cons, times-none, times-append}
+use Rattle.view.proofs.Ways.{there, way-in, way-top}
+use Rattle.view.proofs.Stepped.{Stepped, steady-of-same}
+use Rattle.view.proofs.Spread.{over-ends, sent-in, spread-root, spread-shown, spread-held}
+
+-- ---- the entry that has t
+
+one-more : (b : Bool) (i f : ℕ) → cond b (suc i) (suc f) ≡ suc (cond b i f)
+one-more true i f = refl
+one-more false i f = refl
+
+last-shift : (t i f : ℕ) (es : List Entry) → last-from t (suc i) (suc f) es ≡ suc (last-from t i f es)
+unfolding last-from
+last-shift t i f [] = refl
+last-shift t i f (e ∷ es) =
+    ap (λ (n : ℕ). last-from t (suc (suc i)) n es) (one-more (leb (e .start) t) i f)
+    ∙ last-shift t (suc i) (cond (leb (e .start) t) i f) es
+
+module _ {A : Type 0} {Q : ℕ → ℕ → Ent A → Type 0} where
+  -- none of them starts at t or before
+  last-none : (t i f : ℕ) {lo hi : ℕ} {es : List (Ent A)} → Seg Q lo hi es → t < lo → last-from t i f (bare es) ≡ f
+  unfolding last-from
+  last-none t i f done h = refl
+  last-none t i f (more {lo} {mid} {hi} {x} {es} e k q r) h =
+      ap (λ (b : Bool). last-from t (suc i) (cond b i f) (bare es)) (lt-leb (x .entry .start) t (omega arith)) ∙ last-none t (suc i) f r (omega arith)
+
+  -- the first of them does
+  last-some : (t i f g : ℕ) {lo hi : ℕ} {es : List (Ent A)} → Seg Q lo hi es → lo ≤ t → t < hi → last-from t i f (bare es) ≡ last-from t i g (bare es)
+  unfolding last-from
+  last-some t i f g done h k = absurd (omega arith)
+  last-some t i f g (more {lo} {mid} {hi} {x} {es} e m q r) h k =
+      let b : leb (x .entry .start) t ≡ true = le-leb (x .entry .start) t (omega arith) in
+      ap (λ (c : Bool). last-from t (suc i) (cond c i f) (bare es)) b ∙ sym (ap (λ (c : Bool). last-from t (suc i) (cond c i g) (bare es)) b)
+
+  seg-start : {lo hi : ℕ} {es : List (Ent A)} → Seg Q lo hi es → start-of hi (bare es) ≡ lo
+  unfolding start-of
+  seg-start done = refl
+  seg-start (more e k q r) = e
+
+  seg-le : {lo hi : ℕ} {es : List (Ent A)} → Seg Q lo hi es → lo ≤ hi
+  seg-le done = omega arith
+  seg-le (more e k q r) = let n = seg-le r in omega arith
+
+module _ (l t : ℕ) {Q : ℕ → ℕ → Ent (Kid l) → Type 0} {lo hi : ℕ} (x : Ent (Kid l)) {es : Ents l} (r : Seg Q lo hi es) where
+  there-first : t < lo → there l t (x ∷ es) ≡ x
+  unfolding place last-from
+  there-first h =
+      ap (λ (n : ℕ). getD (x ∷ es) n (no-ent l))
+      (last-none t 1 (cond (leb (x .entry .start) t) 0 0) r h ∙ cond-one (λ (n : ℕ). n ≡ 0) (leb (x .entry .start) t) (λ e. refl) (λ e. refl))
+
+  there-later : lo ≤ t → t < hi → there l t (x ∷ es) ≡ there l t es
+  unfolding place last-from
+  there-later h k =
+      ap (λ (n : ℕ). getD (x ∷ es) n (no-ent l))
+      (last-some t 1 (cond (leb (x .entry .start) t) 0 0) 1 r h k ∙ last-shift t 0 0 (bare es))
+
+-- ---- pages that are not on the ways
+
+-- No page counts q if none of an entry does, told of the entry that it is the one that has the instants of its span.
+ends-zero : (l q : ℕ) (f : ℕ → Ent (Kid l) → List ℕ) {Q : ℕ → ℕ → Ent (Kid l) → Type 0} {lo hi : ℕ} {es : Ents l} → Seg Q lo hi es
+    → ((a b : ℕ) (y : Ent (Kid l)) → Q a b y → y .entry .start ≡ a → lo ≤ a → a < b → b ≤ hi → ((t : ℕ) → a ≤ t → t < b → there l t es ≡ y) → times q (f b y) ≡ 0)
+    → times q (over-ends f hi es) ≡ 0
+unfolding over-ends
+ends-zero l q f done each = times-none q
+ends-zero l q f (more {lo} {mid} {hi} {x} {es} e k p r) each =
+    let n : mid ≤ hi = seg-le r in
+    let a : times q (f (start-of hi (bare es)) x) ≡ 0 =
+    rw (seg-start r) (each lo mid x p e (omega arith) k n (λ t _ h. there-first l t x r h)) in
+    let b : times q (over-ends f hi es) ≡ 0 =
+    ends-zero l q f r (λ a b y p e h i m th. each a b y p e (omega arith) i m (λ t i j. there-later l t x r (omega arith) (omega arith) ∙ th t i j)) in
+    omega (arith, times-append q (f (start-of hi (bare es)) x) (over-ends f hi es))
+
+-- an entry that an effect is sent through has an end of the span inside
+partly : (s e lo hi : ℕ) → inside s e lo hi ≡ false → meets s e lo hi ≡ true → ((lo < s) × (s < hi)) ⊎ ((lo < e) × (e < hi))
+unfolding inside meets
+partly s e lo hi = go (leb s lo) (leb hi e) (ltb lo e) (ltb s hi) refl refl refl refl
+  where
+    go : (a b c d : Bool) → leb s lo ≡ a → leb hi e ≡ b → ltb lo e ≡ c → ltb s hi ≡ d → a && b ≡ false → c && d ≡ true → ((lo < s) × (s < hi)) ⊎ ((lo < e) × (e < hi))
+    go a b true true i j k m x y = ends a b i j x
+      where
+        ends : (a b : Bool) → leb s lo ≡ a → leb hi e ≡ b → a && b ≡ false → ((lo < s) × (s < hi)) ⊎ ((lo < e) × (e < hi))
+        ends false b i j x = inl (leb-false s lo i, ltb-true s hi m)
+        ends true false i j x = inr (ltb-true lo e k, leb-false hi e j)
+        ends true true i j x = absurd (true≢false x)
+    go a b true false i j k m x y = absurd (false≢true y)
+    go a b false d i j k m x y = absurd (false≢true y)
+
+module _ (s e q : ℕ) where
+  -- q is not on the way to t below an entry from lo to hi
+  abbrev Off : (t l lo hi : ℕ) → Ent (Kid l) → Type 0
+  Off t l lo hi x = lo < t → t < hi → times q (way-in t l x) ≡ 0
+
+  abbrev Clear : (l : ℕ) → Type 0
+  Clear l = (lo hi : ℕ) (x : Ent (Kid l)) → Ordered l lo hi x → x .entry .start ≡ lo → lo < hi → Off s l lo hi x → Off e l lo hi x → times q (sent-in s e l hi x) ≡ 0
+
+  below-clear : (l lo hi : ℕ) (es : Ents l) → Seg (λ a b y. Ordered l a b y) lo hi es → Clear l
+      → Off s l lo hi (there l s es)
+      → Off e l lo hi (there l e es)
+      → times q (over-ends (λ h y. sent-in s e l h y) hi es) ≡ 0
+  below-clear l lo hi es r clear off-s off-e =
+      ends-zero l q (λ h y. sent-in s e l h y) r
+      (λ a b y o st h k m th.
+      clear a b y o st k
+      (λ i j. ap (λ z. times q (way-in s l z)) (sym (th s (omega arith) j)) ∙ off-s (omega arith) (omega arith))
+      (λ i j. ap (λ z. times q (way-in e l z)) (sym (th e (omega arith) j)) ∙ off-e (omega arith) (omega arith)))
+
+  off-below : (t l lo hi : ℕ) (x : Ent (Kid (suc l))) → Off t (suc l) lo hi x → Off t l lo hi (there l t (x .kid))
+  unfolding way-in
+  off-below t l lo hi x off i j = omega (arith, off i j, times-cons q (x .entry .child) (way-in t l (there l t (x .kid))))
+
+  off-here : (t l lo hi : ℕ) (x : Ent (Kid (suc l))) → Off t (suc l) lo hi x → lo < t → t < hi → hit q (x .entry .child) ≡ 0
+  unfolding way-in
+  off-here t l lo hi x off i j = omega (arith, off i j, times-cons q (x .entry .child) (way-in t l (there l t (x .kid))))
+
+  sent-clear : (l : ℕ) → Clear l
+  unfolding sent-in Ordered
+  sent-clear zero lo hi x o st k off-s off-e = times-none q
+  sent-clear (suc l) lo hi x o st k off-s off-e =
+      let below = over-ends (λ h y. sent-in s e l h y) hi (x .kid) in
+      let b : times q below ≡ 0 = below-clear l lo hi (x .kid) o (λ lo hi x. sent-clear l lo hi x) (off-below s l lo hi x off-s) (off-below e l lo hi x off-e) in
+      let none : (ps : List ℕ) → Type 0 = λ ps. times q ps ≡ 0 in
+      rw st
+      (cond-one none (inside s e lo hi) (λ h. times-none q)
+      (λ h. cond-one none (meets s e lo hi)
+      (λ m.
+      let c : hit q (x .entry .child) ≡ 0 =
+      ⊎-elim (λ p. off-here s l lo hi x off-s (p .0) (p .1)) (λ p. off-here e l lo hi x off-e (p .0) (p .1)) (partly s e lo hi h m) in
+      omega (arith, times-cons q (x .entry .child) below))
+      (λ m. times-none q)))
+
+-- ---- from the root
+
+pub spread-is : (half : ℕ) (_⊕_ : Pair → Pair → Pair) (s e : ℕ) (effect : Pair) (X : Image) (Y : State) → Shown X Y → Once Y
+    → Stocked (suc (Y .tree .level)) (root-ent (Y .tree))
+    → Ordered (suc (Y .tree .level)) 0 END (root-ent (Y .tree))
+    → Stepped X (spread-x _⊕_ s e effect X) Y (spread _⊕_ s e effect Y) (spread-names half _⊕_ s e X)
+unfolding spread-names way-in Ordered root-ent
+spread-is half _⊕_ s e effect X Y sh once stock order =
+    let l = Y .tree .level in
+    let es = Y .tree .ents in
+    let U = over-ends (λ h y. sent-in s e l h y) END es in
+    let d = spread-root _⊕_ s e effect X Y sh once in
+    record {
+      shown = spread-shown _⊕_ s e effect X Y sh once;
+      same-held = spread-held _⊕_ s e effect X Y sh once;
+      frame = λ q h.
+          let a : times q (way s X) ≡ hit q (Y .tree .root) + times q (way-in s l (there l s es)) =
+          ap (λ (ps : List ℕ). times q ps) (way-top s X Y sh stock) ∙ times-cons q (Y .tree .root) (way-in s l (there l s es)) in
+          let b : times q (way e X) ≡ hit q (Y .tree .root) + times q (way-in e l (there l e es)) =
+          ap (λ (ps : List ℕ). times q ps) (way-top e X Y sh stock) ∙ times-cons q (Y .tree .root) (way-in e l (there l e es)) in
+          let c : times q (way s X ++ way e X) ≡ times q (way s X) + times q (way e X) = times-append q (way s X) (way e X) in
+          let u : times q U ≡ 0 = below-clear s e q l 0 END es order (sent-clear s e q l) (λ i j. omega arith) (λ i j. omega arith) in
+          d .frame q (omega (arith, times-cons q (Y .tree .root) U));
+      steady = steady-of-same (d .head);
+    }

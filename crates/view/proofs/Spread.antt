@@ -1,0 +1,260 @@
+-- Combining an effect into a span does to the tree that an image shows what it does to trees. Assumes nothing.
+use Prim.Native.Nat.{ℕ, zero, suc, _+_, _-_, _≤_, _<_}
+use mathlib.Core.Path.{_≡_, refl, sym, ap, _∙_, subst}
+use mathlib.Core.Bool.{Bool, true, false, cond}
+use mathlib.Core.List.{List, [], _∷_, _++_, map}
+use native.Mathlib.Omega.{arith}
+use lib.ListN.{length}
+use Rattle.rule.specs.declared.Pair.{Pair}
+use Rattle.rule.specs.Time.{END}
+use Rattle.page.specs.declared.Entry.{Entry}
+use Rattle.page.specs.declared.Head.{Head}
+use Rattle.page.specs.Entries.{entry}
+use Rattle.image.specs.Images.{Image, Cell, tree}
+use Rattle.image.specs.Sound.{times}
+use Rattle.steps.specs.Supply.{entries, put}
+use Rattle.steps.specs.Spread.{inside, meets, start-of, took, sent, spread-entries, spread-over, spread-page, spread as spread-x}
+use Rattle.tree.specs.Tree.{Ent, Kid, Ents, bare, pages-under, Tree}
+use Rattle.tree.specs.Cut.{State, root-ent}
+use Rattle.tree.specs.Spread.{with-ends, spread-ent, spread-ents, spread}
+use Rattle.tree.specs.Held.{times-below, times-spare, All, all-none, all-more, held}
+use Rattle.view.specs.View.{Shows, Supplied, Shown, Once, Stocked}
+use Rattle.view.proofs.Lists.{cond-both, cond-one, hit, hit-self, times-cons, times-none, times-append, under-zero, under-suc, below-none, below-cons, all-head, all-tail}
+use Rattle.view.proofs.Moves.{Frame, put-at, put-else, put-head, shows-move, all-shows, put-shows, same-shows, same-under, supplied-move}
+use Rattle.view.proofs.Stepped.{held-is, once-is}
+use Rattle.view.proofs.Ways.{entries-are, kids-shown}
+
+-- What a step does to an entry and the pages below it, W the pages that may be written. The head stays.
+pub record Sent (l : ℕ) (X X′ : Image) (x x′ : Ent (Kid l)) (W : List ℕ) : Type 0 where
+  pub shows : Shows l (X′ .page) x′
+  pub frame : Frame (X .page) (X′ .page) (λ q. times q W)
+  pub head : X′ .head ≡ X .head
+  pub pages : (q : ℕ) → times q (pages-under l x′) ≡ times q (pages-under l x)
+
+-- the same of a list of entries
+pub record Walked (l : ℕ) (X X′ : Image) (es es′ : Ents l) (W : List ℕ) : Type 0 where
+  pub shows : All (λ y. Shows l (X′ .page) y) es′
+  pub frame : Frame (X .page) (X′ .page) (λ q. times q W)
+  pub head : X′ .head ≡ X .head
+  pub pages : (q : ℕ) → times-below l q es′ ≡ times-below l q es
+
+-- the pages of each entry and its end, one after the other
+unfoldable pub over-ends : {A : Type 0} → (ℕ → Ent A → List ℕ) → ℕ → List (Ent A) → List ℕ
+over-ends f hi [] = []
+over-ends f hi (x ∷ xs) = f (start-of hi (bare xs)) x ++ over-ends f hi xs
+
+-- the pages written below an entry that ends at hi
+unfoldable pub sent-in : (s e l : ℕ) → ℕ → Ent (Kid l) → List ℕ
+sent-in s e zero hi x = []
+sent-in s e (suc l) hi x =
+    cond (inside s e (x .entry .start) hi) []
+    (cond (meets s e (x .entry .start) hi) (x .entry .child ∷ over-ends (λ h y. sent-in s e l h y) hi (x .kid)) [])
+
+ends-within : (s e l q : ℕ) → ((hi : ℕ) (x : Ent (Kid l)) → times q (sent-in s e l hi x) ≤ times q (pages-under l x))
+    → (hi : ℕ) (es : Ents l)
+    → times q (over-ends (λ h y. sent-in s e l h y) hi es) ≤ times-below l q es
+unfolding over-ends
+ends-within s e l q within hi [] = omega (arith, times-none q)
+ends-within s e l q within hi (x ∷ xs) =
+    let end = start-of hi (bare xs) in
+    let r : times q (over-ends (λ h y. sent-in s e l h y) hi xs) ≤ times-below l q xs = ends-within s e l q within hi xs in
+    omega (arith, times-append q (sent-in s e l end x) (over-ends (λ h y. sent-in s e l h y) hi xs), within end x, below-cons l q x xs)
+
+sent-within : (s e l q hi : ℕ) (x : Ent (Kid l)) → times q (sent-in s e l hi x) ≤ times q (pages-under l x)
+unfolding sent-in
+sent-within s e zero q hi x = omega (arith, times-none q)
+sent-within s e (suc l) q hi x =
+    let below = over-ends (λ h y. sent-in s e l h y) hi (x .kid) in
+    let r : times q below ≤ times-below l q (x .kid) = ends-within s e l q (λ h y. sent-within s e l q h y) hi (x .kid) in
+    let few : (ps : List ℕ) → Type 0 = λ ps. times q ps ≤ times q (pages-under (suc l) x) in
+    cond-one few (inside s e (x .entry .start) hi) (λ h. omega (arith, times-none q))
+    (λ h. cond-one few (meets s e (x .entry .start) hi)
+    (λ h. omega (arith, times-cons q (x .entry .child) below, under-suc l q x)) (λ h. omega (arith, times-none q)))
+
+module _ (_⊕_ : Pair → Pair → Pair) (s e : ℕ) (effect : Pair) where
+  -- what a page of level l sends below
+  unfoldable below-of : ℕ → ℕ → ℕ → Image → Image
+  below-of zero end q Y = Y
+  below-of (suc l) end q Y = spread-page _⊕_ s e effect l end q Y
+
+  page-over : (l hi p : ℕ) (X : Image) → spread-page _⊕_ s e effect l hi p X ≡ spread-over _⊕_ s e effect l (below-of l) hi p X
+  unfolding spread-page below-of
+  page-over zero hi p X = refl
+  page-over (suc l) hi p X = refl
+
+  took-child : (hi : ℕ) (x : Entry) → took _⊕_ s e effect hi x .child ≡ x .child
+  unfolding took
+  took-child hi x = cond-one (λ (y : Entry). y .child ≡ x .child) (inside s e (x .start) hi) (λ e. refl) (λ e. refl)
+
+  entry-same : (l hi : ℕ) (x : Ent (Kid l)) → spread-ent _⊕_ s e effect l hi x .entry ≡ took _⊕_ s e effect hi (x .entry)
+  unfolding spread-ent
+  entry-same zero hi x = refl
+  entry-same (suc l) hi x = refl
+
+  abbrev pub new : (l hi : ℕ) → Ents l → Ents l
+  new l hi es = with-ends (λ h y. spread-ent _⊕_ s e effect l h y) hi es
+
+  became-is : (l hi : ℕ) (es : Ents l) (X : Image) → spread-entries _⊕_ s e effect (below-of l) hi (bare es) X .became ≡ bare (new l hi es)
+  unfolding spread-entries with-ends
+  became-is l hi [] X = refl
+  became-is l hi (x ∷ xs) X =
+      let end = start-of hi (bare xs) in
+      ap (λ (r : List Entry). took _⊕_ s e effect end (x .entry) ∷ r) (became-is l hi xs (sent _⊕_ s e effect (below-of l) end (x .entry) X))
+      ∙ ap (λ (y : Entry). y ∷ bare (new l hi xs)) (sym (entry-same l end x))
+
+  abbrev SentIs : (l hi : ℕ) → Ent (Kid l) → Image → Type 0
+  SentIs l hi x X = Sent l X (sent _⊕_ s e effect (below-of l) hi (x .entry) X) x (spread-ent _⊕_ s e effect l hi x) (sent-in s e l hi x)
+
+  abbrev WalkIs : (l hi : ℕ) → Ents l → Image → Type 0
+  WalkIs l hi es X = Walked l X (spread-entries _⊕_ s e effect (below-of l) hi (bare es) X .image) es (new l hi es) (over-ends (λ h y. sent-in s e l h y) hi es)
+
+  walk-none : (l hi : ℕ) (X : Image) → WalkIs l hi [] X
+  unfolding spread-entries with-ends
+  walk-none l hi X = record { shows = all-none; frame = λ q h. refl; head = refl; pages = λ q. refl }
+
+  walk-more : (l hi : ℕ) (x : Ent (Kid l)) (xs : Ents l) (X : Image)
+      → All (λ y. Shows l (X .page) y) (x ∷ xs)
+      → ((q : ℕ) → times-below l q (x ∷ xs) ≤ 1)
+      → ((h : ℕ) → SentIs l h x X)
+      → ((Z : Image) → All (λ y. Shows l (Z .page) y) xs → WalkIs l hi xs Z)
+      → WalkIs l hi (x ∷ xs) X
+  unfolding spread-entries with-ends over-ends
+  walk-more l hi x xs X a once f g =
+      let end = start-of hi (bare xs) in
+      let Z = sent _⊕_ s e effect (below-of l) end (x .entry) X in
+      let x′ = spread-ent _⊕_ s e effect l end x in
+      let W = sent-in s e l end x in
+      let U = over-ends (λ h y. sent-in s e l h y) hi xs in
+      let u : SentIs l end x X = f end in
+      let v : WalkIs l hi xs Z =
+      g Z (all-shows l (λ q. times q W) (u .frame) (all-tail a) (λ q. omega (arith, once q, below-cons l q x xs, sent-within s e l q end x))) in
+      record {
+        shows =
+            all-more
+            (shows-move l (λ q. times q U) (v .frame) x′ (u .shows)
+            (λ q. omega (arith, once q, below-cons l q x xs, u .pages q, ends-within s e l q (λ h y. sent-within s e l q h y) hi xs)))
+            (v .shows);
+        frame = λ q h. v .frame q (omega (arith, h, times-append q W U)) ∙ u .frame q (omega (arith, h, times-append q W U));
+        head = v .head ∙ u .head;
+        pages = λ q. omega (arith, below-cons l q x xs, below-cons l q x′ (new l hi xs), u .pages q, v .pages q);
+      }
+
+  walk : (l hi : ℕ) → ((h : ℕ) (x : Ent (Kid l)) (X : Image) → Shows l (X .page) x → ((q : ℕ) → times q (pages-under l x) ≤ 1) → SentIs l h x X)
+      → (es : Ents l) (X : Image)
+      → All (λ y. Shows l (X .page) y) es
+      → ((q : ℕ) → times-below l q es ≤ 1)
+      → WalkIs l hi es X
+  walk l hi each [] X a once = walk-none l hi X
+  walk l hi each (x ∷ xs) X a once =
+      walk-more l hi x xs X a once (λ h. each h x X (all-head a) (λ q. omega (arith, once q, below-cons l q x xs)))
+      (λ Z b. walk l hi each xs Z b (λ q. omega (arith, once q, below-cons l q x xs)))
+
+  -- a page and the entries below it
+  paged : (l hi : ℕ) (x : Ent (Kid (suc l))) (X : Image) → Shows (suc l) (X .page) x → ((q : ℕ) → times q (pages-under (suc l) x) ≤ 1)
+      → WalkIs l hi (x .kid) X
+      → Sent (suc l) X (spread-page _⊕_ s e effect l hi (x .entry .child) X) x (record { entry = x .entry; kid = new l hi (x .kid) }) (x .entry .child ∷ over-ends (λ h y. sent-in s e l h y) hi (x .kid))
+  unfolding spread-over
+  paged l hi x X shown once w =
+      rw (page-over l hi (x .entry .child) X, entries-are l X x shown, became-is l hi (x .kid) X)
+      (go (spread-entries _⊕_ s e effect (below-of l) hi (bare (x .kid)) X .image) w)
+    where
+      go : (Z : Image) → Walked l X Z (x .kid) (new l hi (x .kid)) (over-ends (λ h y. sent-in s e l h y) hi (x .kid))
+          → Sent (suc l) X (put (x .entry .child) (tree l (bare (new l hi (x .kid)))) Z) x (record { entry = x .entry; kid = new l hi (x .kid) }) (x .entry .child ∷ over-ends (λ h y. sent-in s e l h y) hi (x .kid))
+      go Z w =
+          let p = x .entry .child in
+          let c = tree l (bare (new l hi (x .kid))) in
+          let U = over-ends (λ h y. sent-in s e l h y) hi (x .kid) in
+          record {
+            shows = put-shows l Z (x .entry) (new l hi (x .kid)) (w .shows) (λ q. omega (arith, once q, under-suc l q x, w .pages q));
+            frame = λ q h. put-else p c Z q (omega (arith, h, times-cons q p U)) ∙ w .frame q (omega (arith, h, times-cons q p U));
+            head = put-head p c Z ∙ w .head;
+            pages = λ q. omega (arith, under-suc l q x, under-suc l q (record { entry = x .entry; kid = new l hi (x .kid) }), w .pages q);
+          }
+
+  -- an entry, by what it sends below
+  sent-none : (hi : ℕ) (x : Ent (Kid 0)) (X : Image) → SentIs 0 hi x X
+  unfolding sent below-of Shows
+  sent-none hi x X =
+      let still : (Z : Image) → Type 0 = λ Z. Sent 0 X Z x (spread-ent _⊕_ s e effect 0 hi x) (sent-in s e 0 hi x) in
+      let same : still X = record { shows = tt; frame = λ q h. refl; head = refl; pages = λ q. omega (arith, under-zero q x, under-zero q (spread-ent _⊕_ s e effect 0 hi x)) } in
+      cond-one still (inside s e (x .entry .start) hi) (λ h. same) (λ h. cond-one still (meets s e (x .entry .start) hi) (λ h. same) (λ h. same))
+
+  sent-up : (l hi : ℕ) (x : Ent (Kid (suc l))) (X : Image) → Shows (suc l) (X .page) x
+      → Sent (suc l) X (spread-page _⊕_ s e effect l hi (x .entry .child) X) x (record { entry = x .entry; kid = new l hi (x .kid) }) (x .entry .child ∷ over-ends (λ h y. sent-in s e l h y) hi (x .kid))
+      → SentIs (suc l) hi x X
+  unfolding sent below-of spread-ent sent-in
+  sent-up l hi x X shown w = go (inside s e (x .entry .start) hi) (meets s e (x .entry .start) hi)
+    where
+      E : Entry
+      E = took _⊕_ s e effect hi (x .entry)
+
+      c : E .child ≡ x .entry .child
+      c = took-child hi (x .entry)
+
+      still : Sent (suc l) X X x (record { entry = E; kid = x .kid }) []
+      still = record { shows = same-shows (suc l) x E c (X .page) shown; frame = λ q h. refl; head = refl; pages = same-under (suc l) x E c }
+
+      x′ : Ent (Kid (suc l))
+      x′ = record { entry = x .entry; kid = new l hi (x .kid) }
+
+      Z : Image
+      Z = spread-page _⊕_ s e effect l hi (x .entry .child) X
+
+      U : List ℕ
+      U = x .entry .child ∷ over-ends (λ h y. sent-in s e l h y) hi (x .kid)
+
+      below : Sent (suc l) X Z x (record { entry = E; kid = new l hi (x .kid) }) U
+      below =
+          record {
+            shows = same-shows (suc l) x′ E c (Z .page) (w .shows);
+            frame = w .frame;
+            head = w .head;
+            pages = λ q. same-under (suc l) x′ E c q ∙ w .pages q;
+          }
+
+      go : (a b : Bool) → Sent (suc l) X (cond a X (cond b Z X)) x (record { entry = E; kid = cond a (x .kid) (cond b (new l hi (x .kid)) (x .kid)) }) (cond a [] (cond b U []))
+      go true b = still
+      go false true = below
+      go false false = still
+
+  sent-is : (l hi : ℕ) (x : Ent (Kid l)) (X : Image) → Shows l (X .page) x → ((q : ℕ) → times q (pages-under l x) ≤ 1) → SentIs l hi x X
+  sent-is zero hi x X shown once = sent-none hi x X
+  sent-is (suc l) hi x X shown once =
+      sent-up l hi x X shown
+      (paged l hi x X shown once
+      (walk l hi (λ h y Z a b. sent-is l h y Z a b) (x .kid) X (kids-shown l X x shown) (λ q. omega (arith, once q, under-suc l q x))))
+
+  -- ---- from the root
+
+  module _ (X : Image) (Y : State) (sh : Shown X Y) (once : Once Y) where
+    pub spread-root : Sent (suc (Y .tree .level)) X (spread-x _⊕_ s e effect X) (root-ent (Y .tree)) (record { entry = root-ent (Y .tree) .entry; kid = new (Y .tree .level) END (Y .tree .ents) }) (Y .tree .root ∷ over-ends (λ h y. sent-in s e (Y .tree .level) h y) END (Y .tree .ents))
+    unfolding spread-x root-ent
+    spread-root =
+        let l = Y .tree .level in
+        let x = root-ent (Y .tree) in
+        let h : X .head .height - 1 ≡ l = omega (arith, sh .height) in
+        let few : (q : ℕ) → times q (pages-under (suc l) x) ≤ 1 = λ q. omega (arith, held-is q Y, once-is Y once q) in
+        let same : spread-page _⊕_ s e effect (X .head .height - 1) END (X .head .root) X ≡ spread-page _⊕_ s e effect l END (Y .tree .root) X =
+        ap (λ (n : ℕ). spread-page _⊕_ s e effect n END (X .head .root) X) h ∙ ap (λ (p : ℕ). spread-page _⊕_ s e effect l END p X) (sh .root) in
+        rw same
+        (paged l END x X (sh .below) few
+        (walk l END (λ h y Z a b. sent-is l h y Z a b) (Y .tree .ents) X (kids-shown l X x (sh .below)) (λ q. omega (arith, few q, under-suc l q x))))
+
+    pub spread-shown : Shown (spread-x _⊕_ s e effect X) (spread _⊕_ s e effect Y)
+    unfolding spread spread-ents root-ent
+    spread-shown =
+        let l = Y .tree .level in
+        let d = spread-root in
+        let U = over-ends (λ h y. sent-in s e l h y) END (Y .tree .ents) in
+        record {
+          height = ap (λ (h : Head). h .height) (d .head) ∙ sh .height;
+          root = ap (λ (h : Head). h .root) (d .head) ∙ sh .root;
+          below = d .shows;
+          supplied =
+              supplied-move (λ q. times q (Y .tree .root ∷ U)) (d .head) (d .frame) (sh .supplied)
+              (λ q. omega (arith, times-cons q (Y .tree .root) U, ends-within s e l q (λ h y. sent-within s e l q h y) END (Y .tree .ents), held-is q Y, under-suc l q (root-ent (Y .tree)), once-is Y once q));
+        }
+
+    pub spread-held : (q : ℕ) → held q (spread _⊕_ s e effect Y) ≡ held q Y
+    unfolding spread spread-ents root-ent
+    spread-held q = omega (arith, held-is q Y, held-is q (spread _⊕_ s e effect Y), spread-root .pages q)

@@ -1,0 +1,82 @@
+-- What every step does to an image and to the tree and supply that it shows. Assumes nothing.
+use Prim.Native.Nat.{ℕ, zero, suc, _+_, _≤_}
+use mathlib.Core.Path.{_≡_, refl, sym, ap, _∙_}
+use mathlib.Core.List.{List, [], _∷_, _++_, List·Memᴰ, List·Memᴰ·head, List·Memᴰ·tail}
+use native.Mathlib.Omega.{arith}
+use lib.Dec.{eqb}
+use Rattle.page.specs.declared.Head.{Head}
+use Rattle.image.specs.Images.{Image, Cell}
+use Rattle.image.specs.Sound.{times}
+use Rattle.steps.specs.Supply.{with-supply, with-root}
+use Rattle.tree.specs.Tree.{pages-under}
+use Rattle.tree.specs.Cut.{State, root-ent}
+use Rattle.tree.specs.Held.{times-spare, held}
+use Rattle.view.specs.View.{Shown, Once}
+use Rattle.view.proofs.Lists.{hit, hit-is, times-cons, times-none, times-append, under-suc}
+use Rattle.view.proofs.Moves.{Frame, lasting}
+
+-- the head's numbers that no step sets
+pub record Steady (h g : Head) : Type 0 where
+  pub pages : g .pages ≡ h .pages
+  pub kind : g .kind ≡ h .kind
+  pub window : g .window ≡ h .window
+  pub changes : g .changes ≡ h .changes
+
+pub steady-of : {h g : Head} → lasting g ≡ lasting h → Steady h g
+unfolding lasting with-supply
+steady-of e =
+    record {
+      pages = ap (λ (h : Head). h .pages) e;
+      kind = ap (λ (h : Head). h .kind) e;
+      window = ap (λ (h : Head). h .window) e;
+      changes = ap (λ (h : Head). h .changes) e;
+    }
+
+pub steady-of-same : {h g : Head} → g ≡ h → Steady h g
+steady-of-same e = steady-of (ap lasting e)
+
+pub steady-then : {h g f : Head} → Steady h g → Steady g f → Steady h f
+steady-then a b =
+    record {
+      pages = b .pages ∙ a .pages;
+      kind = b .kind ∙ a .kind;
+      window = b .window ∙ a .window;
+      changes = b .changes ∙ a .changes;
+    }
+
+-- From X to X′, on trees from Y to Y′: what is shown, the pages held, and the pages that may differ.
+pub record Stepped (X X′ : Image) (Y Y′ : State) (names : List ℕ) : Type 0 where
+  pub shown : Shown X′ Y′
+  pub same-held : (q : ℕ) → held q Y′ ≡ held q Y
+  pub frame : Frame (X .page) (X′ .page) (λ q. times q names)
+  pub steady : Steady (X .head) (X′ .head)
+
+pub once-after : {X X′ : Image} {Y Y′ : State} {names : List ℕ} → Stepped X X′ Y Y′ names → Once Y → Once Y′
+unfolding Once
+once-after d once q = omega (arith, d .same-held q, once q)
+
+-- a page that no list names is counted nowhere
+pub absent : (q : ℕ) (names : List ℕ) → ¬ List·Memᴰ q names → times q names ≡ 0
+absent q [] h = times-none q
+absent q (p ∷ ps) h =
+    let r : times q ps ≡ 0 = absent q ps (λ m. h (List·Memᴰ·tail m)) in
+    let z : hit q p ≡ 0 = none (hit q p) refl in
+    omega (arith, times-cons q p ps)
+  where
+    none : (n : ℕ) → hit q p ≡ n → hit q p ≡ 0
+    none zero e = e
+    none (suc n) e = absurd (h (List·Memᴰ·head (hit-is q p (omega arith))))
+
+pub unnamed : {X X′ : Image} {Y Y′ : State} {names : List ℕ} → Stepped X X′ Y Y′ names → (q : ℕ) → ¬ List·Memᴰ q names → X′ .page q ≡ X .page q
+unnamed {names = names} d q h = d .frame q (absent q names h)
+
+-- the pages held are the root, those below it, and those of the supply
+pub held-is : (q : ℕ) (Y : State) → held q Y ≡ times q (pages-under (suc (Y .tree .level)) (root-ent (Y .tree))) + times-spare q (Y .supply)
+unfolding held root-ent
+held-is q Y =
+    let T = Y .tree in
+    omega (arith, times-cons q (T .root) [], times-none q, under-suc (T .level) q (root-ent T))
+
+pub once-is : (Y : State) → Once Y → (q : ℕ) → held q Y ≤ 1
+unfolding Once
+once-is Y once q = once q

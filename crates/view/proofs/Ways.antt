@@ -1,0 +1,85 @@
+-- The way to an instant, on the tree: it is that of the image, and its pages are pages of the tree. Assumes nothing.
+use Prim.Native.Nat.{ℕ, zero, suc, _+_, _-_, _≤_, _<_}
+use mathlib.Core.Path.{_≡_, refl, sym, ap, _∙_}
+use mathlib.Core.List.{List, [], _∷_}
+use native.Mathlib.Omega.{arith}
+use lib.ListN.{length, getD, length-map, List·getD-map}
+use Rattle.page.specs.declared.Entry.{Entry}
+use Rattle.page.specs.Entries.{at, place}
+use Rattle.image.specs.Images.{Image, entries-in}
+use Rattle.image.specs.Sound.{times}
+use Rattle.steps.specs.Supply.{entries}
+use Rattle.steps.specs.Change.{way-from, way}
+use Rattle.tree.specs.Cut.{State, root-ent}
+use Rattle.tree.specs.Tree.{Ent, Kid, Ents, no-ent, bare, pages-under}
+use Rattle.tree.specs.Shape.{root-least}
+use Rattle.tree.specs.Held.{times-below, All}
+use Rattle.view.specs.View.{Shows, Shown, Stocked}
+use Rattle.view.proofs.Lists.{all-at, place-in, hit, times-cons, times-none, under-zero, under-suc, below-at}
+
+pub entries-are : (l : ℕ) (X : Image) (x : Ent (Kid (suc l))) → Shows (suc l) (X .page) x → entries X (x .entry .child) ≡ bare (x .kid)
+unfolding Shows entries entries-in
+entries-are l X x s = ap entries-in (s .0)
+
+pub kids-shown : (l : ℕ) (X : Image) (x : Ent (Kid (suc l))) → Shows (suc l) (X .page) x → All (λ y. Shows l (X .page) y) (x .kid)
+unfolding Shows
+kids-shown l X x s = s .1
+
+pub at-bare : (l : ℕ) (es : Ents l) (i : ℕ) → at (bare es) i ≡ getD es i (no-ent l) .entry
+at-bare l es i = List·getD-map (λ x. x .entry) es i (no-ent l)
+
+least-one : (l : ℕ) → 1 ≤ root-least l
+unfolding root-least
+least-one zero = omega arith
+least-one (suc l) = omega arith
+
+-- the entry that has t
+abbrev pub there : (l t : ℕ) → Ents l → Ent (Kid l)
+there l t es = getD es (place t (bare es)) (no-ent l)
+
+module _ (l t : ℕ) (x : Ent (Kid (suc l))) (k : Stocked (suc l) x) where
+  pub has-place : place t (bare (x .kid)) < length (x .kid)
+  unfolding Stocked
+  has-place =
+      let n : length (bare (x .kid)) ≡ length (x .kid) = length-map (x .kid) (λ y. y .entry) in
+      let h : place t (bare (x .kid)) < length (bare (x .kid)) = place-in t (bare (x .kid)) (omega (arith, least-one l, k .0)) in
+      omega arith
+
+  pub stocked-on : Stocked l (there l t (x .kid))
+  unfolding Stocked
+  stocked-on = all-at (place t (bare (x .kid))) (no-ent l) (k .1) has-place
+
+  pub shows-on : (X : Image) → Shows (suc l) (X .page) x → Shows l (X .page) (there l t (x .kid))
+  unfolding Shows
+  shows-on X s = all-at (place t (bare (x .kid))) (no-ent l) (s .1) has-place
+
+-- the pages on the way to t below an entry
+unfoldable pub way-in : ℕ → (l : ℕ) → Ent (Kid l) → List ℕ
+way-in t zero x = []
+way-in t (suc l) x = x .entry .child ∷ way-in t l (there l t (x .kid))
+
+pub way-is : (t l : ℕ) (X : Image) (x : Ent (Kid (suc l))) → Stocked (suc l) x → Shows (suc l) (X .page) x → way-from t l (x .entry .child) X ≡ way-in t (suc l) x
+unfolding way-from way-in
+way-is t zero X x k s = refl
+way-is t (suc l) X x k s =
+    let y = there (suc l) t (x .kid) in
+    let e : at (entries X (x .entry .child)) (place t (entries X (x .entry .child))) ≡ y .entry = rw (entries-are (suc l) X x s) (at-bare (suc l) (x .kid) (place t (bare (x .kid)))) in
+    ap (λ (b : Entry). x .entry .child ∷ way-from t l (b .child) X) e
+    ∙ ap (λ (r : List ℕ). x .entry .child ∷ r) (way-is t l X y (stocked-on (suc l) t x k) (shows-on (suc l) t x k X s))
+
+-- the way from the root
+pub way-top : (t : ℕ) (X : Image) (Y : State) → Shown X Y → Stocked (suc (Y .tree .level)) (root-ent (Y .tree)) → way t X ≡ way-in t (suc (Y .tree .level)) (root-ent (Y .tree))
+unfolding way root-ent
+way-top t X Y sh k =
+    let e : X .head .height - 1 ≡ Y .tree .level = omega (arith, sh .height) in
+    ap (λ (n : ℕ). way-from t n (X .head .root) X) e
+    ∙ ap (λ (p : ℕ). way-from t (Y .tree .level) p X) (sh .root)
+    ∙ way-is t (Y .tree .level) X (root-ent (Y .tree)) k (sh .below)
+
+pub way-below : (q t l : ℕ) (x : Ent (Kid l)) → Stocked l x → times q (way-in t l x) ≤ times q (pages-under l x)
+unfolding way-in
+way-below q t zero x k = omega (arith, times-none q, under-zero q x)
+way-below q t (suc l) x k =
+    let y = there l t (x .kid) in
+    let r : times q (way-in t l y) ≤ times q (pages-under l y) = way-below q t l y (stocked-on l t x k) in
+    omega (arith, times-cons q (x .entry .child) (way-in t l y), under-suc l q x, below-at l q (place t (bare (x .kid))) (x .kid) (no-ent l) (has-place l t x k))
