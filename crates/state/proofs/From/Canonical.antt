@@ -1,0 +1,141 @@
+-- The bytes of a sound image are those of its head and cells: nothing stands in it that they do not show. Assumes nothing.
+use Prim.Native.Nat.{ℕ, zero, suc, _+_, _*_, _-_, _≤_, _<_}
+use mathlib.Core.Path.{_≡_, sym, ap, _∙_}
+use mathlib.Core.Bool.{true, and-eq-true-iff}
+use mathlib.Core.List.{List, []}
+use native.Mathlib.Nat.{mul-zero, mul-suc, add-comm}
+use native.Mathlib.Omega.{arith}
+use native.Mathlib.Decide.{ℕ-discrete, decLe}
+use lib.ListN.{length}
+use lib.Dec.{eqb}
+use Rattle.fields.specs.Bytes.{part}
+use Rattle.fields.proofs.Laws.Parts.{part-whole}
+use Rattle.fields.proofs.Laws.Digits.{Bytes, bytes-part}
+use Rattle.fields.proofs.Laws.Tests.{length-unused}
+use Rattle.page.specs.declared.Head.{Head}
+use Rattle.page.specs.Layout.{page-size, level-of, number-of, child-at, entries-of, next-of, free-level, never-used-ok, free-ok, head-bytes, listed, joined}
+use Rattle.page.specs.Fit.{Place, root-place, place-below, head-fit}
+use Rattle.page.proofs.Laws.Joined.{joined-parts}
+use Rattle.page.proofs.Laws.Pieces.{part-pieces}
+use Rattle.page.proofs.Laws.Trees.{length-tree, length-entries-of, tree-of}
+use Rattle.page.proofs.Laws.Frees.{length-free, free-of, unused-of}
+use Rattle.page.proofs.Laws.Heads.{head-again}
+use Rattle.image.specs.Images.{page-at, pages-in, length-ok, never-used-level, cell-of, cell-bytes, image-of, image-bytes}
+use Rattle.image.specs.Sound.{tree-fit, tree-pages, times, sound}
+use Rattle.view.proofs.Lists.{cond-one}
+use Rattle.audit.proofs.Sums.{total-some, miss}
+use Rattle.audit.proofs.Times.{times-none, times-other}
+use Rattle.audit.proofs.Fitness.{Fit-facts}
+use Rattle.audit.proofs.Levels.{length-is, page-length, free-level-is}
+use Rattle.audit.proofs.Tree.{tree-parts, tree-times}
+use Rattle.audit.proofs.Sound.{the-head, the-tree, Sound-facts, sound-facts}
+use Rattle.audit.proofs.Used.{tree-level}
+use Rattle.state.proofs.From.Cells.{cell-tree, cell-free, cell-never, tree-top}
+use Rattle.state.proofs.From.Chain.{never-level}
+use Rattle.state.proofs.From.Good.{pages-range}
+
+-- ---- a page of the tree is fit at some place
+
+record Placed (half : ℕ) (h : Head) (s : List ℕ) : Type 0 where
+  place : Place
+  fit : Fit-facts half h place s
+
+module _ (half : ℕ) (h : Head) (img : List ℕ) (p : ℕ) where
+  here : (at : Place) (q : ℕ) → p ≡ q → Fit-facts half h at (page-at half img q) → Placed half h (page-at half img p)
+  here at q e f = rw e (record { place = at; fit = f })
+
+  placed : (l : ℕ) (at : Place) (q : ℕ) → tree-fit half h img l at q ≡ true → 1 ≤ times p (tree-pages half img l q) → Placed half h (page-at half img p)
+  unfolding tree-pages
+  placed zero at q t n = go (ℕ-discrete p q)
+    where
+      go : Dec (p ≡ q) → Placed half h (page-at half img p)
+      go (yes e) = here at q e (tree-top half h img zero at q t)
+      go (no d) = absurd (omega (arith, times-other p q [] d, times-none p))
+  placed (suc l) at q t n = go (ℕ-discrete p q) (λ i m. placed l (place-below half (page-at half img q) at i) (child-at half (page-at half img q) i) (k .1 i m))
+    where
+      k : Fit-facts half h at (page-at half img q)
+          × ((i : ℕ) → i < number-of (page-at half img q)
+          → tree-fit half h img l (place-below half (page-at half img q) at i) (child-at half (page-at half img q) i) ≡ true)
+      k = tree-parts half h img l at q t
+
+      go : Dec (p ≡ q)
+          → ((i : ℕ) → i < number-of (page-at half img q) → 1 ≤ times p (tree-pages half img l (child-at half (page-at half img q) i)) → Placed half h (page-at half img p))
+          → Placed half h (page-at half img p)
+      go (yes e) deeper = here at q e (k .0)
+      go (no d) deeper =
+          total-some (number-of (page-at half img q)) (λ i. times p (tree-pages half img l (child-at half (page-at half img q) i))) deeper
+          (omega (arith, tree-times half img l q (k .0 .most) p, miss p q d))
+
+-- ---- every page
+
+module _ (half : ℕ) (img : List ℕ) (ok : length-ok half img ≡ true) (b : Bytes img) (f : Sound-facts half img) where
+  bytes-page : (p : ℕ) → Bytes (page-at half img p)
+  unfolding page-at
+  bytes-page p = bytes-part img (page-size half * p) (page-size half) b
+
+  module _ (p : ℕ) (l : 1 ≤ p) (r : p < pages-in half img) where
+    tree-again : 1 ≤ times p (the-tree half img) → cell-bytes half (cell-of half (page-at half img p)) ≡ page-at half img p
+    unfolding cell-bytes
+    tree-again n =
+        let h : Head = the-head half img in
+        let s : List ℕ = page-at half img p in
+        let w = placed half h img p (h .height - 1) (root-place h) (h .root) (f .fit .tree) n in
+        ap (cell-bytes half) (cell-tree half s (omega (arith, tree-level ok (f .fit) p n, f .fit .head .height-most)))
+        ∙ tree-of half s (page-length half img ok p r) (bytes-page p) (w .fit .most) (w .fit .unused)
+
+    free-again : free-ok half (page-at half img p) ≡ true → cell-bytes half (cell-of half (page-at half img p)) ≡ page-at half img p
+    unfolding cell-bytes
+    free-again e =
+        let s : List ℕ = page-at half img p in
+        ap (cell-bytes half) (cell-free half s (free-level-is half s e)) ∙ free-of half s (page-length half img ok p r) (bytes-page p) e
+
+    never-again : never-used-ok (page-at half img p) ≡ true → cell-bytes half (cell-of half (page-at half img p)) ≡ page-at half img p
+    unfolding cell-bytes
+    never-again e =
+        let s : List ℕ = page-at half img p in
+        let n : length s ≡ page-size half = page-length half img ok p r in
+        ap (cell-bytes half) (cell-never half s (never-level (page-size half) s (omega arith) n e)) ∙ sym (unused-of (page-size half) s n e)
+
+    page-again : cell-bytes half (cell-of half (page-at half img p)) ≡ page-at half img p
+    page-again = go (decLe (the-head half img .mark) p) (decLe 1 (times p (the-tree half img)))
+      where
+        go : Dec (the-head half img .mark ≤ p) → Dec (1 ≤ times p (the-tree half img)) → cell-bytes half (cell-of half (page-at half img p)) ≡ page-at half img p
+        go (yes k) t = never-again (f .fit .never p k r)
+        go (no k) (yes t) = tree-again t
+        go (no k) (no t) = free-again (f .free p (omega (arith, f .once p l (omega arith))))
+
+-- ---- all of them, one after the other
+
+-- whatever a page holds, its cell has the bytes of a page
+length-cell : (half : ℕ) (s : List ℕ) → length (cell-bytes half (cell-of half s)) ≡ page-size half
+unfolding cell-of cell-bytes
+length-cell half s =
+    cond-one (λ c. length (cell-bytes half c) ≡ page-size half) (eqb (level-of s) free-level) (λ e. length-free half (next-of s))
+    (λ e. cond-one (λ c. length (cell-bytes half c) ≡ page-size half) (eqb (level-of s) never-used-level) (λ e. length-unused (page-size half))
+    (λ e. length-tree half (level-of s) (entries-of half s) (omega (arith, length-entries-of half s))))
+
+head-page : (half : ℕ) (img : List ℕ) → 1 ≤ half → length-ok half img ≡ true → Bytes img → head-fit half (pages-in half img) (page-at half img 0) ≡ true
+    → head-bytes half (the-head half img) ≡ part img 0 (page-size half)
+unfolding head-fit page-at
+head-page half img some ok b e =
+    let k = simp and-eq-true-iff at e in
+    head-again half (page-at half img 0) some (page-length half img ok 0 (omega (arith, pages-range half img ok)))
+    (bytes-part img (page-size half * 0) (page-size half) b) (k .1)
+    ∙ ap (λ o. part img o (page-size half)) (mul-zero (page-size half))
+
+pub canonical : (half : ℕ) (img : List ℕ) → 1 ≤ half → length-ok half img ≡ true → Bytes img → sound half img ≡ true → image-bytes half (image-of half img) ≡ img
+unfolding image-bytes image-of page-at
+canonical half img some ok b e =
+    let f : Sound-facts half img = sound-facts half img e in
+    let size : ℕ = page-size half in
+    let n : ℕ = pages-in half img in
+    let u : n ≡ suc (n - 1) = omega (arith, pages-range half img ok) in
+    let more : size * n ≡ size + size * (n - 1) = ap (λ k. size * k) u ∙ mul-suc size (n - 1) ∙ add-comm (size * (n - 1)) size in
+    let cell : ℕ → List ℕ = λ p. cell-bytes half (cell-of half (page-at half img (suc p))) in
+    let rest : joined cell (listed (the-head half img .pages - 1) (λ p. p)) ≡ part img size (size * (n - 1)) =
+    ap (λ k. joined cell (listed (k - 1) (λ p. p))) (f .fit .head .pages-is)
+    ∙ joined-parts cell size (λ p. length-cell half (page-at half img (suc p))) img size (n - 1) (λ p. p)
+    (λ i l.
+    page-again half img ok b f (suc i) (omega arith) (omega arith) ∙ ap (λ o. part img o size) (mul-suc size i ∙ add-comm (size * i) size)) in
+    part-pieces img 0 size size (size * (n - 1)) (omega arith) (head-page half img some ok b (f .fit .head-fits)) rest
+    ∙ part-whole img (size + size * (n - 1)) (length-is half img ok ∙ more)

@@ -1,0 +1,70 @@
+-- What the page of a tree, of the chain and from the high mark on holds as a cell; and that the pages of an image show the tree that is loaded. Assumes nothing.
+use Prim.Native.Nat.{ℕ, zero, suc, _-_, _<_}
+use mathlib.Core.Path.{_≡_, sym, ap, _∙_}
+use mathlib.Core.Bool.{Bool, true, cond}
+use mathlib.Core.List.{List}
+use native.Mathlib.Omega.{arith}
+use lib.Dec.{eqb}
+use borrow.Author.Tests.{eq-eqb, ne-eqb}
+use Rattle.page.specs.declared.Entry.{Entry}
+use Rattle.page.specs.declared.Head.{Head}
+use Rattle.page.specs.Layout.{level-of, number-of, entry-at, entries-of, next-of, free-level}
+use Rattle.page.specs.Fit.{Place, place-below}
+use Rattle.image.specs.Images.{Cell, tree, free, never-used, never-used-level, page-at, cell-of, image-of}
+use Rattle.image.specs.Sound.{tree-fit}
+use Rattle.tree.specs.Tree.{bare}
+use Rattle.view.specs.View.{Shows}
+use Rattle.audit.proofs.Fitness.{Fit-facts, fit-facts}
+use Rattle.audit.proofs.Tree.{tree-parts}
+use Rattle.state.proofs.From.Listed.{all-listed}
+use Rattle.state.proofs.From.Load.{loaded, load, load-listed, bare-load}
+
+-- ---- one page
+
+module _ (half : ℕ) (s : List ℕ) where
+  choice : Bool → Bool → Cell
+  choice f n = cond f (free (next-of s)) (cond n never-used (tree (level-of s) (entries-of half s)))
+
+  pub cell-free : level-of s ≡ free-level → cell-of half s ≡ free (next-of s)
+  unfolding cell-of choice
+  cell-free e = ap (λ t. choice t (eqb (level-of s) never-used-level)) (eq-eqb (level-of s) free-level e)
+
+  pub cell-never : level-of s ≡ never-used-level → cell-of half s ≡ never-used
+  unfolding cell-of choice
+  cell-never e = λ j. choice (ne-eqb (level-of s) free-level (λ z. omega arith) j) (eq-eqb (level-of s) never-used-level e j)
+
+  pub cell-tree : level-of s < free-level → cell-of half s ≡ tree (level-of s) (entries-of half s)
+  unfolding cell-of choice
+  cell-tree e = λ j. choice (ne-eqb (level-of s) free-level (λ z. omega arith) j) (ne-eqb (level-of s) never-used-level (λ z. omega arith) j)
+
+-- ---- the tree
+
+module _ (half : ℕ) (h : Head) (img : List ℕ) where
+  -- every page is fit at its place, down to a leaf
+  pub tree-top : (l : ℕ) (at : Place) (p : ℕ) → tree-fit half h img l at p ≡ true → Fit-facts half h at (page-at half img p)
+  unfolding tree-fit
+  tree-top zero at p t = fit-facts half h at (page-at half img p) t
+  tree-top (suc l) at p t = tree-parts half h img l at p t .0
+
+  pub page-shown : (l : ℕ) (at : Place) (p : ℕ) → at .level ≡ l → l < free-level → tree-fit half h img l at p ≡ true
+      → image-of half img .page p ≡ tree l (bare (load half img l p))
+  unfolding image-of
+  page-shown l at p e small t =
+      let s : List ℕ = page-at half img p in
+      let v : level-of s ≡ l = tree-top l at p t .level ∙ e in
+      cell-tree half s (omega arith) ∙ (λ j. tree (v j) (sym (bare-load half img l p) j))
+
+  pub tree-shown : (l : ℕ) (at : Place) (e : Entry) → at .level ≡ l → l < free-level → tree-fit half h img l at (e .child) ≡ true
+      → Shows (suc l) (image-of half img .page) (loaded half img (suc l) e)
+  unfolding Shows place-below entry-at
+  tree-shown zero at e v small t =
+      let f : Fit-facts half h at (page-at half img (e .child)) = tree-top zero at (e .child) t in
+      (page-shown zero at (e .child) v small t, rw (load-listed half img zero (e .child) (f .most)) (all-listed (loaded half img zero) _ _ (λ i l. tt)))
+  tree-shown (suc l) at e v small t =
+      let k = tree-parts half h img l at (e .child) t in
+      let s : List ℕ = page-at half img (e .child) in (
+        page-shown (suc l) at (e .child) v small t,
+        rw (load-listed half img (suc l) (e .child) (k .0 .most))
+            (all-listed (loaded half img (suc l)) (λ i. entry-at half s i) (number-of s)
+            (λ i m. tree-shown l (place-below half s at i) (entry-at half s i) (omega arith) (omega arith) (k .1 i m))),
+      )

@@ -1,0 +1,69 @@
+-- The theorem: a sound image shows a tree and a supply with all that document 01 asks. Assumes nothing.
+use Prim.Native.Nat.{ℕ, _-_, _≤_}
+use mathlib.Core.Path.{_≡_, refl}
+use mathlib.Core.Bool.{true, and-eq-true-iff}
+use mathlib.Core.List.{List}
+use native.Mathlib.Omega.{arith}
+use borrow.Author.Tests.{leb-true}
+use Rattle.rule.specs.Pairs.{none}
+use Rattle.page.specs.declared.Head.{Head}
+use Rattle.page.specs.Entries.{entry}
+use Rattle.page.specs.Fit.{root-place}
+use Rattle.image.specs.Images.{pages-in, length-ok, image-of}
+use Rattle.image.specs.Sound.{sound}
+use Rattle.tree.specs.Cut.{root-ent}
+use Rattle.view.specs.View.{Shown}
+use Rattle.audit.proofs.Sound.{the-head, Sound-facts, sound-facts}
+use Rattle.state.specs.Good.{Ranges, Good}
+use Rattle.state.proofs.From.Load.{state-in}
+use Rattle.state.proofs.From.Cells.{tree-shown}
+use Rattle.state.proofs.From.Shape.{tree-formed}
+use Rattle.state.proofs.From.Bounds.{tree-bounds}
+use Rattle.state.proofs.From.Chain.{sound-supplied}
+use Rattle.state.proofs.From.Once.{held-once, head-held}
+
+pub pages-range : (half : ℕ) (img : List ℕ) → length-ok half img ≡ true → (2 ≤ pages-in half img) × (pages-in half img ≤ 1024)
+unfolding length-ok
+pages-range half img ok =
+    let k = simp and-eq-true-iff at ok in
+    (leb-true _ _ (k .1 .0), leb-true _ _ (k .1 .1))
+
+module _ (half : ℕ) (img : List ℕ) (ok : length-ok half img ≡ true) (f : Sound-facts half img) where
+  sound-shown : Shown (image-of half img) (state-in half img)
+  unfolding image-of root-ent root-place
+  sound-shown =
+      let h : Head = the-head half img in
+      record {
+        height = omega (arith, f .fit .head .height-least);
+        root = refl;
+        below =
+            tree-shown half h img (h .height - 1) (root-place h) (entry 0 none (h .root)) refl (omega (arith, f .fit .head .height-most)) (f .fit .tree);
+        supplied = sound-supplied half img ok f;
+      }
+
+  sound-ranges : Ranges (image-of half img .head)
+  unfolding image-of
+  sound-ranges =
+      let r = pages-range half img ok in
+      let g = f .fit .head in
+      record {
+        pages-least = omega (arith, g .pages-is);
+        pages-most = omega (arith, g .pages-is);
+        mark-most = omega (arith, g .pages-is, g .mark-most);
+        kind-fits = g .kind-fits;
+        window-fits = g .window-fits;
+        changes-most = g .changes-most;
+      }
+
+pub sound-good : (half : ℕ) (img : List ℕ) → 1 ≤ half → length-ok half img ≡ true → sound half img ≡ true → Good half (image-of half img) (state-in half img)
+unfolding image-of
+sound-good half img some ok e =
+    let f : Sound-facts half img = sound-facts half img e in
+    record {
+      shown = sound-shown half img ok f;
+      formed = tree-formed half img some (f .fit);
+      once = held-once half img ok f;
+      head-apart = head-held half img ok f;
+      bounds = tree-bounds half img (f .fit);
+      ranges = sound-ranges half img ok f;
+    }

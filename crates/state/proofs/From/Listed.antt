@@ -1,0 +1,31 @@
+-- Lists of entries given by their places: what holds at each place, and spans that follow each other. Assumes nothing.
+use Prim.Native.Nat.{ℕ, zero, suc, _<_}
+use mathlib.Core.Path.{_≡_}
+use mathlib.Core.List.{[], _∷_, _++_, map}
+use native.Mathlib.Omega.{arith}
+use Rattle.page.specs.declared.Entry.{Entry}
+use Rattle.page.specs.Layout.{listed}
+use Rattle.tree.specs.Tree.{Ent}
+use Rattle.tree.specs.Shape.{Asked, Seg, done}
+use Rattle.tree.specs.Held.{All, all-none, all-more}
+use Rattle.tree.proofs.Seg.{seg-one, seg-append}
+use Rattle.view.proofs.Lists.{map-append, all-append}
+
+module _ {A : Type 0} (g : Entry → Ent A) (f : ℕ → Entry) where
+  map-more : (n : ℕ) → map g (listed (suc n) f) ≡ map g (listed n f) ++ (g (f n) ∷ [])
+  unfolding listed
+  map-more n = map-append g (listed n f) (f n ∷ [])
+
+  pub all-listed : {Q : Ent A → Type 0} (n : ℕ) → ((i : ℕ) → i < n → Q (g (f i))) → All Q (map g (listed n f))
+  unfolding listed
+  all-listed zero h = all-none
+  all-listed (suc n) h = rw (map-more n) (all-append (all-listed n (λ i l. h i (omega arith))) (all-more (h n (omega arith)) all-none))
+
+  pub seg-listed : {Q : Asked A} (n : ℕ) (b : ℕ → ℕ) → ((i : ℕ) → i < n → g (f i) .entry .start ≡ b i) → ((i : ℕ) → i < n → b i < b (suc i))
+      → ((i : ℕ) → i < n → Q (b i) (b (suc i)) (g (f i))) → Seg Q (b 0) (b n) (map g (listed n f))
+  unfolding listed
+  seg-listed zero b s r h = done
+  seg-listed (suc n) b s r h =
+      rw (map-more n)
+      (seg-append (seg-listed n b (λ i l. s i (omega arith)) (λ i l. r i (omega arith)) (λ i l. h i (omega arith)))
+      (seg-one (s n (omega arith)) (r n (omega arith)) (h n (omega arith))))

@@ -1,0 +1,121 @@
+-- What an instant call finds in a sound image is the pair of the tree that it shows. Assumes nothing.
+use Prim.Native.Nat.{ℕ, zero, suc, _-_, _≤_, _<_}
+use mathlib.Core.Path.{_≡_, sym, ap, _∙_}
+use mathlib.Core.Bool.{true, cond, and-eq-true-iff}
+use mathlib.Core.List.{List}
+use native.Mathlib.Omega.{arith}
+use lib.ListN.{length, length-map}
+use Rattle.rule.specs.declared.Pair.{Pair}
+use Rattle.rule.specs.Pairs.{combine}
+use Rattle.page.specs.declared.Entry.{Entry}
+use Rattle.page.specs.declared.Head.{Head}
+use Rattle.page.specs.Entries.{at as entry-in, place}
+use Rattle.page.specs.Layout.{number-of, pair-at, child-at, entry-at, entries-of, free-level}
+use Rattle.page.specs.Fit.{Place, root-place, place-below, fewest, page-fit, head-fit}
+use Rattle.page.proofs.Laws.Trees.{length-entries-of, at-entries-of}
+use Rattle.image.specs.Images.{entries-in, page-at, pages-in, image-of}
+use Rattle.image.specs.Sound.{tree-fit, sound}
+use Rattle.image.specs.Instant.{Looked, stopped, leaf-answer, above, look, look-up}
+use Rattle.tree.specs.Tree.{Ent, Kid, Ents, no-ent, bare, ent-of, pair-under, pair-in}
+use Rattle.tree.specs.Cut.{State, root-ent}
+use Rattle.view.specs.View.{Shows, Shown}
+use Rattle.view.proofs.Lists.{place-in, all-at}
+use Rattle.view.proofs.Ways.{at-bare}
+use Rattle.audit.proofs.Fitness.{Fit-facts}
+use Rattle.audit.proofs.Tree.{tree-parts}
+use Rattle.audit.proofs.Sound.{the-head, Sound-facts, sound-facts}
+use Rattle.state.proofs.From.Cells.{cell-tree, tree-top}
+use Rattle.state.proofs.From.Shape.{root-fewest, least-one}
+
+-- an answer: all pages fit, the pair, and so many pages read
+abbrev pub answer : Pair → ℕ → Looked
+answer pair pages = record { fit = true; pair = pair; pages = pages }
+
+module _ (half : ℕ) (h : Head) (img : List ℕ) (t : ℕ) where
+  -- the page is fit at its place
+  fit-top : (l : ℕ) (at : Place) (p : ℕ) → tree-fit half h img l at p ≡ true → page-fit half h at (page-at half img p) ≡ true
+  unfolding tree-fit
+  fit-top zero at p e = e
+  fit-top (suc l) at p e = (simp and-eq-true-iff at e) .0
+
+  -- the entry found on a page is the tree's
+  record Step (l : ℕ) (p : ℕ) (es : Ents l) : Type 0 where
+    inside : place t (entries-of half (page-at half img p)) < number-of (page-at half img p)
+    same : entry-at half (page-at half img p) (place t (entries-of half (page-at half img p))) ≡ ent-of l t es .entry
+    found : place t (bare es) < length es
+
+  step : (l : ℕ) (at : Place) (x : Ent (Kid (suc l))) → at .level ≡ l → l < free-level → 1 ≤ fewest half at
+      → Fit-facts half h at (page-at half img (x .entry .child)) → Shows (suc l) (image-of half img .page) x → Step l (x .entry .child) (x .kid)
+  unfolding Shows image-of entries-in ent-of
+  step l at x v small some f shown =
+      let s : List ℕ = page-at half img (x .entry .child) in
+      let i : ℕ = place t (entries-of half s) in
+      let es : entries-of half s ≡ bare (x .kid) = sym (ap entries-in (cell-tree half s (omega (arith, f .level)))) ∙ ap entries-in (shown .0) in
+      let n : length (entries-of half s) ≡ number-of s = length-entries-of half s ∙ omega (arith, f .most) in
+      let m : length (bare (x .kid)) ≡ length (x .kid) = length-map (x .kid) (λ y. y .entry) in
+      let c : i < length (entries-of half s) = place-in t (entries-of half s) (omega (arith, f .fewest)) in
+      record {
+        inside = omega arith;
+        same =
+            sym (at-entries-of half s i (omega arith) (omega (arith, f .most)))
+            ∙ ap (λ r. entry-in r (place t r)) es
+            ∙ at-bare l (x .kid) (place t (bare (x .kid)));
+        found = omega (arith, rw es at c);
+      }
+
+  deeper : (l : ℕ) (x : Ent (Kid (suc l))) → place t (bare (x .kid)) < length (x .kid) → Shows (suc l) (image-of half img .page) x
+      → Shows l (image-of half img .page) (ent-of l t (x .kid))
+  unfolding Shows ent-of
+  deeper l x m shown = all-at (place t (bare (x .kid))) (no-ent l) (shown .1) m
+
+  -- ---- from a page down
+
+  module _ (some : 1 ≤ half) where
+    look-shown : (l : ℕ) (at : Place) (x : Ent (Kid (suc l))) → at .level ≡ l → l < free-level → 1 ≤ fewest half at
+        → tree-fit half h img l at (x .entry .child) ≡ true → Shows (suc l) (image-of half img .page) x
+        → look half h img t l at (x .entry .child) ≡ answer (pair-in (combine (h .kind)) l t (x .kid)) (suc l)
+    unfolding look leaf-answer above pair-in pair-under entry-at place-below fewest
+    look-shown zero at x v small n e shown =
+        let s : List ℕ = page-at half img (x .entry .child) in
+        let k = step zero at x v small n (tree-top half h img zero at (x .entry .child) e) shown in
+        ap (λ c. cond c (leaf-answer (pair-at half s (place t (entries-of half s)))) stopped) (fit-top zero at (x .entry .child) e)
+        ∙ ap (λ (y : Entry). answer (y .pair) 1) (k .same)
+    look-shown (suc l) at x v small n e shown =
+        let s : List ℕ = page-at half img (x .entry .child) in
+        let i : ℕ = place t (entries-of half s) in
+        let y : Ent (Kid (suc l)) = ent-of (suc l) t (x .kid) in
+        let d : Place = place-below half s at i in
+        let f = tree-parts half h img l at (x .entry .child) e in
+        let k = step (suc l) at x v small n (f .0) shown in
+        let c : child-at half s i ≡ y .entry .child = ap (λ (z : Entry). z .child) (k .same) in
+        let rest : look half h img t l d (child-at half s i) ≡ answer (pair-in (combine (h .kind)) l t (y .kid)) (suc l) =
+        ap (look half h img t l d) c
+        ∙ look-shown l d y (omega arith) (omega arith) some (rw c at (f .1 i (k .inside))) (deeper (suc l) x (k .found) shown) in
+        ap (λ q. cond q (above (combine (h .kind)) (pair-at half s i) (look half h img t l d (child-at half s i))) stopped) (fit-top (suc l) at (x .entry .child) e)
+        ∙ ap (above (combine (h .kind)) (pair-at half s i)) rest
+        ∙ ap (λ (z : Entry). answer (combine (h .kind) (z .pair) (pair-in (combine (h .kind)) l t (y .kid))) (suc (suc l))) (k .same)
+
+-- ---- from the root
+
+-- What an instant call looks at in a sound image: the head is fit, and so are all pages on the way; the pair is the tree's, and as many pages are read as the
+-- tree is high.
+pub record Answered (half : ℕ) (img : List ℕ) (t : ℕ) (Y : State) : Type 0 where
+  pub head : head-fit half (pages-in half img) (page-at half img 0) ≡ true
+  pub looked : look-up half img t ≡ answer (pair-in (combine (the-head half img .kind)) (Y .tree .level) t (Y .tree .ents)) (the-head half img .height)
+
+pub look-good : (half : ℕ) (img : List ℕ) → 1 ≤ half → sound half img ≡ true → (Y : State) → Shown (image-of half img) Y → (t : ℕ) → Answered half img t Y
+unfolding look-up image-of root-ent root-place
+look-good half img some e Y shown t =
+    let f : Sound-facts half img = sound-facts half img e in
+    let h : Head = the-head half img in
+    let l : ℕ = Y .tree .level in
+    let v : h .height - 1 ≡ l = omega (arith, shown .height) in
+    let low : 1 ≤ fewest half (root-place h) = omega (arith, root-fewest half h l v, least-one l) in
+    let fits : tree-fit half h img l (root-place h) (Y .tree .root) ≡ true = (λ j. tree-fit half h img (sym v j) (root-place h) (sym (shown .root) j)) ∙ f .fit .tree in
+    record {
+      head = f .fit .head-fits;
+      looked =
+          (λ j. look half h img t (v j) (root-place h) (shown .root j))
+          ∙ look-shown half h img t some l (root-place h) (root-ent (Y .tree)) v (omega (arith, f .fit .head .height-most)) low fits (shown .below)
+          ∙ ap (λ n. answer (pair-in (combine (h .kind)) l t (Y .tree .ents)) n) (sym (shown .height));
+    }
