@@ -1,2 +1,3 @@
+pub mod Opened
 pub mod Marks
-pub mod Demand1
+pub mod Cases

@@ -1,5 +1,5 @@
--- The aggregate of source document 000 over accepted changes, said in its own words and apart from index and book: "the aggregate
--- over the tuples whose valid interval overlaps the window". Assumes nothing.
+-- The aggregate that source document 000 defines, over accepted changes and apart from index and book: over all tuples whose valid
+-- intervals overlap with [t−w, t]. Assumes nothing.
 use Prim.Native.Nat.{ℕ, _-_}
 use mathlib.Core.Path.{_≡_}
 use mathlib.Core.Bool.{Bool, true, false, cond, _&&_}
@@ -8,8 +8,7 @@ use lib.Dec.{eqb, leb, ltb}
 use lib.IntN.{ℤ, pos, _+ℤ_, negℤ}
 use Rattle.rule.specs.declared.Pair.{Pair}
 use Rattle.rule.specs.Pairs.{none, same-number, greater, lesser}
-use Rattle.calls.specs.Calls.{Side, entering, withdrawing}
-use Rattle.calls.specs.Lists.{Change}
+use Rattle.calls.specs.Changes.{Side, entering, withdrawing, Change}
 
 -- "A booking counts at instant t if [s, e) overlaps [t−w, t]"
 unfoldable pub counts-at : ℕ → Change → ℕ → Bool
@@ -65,7 +64,7 @@ unfoldable pub live-has : Change → List Change → Bool
 live-has c [] = false
 live-has c (d ∷ ds) = cond (same-booking c d) true (live-has c ds)
 
--- the live bookings after one more change, and after all, the first first
+-- the live bookings after one more change, and after all, the latest first
 unfoldable pub live-after : Change → List Change → List Change
 live-after c live = cond-side (c .side)
   where

@@ -6,11 +6,12 @@ use lib.ListN.{length}
 use lib.Dec.{eqb, leb, ltb}
 use lib.IntN.{ℤ}
 use Rattle.rule.specs.declared.Pair.{Pair}
-use Rattle.rule.specs.Time.{END, lengthened, covers}
+use Rattle.rule.specs.Time.{END, span-ok, lengthened, covers}
 use Rattle.rule.specs.Pairs.{none, same-pair, combine}
 use Rattle.image.specs.Listing.{Run}
 use Rattle.calls.specs.Refusals.{first}
-use Rattle.calls.specs.Calls.{Side, effect, Listed, too-short, written}
+use Rattle.calls.specs.Changes.{Side, effect}
+use Rattle.calls.specs.Calls.{Listed, too-short, written}
 
 -- "an item: s, e′ and (v, 1), for a withdrawal (−v, −1)"
 pub record Item : Type 0 where
@@ -61,7 +62,7 @@ runs-of f a b = record { start = a; pair = f a } ∷ runs-after f a (b - suc a)
 unfoldable pub listing-of : (ℕ → Pair) → ℕ → ℕ → List ℕ → Listed
 listing-of f a b out =
     let runs = runs-of f a b in
-    let number = first ((11, leb b a) ∷ (15, too-short out runs) ∷ []) in
+    let number = first ((11, not (span-ok a b)) ∷ (15, too-short out runs) ∷ []) in
     record {
       number = number;
       runs = cond (eqb number 0) (length runs) 0;

@@ -1,16 +1,16 @@
 -- Every call of document 01 as a function of its inputs: the number returned, the answer, and every byte of image, output and
 -- scratch afterwards, on every image and argument. Over half the capacity of a page, which is 12. Assumes nothing.
 use Prim.Native.Nat.{ℕ, _*_}
-use mathlib.Core.Bool.{Bool, true, false, cond, not, _&&_}
-use mathlib.Core.List.{List, [], _∷_}
+use mathlib.Core.Bool.{Bool, cond, not, _&&_}
+use mathlib.Core.List.{List, [], _∷_, _++_}
 use lib.ListN.{length}
 use lib.Dec.{eqb, leb, ltb}
 use lib.IntN.{ℤ}
 use Rattle.rule.specs.declared.Pair.{Pair}
 use Rattle.rule.specs.declared.Average.{Average}
 use Rattle.rule.specs.declared.Average.the-variants.{Nothing}
-use Rattle.rule.specs.Time.{END, value-ok, kind-ok, window-ok, lengthened}
-use Rattle.rule.specs.Pairs.{none, entry-effect, opposite, combine}
+use Rattle.rule.specs.Time.{END, span-ok, value-ok, kind-ok, window-ok, lengthened}
+use Rattle.rule.specs.Pairs.{none, combine}
 use Rattle.rule.specs.Averages.{average}
 use Rattle.fields.specs.Bytes.{patch}
 use Rattle.page.specs.declared.Head.{Head}
@@ -21,7 +21,8 @@ use Rattle.image.specs.Sound.{sound}
 use Rattle.image.specs.Instant.{Looked, look-up}
 use Rattle.image.specs.Listing.{Run, Walked, walk-over, join, run-bytes}
 use Rattle.steps.specs.Change.{change, lacks-pages}
-use Rattle.calls.specs.Refusals.{first, scratch-after}
+use Rattle.calls.specs.Changes.{Side, withdraws, effect}
+use Rattle.calls.specs.Refusals.{Row, first, scratch-ok, scratch-after}
 
 -- the head of an image
 unfoldable pub head : ℕ → List ℕ → Head
@@ -49,37 +50,30 @@ format half kind window img =
 
 -- Enter and withdraw
 
-pub data Side : Type 0 where
-  entering : Side
-  withdrawing : Side
-
-unfoldable pub withdraws : Side → Bool
-withdraws entering = false
-withdraws withdrawing = true
-
--- "an entry adds (v, 1), a withdrawal (−v, −1), whether or not such a booking is live"
-unfoldable pub effect : Side → ℤ → Pair
-effect entering v = entry-effect v
-effect withdrawing v = opposite (entry-effect v)
-
 pub record Booked : Type 0 where
   pub number : ℕ
   pub image : List ℕ
   pub scratch : List ℕ
 
+-- the rows before it goes to work on its image
+unfoldable pub book-early : ℕ → ℤ → ℕ → ℕ → List ℕ → List ℕ → List Row
+book-early half v s e img scratch =
+    (16, not (length-ok half img))
+    ∷ (17, not (scratch-ok (pages-in half img) scratch))
+    ∷ (11, not (span-ok s e))
+    ∷ (13, not (value-ok v))
+    ∷ []
+
 unfoldable pub book-number : ℕ → Side → ℤ → ℕ → ℕ → List ℕ → List ℕ → ℕ
 book-number half side v s e img scratch =
     let h = head half img in
     first
-    ((16, not (length-ok half img))
-    ∷ (17, ltb (length scratch) (pages-in half img))
-    ∷ (11, leb e s)
-    ∷ (13, not (value-ok v))
-    ∷ (21, not (sound half img))
+    (book-early half v s e img scratch
+    ++ ((21, not (sound half img))
     ∷ (22, withdraws side && not (eqb (h .kind) 1))
     ∷ (23, eqb (h .changes) most-changes)
     ∷ (24, lacks-pages half s (lengthened e (h .window)) (image-of half img))
-    ∷ [])
+    ∷ []))
 
 -- the image that an accepted change leaves
 unfoldable pub changed : ℕ → Side → ℤ → ℕ → ℕ → List ℕ → List ℕ
@@ -94,7 +88,7 @@ book half side v s e img scratch =
     record {
       number = number;
       image = cond (eqb number 0) done img;
-      scratch = scratch-after number (pages-in half img) scratch;
+      scratch = scratch-after (book-early half v s e img scratch) (pages-in half img) scratch;
     }
 
 -- Instant
@@ -157,7 +151,7 @@ unfoldable pub listing-number : ℕ → ℕ → ℕ → List ℕ → List ℕ �
 listing-number half a b img out =
     first
     ((16, not (length-ok half img))
-    ∷ (11, leb b a)
+    ∷ (11, not (span-ok a b))
     ∷ (21, not (head-ok half img && walk-over half img a b .fit))
     ∷ (15, too-short out (runs-over half a b img))
     ∷ [])
@@ -178,12 +172,14 @@ pub record Audited : Type 0 where
   pub number : ℕ
   pub scratch : List ℕ
 
+-- the rows before it goes to work on its image
+unfoldable pub audit-early : ℕ → List ℕ → List ℕ → List Row
+audit-early half img scratch =
+    (16, not (length-ok half img)) ∷ (17, not (scratch-ok (pages-in half img) scratch)) ∷ []
+
 unfoldable pub audit : ℕ → List ℕ → List ℕ → Audited
 audit half img scratch =
-    let number =
-    first
-    ((16, not (length-ok half img))
-    ∷ (17, ltb (length scratch) (pages-in half img))
-    ∷ (21, not (sound half img))
-    ∷ []) in
-    record { number = number; scratch = scratch-after number (pages-in half img) scratch }
+    record {
+      number = first (audit-early half img scratch ++ ((21, not (sound half img)) ∷ []));
+      scratch = scratch-after (audit-early half img scratch) (pages-in half img) scratch;
+    }

@@ -3,22 +3,28 @@
 use Prim.Native.Nat.{ℕ, _≤_, _<_}
 use mathlib.Core.Path.{_≡_}
 use mathlib.Core.Logic.{_≢_, _⊎_}
-use mathlib.Core.Bool.{true}
+use mathlib.Core.Bool.{Bool, true, cond, _||_}
+use lib.Dec.{eqb}
 use mathlib.Core.List.{List, [], _∷_, _++_, List·Memᴰ}
 use lib.ListN.{length}
 use lib.IntN.{ℤ}
-use Rattle.rule.specs.declared.Average.the-variants.{Nothing}
+use Rattle.rule.specs.declared.Average.the-variants.{Nothing, Beyond}
 use Rattle.rule.specs.Time.{END, lengthened}
 use Rattle.rule.specs.Pairs.{none, combine}
 use Rattle.rule.specs.Averages.{average}
 use Rattle.image.specs.Images.{page-at, pages-in, image-of}
 use Rattle.image.specs.Sound.{sound}
 use Rattle.steps.specs.Change.{change-names}
-use Rattle.calls.specs.Refusals.{scratch-after}
-use Rattle.calls.specs.Calls.{Side, entering, withdrawing, effect, head, format, book, instant, average-at, listing, audit}
+use Rattle.calls.specs.Refusals.{cleared}
+use Rattle.calls.specs.Changes.{Side, entering, withdrawing, effect, Change}
+use Rattle.calls.specs.Calls.{head, format, book, instant, average-at, listing, audit}
 use Rattle.calls.specs.Book.{Book, empty-book, listing-of}
-use Rattle.calls.specs.Lists.{Call, Change, left-by-all, Refused-formats, All-agree, accepted}
+use Rattle.calls.specs.Lists.{Call, left-by-all, Refused-formats, All-agree, accepted}
 use Rattle.calls.specs.Aggregate.{aggregate, aggregate-of, counting, Matched, live-from}
+
+-- "scratch is untouched at 16 and 17, also at 11 and 13"
+unfoldable pub keeps-scratch : ℕ → Bool
+keeps-scratch number = eqb number 16 || (eqb number 17 || (eqb number 11 || eqb number 13))
 
 -- Demand 1. "A caller may hand any public call any image, span, value or output buffer, unchecked; the call returns, and what
 -- document 01 turns back is refused by its number there, with image and output as before." That a call returns is part of every
@@ -36,11 +42,21 @@ pub record Demand-1 (half : ℕ) : Type 0 where
       (a b : ℕ) (img out : List ℕ)
       → listing half a b img out .number ≢ 0
       → (listing half a b img out .output ≡ out) × (listing half a b img out .runs ≡ 0)
+  -- "else its n bytes are 0"
   pub of-scratch :
       (side : Side) (v : ℤ) (s e : ℕ) (img scratch : List ℕ)
       → (book half side v s e img scratch .scratch
-      ≡ scratch-after (book half side v s e img scratch .number) (pages-in half img) scratch)
-      × (audit half img scratch .scratch ≡ scratch-after (audit half img scratch .number) (pages-in half img) scratch)
+      ≡ cond (keeps-scratch (book half side v s e img scratch .number)) scratch (cleared (pages-in half img) scratch))
+      × (audit half img scratch .scratch
+      ≡ cond (keeps-scratch (audit half img scratch .number)) scratch (cleared (pages-in half img) scratch))
+  -- "It reports the tree pages read: the height if answered, or if a page is unfit, the pages up to and including it (0 for the
+  -- head and at other refusals)."
+  pub of-pages :
+      (t : ℕ) (img : List ℕ)
+      → (instant half t img .number ≡ 0 → instant half t img .pages ≡ head half img .height)
+      × (instant half t img .number ≢ 0 → instant half t img .number ≢ 21 → instant half t img .pages ≡ 0)
+  -- no call on an image answers the average of a sum that no fit page can show
+  pub of-beyond : (t : ℕ) (img : List ℕ) → average-at half t img .average ≢ Beyond
 
 -- A list of calls on one image, "from a freshly formatted one".
 pub record History (half : ℕ) : Type 0 where
@@ -74,7 +90,7 @@ pub record Demand-2 (half : ℕ) (H : History half) : Type 0 where
       → average-at half t (at-last half H)
       ≡ record { number = 0; average = average (H .kind) (aggregate (H .kind) (H .window) (changes half H) t) }
   pub spans :
-      (a b : ℕ) (out : List ℕ) → b ≤ END
+      (a b : ℕ) (out : List ℕ)
       → listing half a b (at-last half H) out ≡ listing-of (aggregate (H .kind) (H .window) (changes half H)) a b out
   pub sound-after : sound half (at-last half H) ≡ true
   -- "If every withdrawal matches an earlier entry not yet withdrawn, this is the aggregate over live bookings."

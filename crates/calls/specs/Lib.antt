@@ -1,3 +1,4 @@
+pub mod Changes
 pub mod Refusals
 pub mod Calls
 pub mod Book
@@ -5,3 +6,4 @@ pub mod Lists
 pub mod Aggregate
 pub mod Demands
 pub mod Marks
+pub mod Cases

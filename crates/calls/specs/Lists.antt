@@ -7,11 +7,12 @@ use mathlib.Core.List.{List, [], _∷_, _++_}
 use lib.ListN.{length}
 use lib.Dec.{eqb, leb, ltb}
 use lib.IntN.{ℤ}
-use Rattle.rule.specs.Time.{END, value-ok}
+use Rattle.rule.specs.Time.{END, span-ok, value-ok}
 use Rattle.page.specs.Fit.{most-changes}
 use Rattle.image.specs.Images.{pages-in}
-use Rattle.calls.specs.Refusals.{first}
-use Rattle.calls.specs.Calls.{Side, withdraws, format, book, instant, listing, audit}
+use Rattle.calls.specs.Refusals.{first, scratch-ok}
+use Rattle.calls.specs.Changes.{Side, withdraws, Change}
+use Rattle.calls.specs.Calls.{format, book, instant, listing, audit}
 use Rattle.calls.specs.Book.{Book, entered, book-pair, listing-of}
 
 -- "Its calls are enter, withdraw, instant, span listing, audit and refused formats, with any arguments." "Scratch and output come
@@ -47,24 +48,32 @@ unfoldable pub Refused-formats : ℕ → List Call → List ℕ → Type 0
 Refused-formats half [] img = Unit {0}
 Refused-formats half (c ∷ cs) img = Refused-format half c img × Refused-formats half cs (left-by half c img)
 
--- "The book is fed .. each call's arguments and, of enter and withdraw, the number returned"
-unfoldable pub fed : ℕ → Call → List ℕ → Book → Book
-fed half (booking side v s e scratch) img B = entered (book half side v s e img scratch .number) side v s e B
-fed half (asking t) img B = B
-fed half (listing-over a b out) img B = B
-fed half (auditing scratch) img B = B
-fed half (formatting kind window) img B = B
+-- the number that a call returns
+unfoldable pub returned : ℕ → Call → List ℕ → ℕ
+returned half (booking side v s e scratch) img = book half side v s e img scratch .number
+returned half (asking t) img = instant half t img .number
+returned half (listing-over a b out) img = listing half a b img out .number
+returned half (auditing scratch) img = audit half img scratch .number
+returned half (formatting kind window) img = format half kind window img .number
+
+-- "The book is fed .. each call's arguments and, of enter and withdraw, the number returned; never the image."
+unfoldable pub fed : Call → ℕ → Book → Book
+fed (booking side v s e scratch) number B = entered number side v s e B
+fed (asking t) number B = B
+fed (listing-over a b out) number B = B
+fed (auditing scratch) number B = B
+fed (formatting kind window) number B = B
 
 unfoldable pub fed-all : ℕ → List Call → List ℕ → Book → Book
 fed-all half [] img B = B
-fed-all half (c ∷ cs) img B = fed-all half cs (left-by half c img) (fed half c img B)
+fed-all half (c ∷ cs) img B = fed-all half cs (left-by half c img) (fed c (returned half c img) B)
 
 -- The number of a booking as far as document 01 fixes it without the image: only 24 turns on how the pages came to lie.
 unfoldable pub fixed-number : ℕ → Side → ℤ → ℕ → ℕ → List ℕ → Book → ℕ
 fixed-number pages side v s e scratch B =
     first
-    ((17, ltb (length scratch) pages)
-    ∷ (11, leb e s)
+    ((17, not (scratch-ok pages scratch))
+    ∷ (11, not (span-ok s e))
     ∷ (13, not (value-ok v))
     ∷ (22, withdraws side && not (eqb (B .kind) 1))
     ∷ (23, eqb (length (B .items)) most-changes)
@@ -80,22 +89,15 @@ Agrees half (booking side v s e scratch) img B =
 Agrees half (asking t) img B =
     (END ≤ t → instant half t img .number ≡ 12)
     × (t < END → (instant half t img .number ≡ 0) × (instant half t img .pair ≡ book-pair B t))
-Agrees half (listing-over a b out) img B = b ≤ END → listing half a b img out ≡ listing-of (book-pair B) a b out
+Agrees half (listing-over a b out) img B = listing half a b img out ≡ listing-of (book-pair B) a b out
 Agrees half (auditing scratch) img B =
-    audit half img scratch .number ≡ first ((17, ltb (length scratch) (pages-in half img)) ∷ [])
+    audit half img scratch .number ≡ first ((17, not (scratch-ok (pages-in half img) scratch)) ∷ [])
 Agrees half (formatting kind window) img B = format half kind window img .image ≡ img
 
 -- Each call on the way agrees with the book, and so does the full listing after the last: "The full listing is that over [0, END)."
 unfoldable pub All-agree : ℕ → List Call → List ℕ → Book → Type 0
 All-agree half [] img B = (out : List ℕ) → listing half 0 END img out ≡ listing-of (book-pair B) 0 END out
-All-agree half (c ∷ cs) img B = Agrees half c img B × All-agree half cs (left-by half c img) (fed half c img B)
-
--- An accepted change: a booking entered or withdrawn.
-pub record Change : Type 0 where
-  pub side : Side
-  pub v : ℤ
-  pub s : ℕ
-  pub e : ℕ
+All-agree half (c ∷ cs) img B = Agrees half c img B × All-agree half cs (left-by half c img) (fed c (returned half c img) B)
 
 -- the changes that a list of calls made, the first first
 unfoldable pub accepted-by : ℕ → Call → List ℕ → List Change

@@ -13,7 +13,8 @@ use Rattle.rule.specs.Averages.{average}
 use Rattle.image.specs.Images.{pages-in, page-at}
 use Rattle.image.specs.Listing.{Run}
 use Rattle.page.specs.Layout.{number-of}
-use Rattle.calls.specs.Calls.{Side, entering, withdrawing, head, format, book, instant, runs-over}
+use Rattle.calls.specs.Changes.{Side, entering, withdrawing}
+use Rattle.calls.specs.Calls.{head, format, book, instant, runs-over}
 
 -- The capacity is document 01's: 24.
 abbrev pub half : ℕ
@@ -68,7 +69,6 @@ unfoldable pub example : List ℕ
 example =
     after entering (pos 5) 20 25 (after entering (pos 3) 20 50 (after entering (pos 6) 10 40 (formatted 2 1 0)))
 
--- Fields of a starred mark begin with its number in document 01's order.
 pub record Marks : Type 0 where
   -- * "Fresh: instant 0 gives (0, 0), 1 page read."
   pub fresh : instant half 0 (formatted 64 1 0) ≡ record { number = 0; pair = none; pages = 1 }

@@ -1,9 +1,9 @@
 -- Document 01, "Turned back by the input" and "Turned back by the state". Assumes nothing.
 use Prim.Native.Nat.{ℕ}
-use mathlib.Core.Bool.{Bool, cond, _||_}
+use mathlib.Core.Bool.{Bool, cond}
 use mathlib.Core.List.{List, [], _∷_}
-use lib.ListN.{replicate}
-use lib.Dec.{eqb}
+use lib.ListN.{length, replicate}
+use lib.Dec.{eqb, leb}
 use Rattle.fields.specs.Bytes.{patch}
 
 -- A row of the two tables as a call meets it: the number, and whether it turns the call back.
@@ -18,13 +18,18 @@ first (r ∷ rows) =
     let later = first rows in
     cond (r .1) (r .0) later
 
--- "scratch is untouched at 16 and 17, also at 11 and 13"
-unfoldable pub keeps-scratch : ℕ → Bool
-keeps-scratch number = eqb number 16 || (eqb number 17 || (eqb number 11 || eqb number 13))
+-- "Audit and changes borrow a scratch of n bytes": how many bytes for n pages
+unfoldable pub borrowed : ℕ → ℕ
+borrowed pages = pages
 
--- "else its n bytes are 0"; "any beyond keep theirs"
+unfoldable pub scratch-ok : ℕ → List ℕ → Bool
+scratch-ok pages scratch = leb (borrowed pages) (length scratch)
+
+-- "those n bytes are 0 afterwards, any beyond keep theirs"
 unfoldable pub cleared : ℕ → List ℕ → List ℕ
-cleared n scratch = patch scratch 0 (replicate n 0)
+cleared pages scratch = patch scratch 0 (replicate (borrowed pages) 0)
 
-unfoldable pub scratch-after : ℕ → ℕ → List ℕ → List ℕ
-scratch-after number n scratch = cond (keeps-scratch number) scratch (cleared n scratch)
+-- "scratch is untouched at 16 and 17, also at 11 and 13, else its n bytes are 0": at the rows of a call that stand before it goes
+-- to work on its image
+unfoldable pub scratch-after : List Row → ℕ → List ℕ → List ℕ
+scratch-after early pages scratch = cond (eqb (first early) 0) (cleared pages scratch) scratch

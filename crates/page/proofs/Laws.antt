@@ -9,3 +9,5 @@ pub mod Entries
 pub mod Trees
 pub mod Frees
 pub mod Heads
+pub mod Filled
+pub mod Decoded

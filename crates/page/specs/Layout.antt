@@ -6,7 +6,7 @@ use lib.ListN.{length, take, drop}
 use lib.IntN.{ℤ}
 use lib.Dec.{eqb}
 use Rattle.rule.specs.declared.Pair.{Pair}
-use Rattle.fields.specs.Bytes.{part, unused, all-are}
+use Rattle.fields.specs.Bytes.{part, patch, unused, all-are}
 use Rattle.fields.specs.Numbers.{u32-at, i32-at, i64-at, u32-bytes, i32-bytes, i64-bytes}
 use Rattle.page.specs.declared.Entry.{Entry}
 use Rattle.page.specs.declared.Head.{Head}
@@ -74,6 +74,10 @@ joined f (x ∷ xs) = f x ++ joined f xs
 
 unfoldable pub entry-bytes : Entry → List ℕ
 entry-bytes e = i64-bytes (e .pair .sum) ++ (i32-bytes (e .pair .count) ++ u32-bytes (e .child))
+
+-- a page's bytes with an entry written at the i-th place
+unfoldable pub with-entry : ℕ → ℕ → Entry → List ℕ → List ℕ
+with-entry half i e s = patch (patch s (start-place i) (u32-bytes (e .start))) (entry-place half i) (entry-bytes e)
 
 unfoldable pub tree-bytes : ℕ → ℕ → List Entry → List ℕ
 tree-bytes half level es =

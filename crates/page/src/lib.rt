@@ -1,8 +1,18 @@
 // A page of the image: the head, a tree page, a free page.
-// Document 01, "The page"; docs/FORMAT.md has the fields' places.
+// Document 01, "The page"; docs/FORMAT.md has the fields' places. A tree page, by its bytes:
+//     0    4       level (u32, leaf 0)
+//     4    4       number of entries (u32), at most 24
+//     8    24      unused, FF
+//     32   24 × 4  starts (u32)
+//     128  24 × 16 entries: sum (i64), count (i32), child (u32, 0 in a leaf)
+// A free page has 255 as its level and its next page at 4; the head has nine u32. All other bytes are FF.
 use rule::Pair;
 
 pub mod at;
+pub mod blank;
+pub mod heads;
+pub mod read;
+pub mod write;
 
 // An entry of a tree page: from start up to the next entry's start its pair counts; a leaf's child is 0.
 pub struct Entry {

@@ -13,6 +13,10 @@ pub record Span (s e : ℕ) : Type 0 where
   pub before : s < e
   pub within : e ≤ END
 
+-- the test for it
+unfoldable pub span-ok : ℕ → ℕ → Bool
+span-ok s e = ltb s e && leb e END
+
 -- "A value is −1,000,000 to 1,000,000."
 abbrev pub most-value : ℕ
 most-value = 1000000

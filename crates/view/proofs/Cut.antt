@@ -1,145 +1,63 @@
 -- A cut does to the tree and the supply that an image shows what it does to trees, and writes the way and the pages it takes.
 -- Assumes nothing.
-use Prim.Native.Nat.{ℕ, zero, suc, _+_, _-_, _≤_, _<_}
+use Prim.Native.Nat.{ℕ, zero, suc, _+_, _≤_}
 use mathlib.Core.Path.{_≡_, refl, sym, ap, _∙_, subst}
-use mathlib.Core.Bool.{Bool, true, false, cond}
-use mathlib.Core.List.{List, [], _∷_, _++_, map}
+use mathlib.Core.Bool.{true, cond}
+use mathlib.Core.List.{List, [], _∷_, _++_}
 use native.Mathlib.Omega.{arith}
 use lib.Dec.{eqb, leb}
-use lib.ListN.{length, take, drop, getD, length-map}
+use lib.ListN.{length, take, drop, length-map}
 use borrow.Author.Tests.{eqb-true, eq-eqb, ne-eqb}
 use Rattle.rule.specs.declared.Pair.{Pair}
 use Rattle.rule.specs.Pairs.{none}
 use Rattle.rule.specs.Time.{END}
 use Rattle.page.specs.declared.Entry.{Entry}
 use Rattle.page.specs.declared.Head.{Head}
-use Rattle.page.specs.Entries.{entry, no-entry, at, place, splice}
-use Rattle.page.specs.Layout.{capacity}
-use Rattle.image.specs.Images.{Image, Cell, tree}
+use Rattle.page.specs.Entries.{entry, at, place, splice}
+use Rattle.image.specs.Images.{Image, tree}
 use Rattle.image.specs.Sound.{times}
-use Rattle.steps.specs.Supply.{entries, put, spare, taken, spares, pages-taken, with-supply, with-root}
-use Rattle.steps.specs.Cut.{Cutting as CuttingX, cut-leaf-entry, kept as kept-x, split as split-x, settled as settled-x, cut-entry, root-entry, raised, grown as grown-x, cut as cut-x}
-use Rattle.steps.specs.Change.{way-from, way, cut-names}
-use Rattle.tree.specs.Tree.{Ent, Kid, Ents, no-ent, bare, pages-under, Tree}
+use Rattle.steps.specs.Supply.{put, taken, spares, pages-taken, with-supply, with-root}
+use Rattle.steps.specs.Cut.{Cutting as CuttingX, cut-leaf-entry, settled as settled-x, cut-entry, root-entry, raised, grown as grown-x, cut as cut-x}
+use Rattle.steps.specs.Change.{way, cut-names}
+use Rattle.tree.specs.Tree.{Ent, Kid, Ents, bare, pages-under}
 use Rattle.tree.specs.Supply.{Supply, next-page, without-next}
-use Rattle.tree.specs.Cut.{Cutting, cut-leaf, kept, split, settled, cut-ent, State, root-ent, grown, cut}
+use Rattle.tree.specs.Cut.{Cutting, cut-leaf, kept, settled, cut-ent, State, root-ent, grown, cut}
 use Rattle.tree.specs.Held.{times-below, times-spare, All, all-none, all-more, held}
-use Rattle.view.specs.View.{Shows, Supplied, Shown, Once, Stocked}
-use Rattle.view.proofs.Lists.{cond-both, cond-one, all-append, map-take, map-drop, map-splice, splice-same, all-take, all-drop, all-at, all-splice, hit, hit-self, times-cons, times-none, times-append, under-zero, under-suc, below-none, below-cons, below-one, below-halves, below-at, below-splice}
-use Rattle.view.proofs.Moves.{Frame, put-at, put-else, put-head, rooted-supplied, rooted-page, rooted-height, rooted-root, shows-move, all-shows, put-shows, lasting, put-supplied, spare-next, spare-is, taken-supplied, taken-page, taken-lasting}
+use Rattle.view.specs.View.{Shows, Supplied, Shown, Once, Stocked, Full}
+use Rattle.view.proofs.Lists.{below-leaf, cond-both, map-splice, all-at, hit, hit-self, times-cons, times-append, under-zero, under-suc, below-one, below-at, below-splice}
+use Rattle.view.proofs.Moves.{leaves-shown, Frame, put-else, put-head, rooted-supplied, rooted-page, rooted-height, rooted-root, put-shows, splice-shown, lasting, put-supplied, spare-next, spare-is, taken-supplied, taken-page, taken-lasting}
 use Rattle.view.proofs.Taking.{firsts, later, firsts-none, firsts-more, later-more, later-held, later-add, firsts-add, spares-are, taken-is}
-use Rattle.view.proofs.Stepped.{Steady, Stepped, steady-of, steady-then, held-is, once-is}
-use Rattle.view.proofs.Ways.{there, way-top, entries-are, at-bare, has-place, stocked-on, shows-on, way-in, way-is, way-below}
-
--- What the cut of an entry does to an image and to the tree that it shows. Before counts the pages that were below the entry, W
--- those that may be written besides pages taken.
-pub record Grew (l : ℕ) (e : Entry) (X : Image) (S : Supply) (before W : ℕ → ℕ) (r : CuttingX) (r′ : Cutting (Kid l)) : Type 0 where
-  pub took : ℕ
-  pub same : r .became ≡ bare (r′ .became)
-  pub some : 1 ≤ length (r′ .became)
-  pub one : length (r .became) ≡ 1 → r .became ≡ e ∷ []
-  pub shows : All (λ y. Shows l (r .image .page) y) (r′ .became)
-  pub rest : r′ .supply ≡ later took S
-  pub supplied : Supplied (r .image) (r′ .supply)
-  pub pages : (q : ℕ) → times-below l q (r′ .became) ≡ before q + times q (firsts took S)
-  pub frame : Frame (X .page) (r .image .page) (λ q. W q + times q (firsts took S))
-  pub head : lasting (r .image .head) ≡ lasting (X .head)
-
-module _ (half l : ℕ) (x : Ent (Kid (suc l))) (es : Ents l) (Z : Image) (R : Supply)
-    (a : All (λ y. Shows l (Z .page) y) es) (s : Supplied Z R)
-    (once : (q : ℕ) → hit q (x .entry .child) + times-below l q es + times-spare q R ≤ 1) where
-  abbrev below-then : ℕ → ℕ
-  below-then q = hit q (x .entry .child) + times-below l q es
-
-  keeps : Grew (suc l) (x .entry) Z R below-then (λ q. hit q (x .entry .child)) (kept-x l (x .entry) (bare es) Z) (kept x es R)
-  unfolding kept-x kept later
-  keeps =
-      let p = x .entry .child in
-      let y : Ent (Kid (suc l)) = record { entry = x .entry; kid = es } in
-      record {
-        took = 0;
-        same = refl;
-        some = omega arith;
-        one = λ h. refl;
-        shows = all-more (put-shows l Z (x .entry) es a (λ q. omega (arith, once q))) all-none;
-        rest = refl;
-        supplied = put-supplied p (tree l (bare es)) s (λ q. omega (arith, once q));
-        pages = λ q. omega (arith, below-one (suc l) q y, under-suc l q y, firsts-none q R);
-        frame = λ q h. put-else p (tree l (bare es)) Z q (omega arith);
-        head = ap lasting (put-head p (tree l (bare es)) Z);
-      }
-
-  splits : Grew (suc l) (x .entry) Z R below-then (λ q. hit q (x .entry .child)) (split-x half l (x .entry) (bare es) Z) (split half x es R)
-  unfolding split-x split later
-  splits =
-      let p = x .entry .child in
-      let n = next-page R in
-      let left = take half es in
-      let right = drop half es in
-      let e : Entry = entry (at (bare right) 0 .start) (x .entry .pair) n in
-      let y : Ent (Kid (suc l)) = record { entry = x .entry; kid = left } in
-      let z : Ent (Kid (suc l)) = record { entry = e; kid = right } in
-      let Z₁ = taken Z in
-      let Z₂ = put p (tree l (bare left)) Z₁ in
-      let room : (q : ℕ) → hit q p + (times-below l q left + times-below l q right) + (hit q n + times-spare q (without-next R)) ≤ 1 =
-      λ q. omega (arith, once q, below-halves l q half es, spare-next q R) in
-      let a₁ : All (λ y. Shows l (Z₁ .page) y) es = rw (taken-page Z) a in
-      let s₂ : Supplied Z₂ (without-next R) = put-supplied p (tree l (bare left)) (taken-supplied s) (λ q. omega (arith, room q)) in
-      let a₂ : All (λ y. Shows l (Z₂ .page) y) right =
-      all-shows l (λ q. hit q p) (put-else p (tree l (bare left)) Z₁) (all-drop half a₁) (λ q. omega (arith, room q)) in
-      rw (← map-take (λ y. y .entry) half es, ← map-drop (λ y. y .entry) half es, spare-is s)
-      (record {
-        took = 1;
-        same = refl;
-        some = omega arith;
-        one = λ h. absurd (omega arith);
-        shows =
-            all-more
-            (shows-move (suc l) (λ q. hit q n) (put-else n (tree l (bare right)) Z₂) y
-            (put-shows l Z₁ (x .entry) left (all-take half a₁) (λ q. omega (arith, room q)))
-            (λ q. omega (arith, room q, under-suc l q y)))
-            (all-more (put-shows l Z₂ e right a₂ (λ q. omega (arith, room q))) all-none);
-        rest = refl;
-        supplied = put-supplied n (tree l (bare right)) s₂ (λ q. omega (arith, room q));
-        pages =
-            λ q. omega (arith, below-cons (suc l) q y (z ∷ []), below-one (suc l) q z, under-suc l q y, under-suc l q z, below-halves l q half es, firsts-more q 0 R, firsts-none q R);
-        frame =
-            λ q h. put-else n (tree l (bare right)) Z₂ q (omega (arith, h, firsts-more q 0 R, firsts-none q R))
-            ∙ put-else p (tree l (bare left)) Z₁ q (omega arith)
-            ∙ ap (λ (f : ℕ → Cell). f q) (taken-page Z);
-        head = ap lasting (put-head n (tree l (bare right)) Z₂ ∙ put-head p (tree l (bare left)) Z₁) ∙ taken-lasting Z;
-      })
-
-  settles : Grew (suc l) (x .entry) Z R below-then (λ q. hit q (x .entry .child)) (settled-x half l (x .entry) (bare es) Z) (settled half x es R)
-  unfolding settled-x settled
-  settles =
-      cond-both (λ r r′. Grew (suc l) (x .entry) Z R below-then (λ q. hit q (x .entry .child)) r r′)
-      (leb (length (bare es)) (capacity half)) (leb (length es) (capacity half))
-      (ap (λ (n : ℕ). leb n (capacity half)) (length-map es (λ y. y .entry)))
-      (λ e. keeps) (λ e. splits)
+use Rattle.view.proofs.Settle.{Grew, settles}
+use Rattle.view.proofs.Stepped.{state, Steady, Stepped, steady-of, steady-then, held-is, once-is}
+use Rattle.view.proofs.Ways.{way-held, kids-shown, bare-same, there, way-top, entries-are, at-bare, has-place, stocked-on, shows-on, way-in, way-below}
 
 -- ---- one level up
 
 module _ (half t l : ℕ) (x : Ent (Kid (suc l))) (X : Image) (S : Supply)
     (shown : Shows (suc l) (X .page) x) (stock : Stocked (suc l) x)
     (once : (q : ℕ) → times q (pages-under (suc l) x) + times-spare q S ≤ 1) where
-  module _ (r : CuttingX) (r′ : Cutting (Kid l))
-      (g : Grew l (there l t (x .kid) .entry) X S (λ q. times q (pages-under l (there l t (x .kid)))) (λ q. times q (way-in t l (there l t (x .kid)))) r r′) where
+  abbrev i : ℕ
+  i = place t (bare (x .kid))
+
+  abbrev y : Ent (Kid l)
+  y = there l t (x .kid)
+
+  abbrev Result : CuttingX → Cutting (Kid (suc l)) → Type 0
+  Result u u′ = Grew (suc l) (x .entry) X S (λ q. times q (pages-under (suc l) x)) (λ q. times q (way-in t (suc l) x)) u u′
+
+  module _ (r : CuttingX) (r′ : Cutting (Kid l)) (g : Grew l (y .entry) X S (λ q. times q (pages-under l y)) (λ q. times q (way-in t l y)) r r′) where
     abbrev new : Ents l
-    new = splice (place t (bare (x .kid))) (r′ .became) (x .kid)
+    new = splice i (r′ .became) (x .kid)
 
-    abbrev Result : CuttingX → Cutting (Kid (suc l)) → Type 0
-    Result u u′ = Grew (suc l) (x .entry) X S (λ q. times q (pages-under (suc l) x)) (λ q. times q (way-in t (suc l) x)) u u′
-
-    bare-new : bare new ≡ splice (place t (bare (x .kid))) (r .became) (bare (x .kid))
-    bare-new = map-splice (λ y. y .entry) (place t (bare (x .kid))) (r′ .became) (x .kid) ∙ ap (λ zs. splice (place t (bare (x .kid))) zs (bare (x .kid))) (sym (g .same))
+    bare-new : bare new ≡ splice i (r .became) (bare (x .kid))
+    bare-new = map-splice (λ z. z .entry) i (r′ .became) (x .kid) ∙ ap (λ zs. splice i zs (bare (x .kid))) (sym (g .same))
 
     -- what each page is counted by
     record Room (q : ℕ) : Type 0 where
-      all-of-x : times q (pages-under (suc l) x) ≡ hit q (x .entry .child) + (times-below l q (take (place t (bare (x .kid))) (x .kid)) + (times q (pages-under l (there l t (x .kid))) + times-below l q (drop (suc (place t (bare (x .kid)))) (x .kid))))
-      all-new : times-below l q new ≡ times-below l q (take (place t (bare (x .kid))) (x .kid)) + ((times q (pages-under l (there l t (x .kid))) + times q (firsts (g .took) S)) + times-below l q (drop (suc (place t (bare (x .kid)))) (x .kid)))
-      written : times q (way-in t l (there l t (x .kid))) ≤ times q (pages-under l (there l t (x .kid)))
-      on-way : times q (way-in t (suc l) x) ≡ hit q (x .entry .child) + times q (way-in t l (there l t (x .kid)))
+      before : times q (pages-under (suc l) x) ≡ hit q (x .entry .child) + (times-below l q (take i (x .kid)) + (times q (pages-under l y) + times-below l q (drop (suc i) (x .kid))))
+      after : times-below l q new ≡ times-below l q (take i (x .kid)) + ((times q (pages-under l y) + times q (firsts (g .took) S)) + times-below l q (drop (suc i) (x .kid)))
+      written : times q (way-in t l y) ≤ times q (pages-under l y)
+      on-way : times q (way-in t (suc l) x) ≡ hit q (x .entry .child) + times q (way-in t l y)
       supply : times q (firsts (g .took) S) + times-spare q (r′ .supply) ≡ times-spare q S
       most : times q (pages-under (suc l) x) + times-spare q S ≤ 1
 
@@ -147,35 +65,25 @@ module _ (half t l : ℕ) (x : Ent (Kid (suc l))) (X : Image) (S : Supply)
     unfolding way-in
     room q =
         record {
-          all-of-x = omega (arith, under-suc l q x, below-at l q (place t (bare (x .kid))) (x .kid) (no-ent l) (has-place l t x stock));
-          all-new = omega (arith, below-splice l q (place t (bare (x .kid))) (r′ .became) (x .kid), g .pages q);
-          written = way-below q t l (there l t (x .kid)) (stocked-on l t x stock);
-          on-way = times-cons q (x .entry .child) (way-in t l (there l t (x .kid)));
+          before = omega (arith, under-suc l q x, below-at l q i (x .kid) (has-place l t x stock));
+          after = omega (arith, below-splice l q i (r′ .became) (x .kid), g .pages q);
+          written = way-below q t l y (stocked-on l t x stock);
+          on-way = times-cons q (x .entry .child) (way-in t l y);
           supply = rw (g .rest) (later-held q (g .took) S);
           most = once q;
         }
 
-    all-new-shown : All (λ y. Shows l (r .image .page) y) new
-    unfolding splice Shows
-    all-new-shown =
-        all-append (moved (all-take (place t (bare (x .kid))) (shown .1)) (λ q. let m = room q in omega arith))
-        (all-append (g .shows) (moved (all-drop (suc (place t (bare (x .kid)))) (shown .1)) (λ q. let m = room q in omega arith)))
-      where
-        moved : {es : Ents l} → All (λ y. Shows l (X .page) y) es
-            → ((q : ℕ) → times q (way-in t l (there l t (x .kid))) + times q (firsts (g .took) S) + times-below l q es ≤ 1)
-            → All (λ y. Shows l (r .image .page) y) es
-        moved a h = all-shows l (λ q. times q (way-in t l (there l t (x .kid))) + times q (firsts (g .took) S)) (g .frame) a h
+    new-shown : All (λ z. Shows l (r .image .page) z) new
+    new-shown =
+        splice-shown l (λ q. times q (way-in t l y) + times q (firsts (g .took) S)) (g .frame) i (kids-shown l X x shown) (g .shows)
+        (λ q. let m = room q in omega arith)
 
     unsplit : eqb (length (r .became)) 1 ≡ true → Result (record { became = x .entry ∷ []; image = r .image }) (kept x new (r′ .supply))
     unfolding kept Shows
     unsplit e =
         let p = x .entry .child in
-        let y : Ent (Kid (suc l)) = record { entry = x .entry; kid = new } in
-        let i : (place t (bare (x .kid))) < length (bare (x .kid)) = rw (length-map (x .kid) (λ y. y .entry)) (has-place l t x stock) in
-        let b : bare (x .kid) ≡ bare new =
-        sym (bare-new
-        ∙ ap (λ zs. splice (place t (bare (x .kid))) zs (bare (x .kid))) (g .one (eqb-true (length (r .became)) 1 e) ∙ ap (λ (z : Entry). z ∷ []) (sym (at-bare l (x .kid) (place t (bare (x .kid))))))
-        ∙ splice-same (place t (bare (x .kid))) (bare (x .kid)) no-entry i) in
+        let x′ : Ent (Kid (suc l)) = record { entry = x .entry; kid = new } in
+        let b : bare new ≡ bare (x .kid) = bare-same l i (r′ .became) (x .kid) (has-place l t x stock) (sym (g .same) ∙ g .one (eqb-true (length (r .became)) 1 e)) in
         record {
           took = g .took;
           same = refl;
@@ -183,89 +91,83 @@ module _ (half t l : ℕ) (x : Ent (Kid (suc l))) (X : Image) (S : Supply)
           one = λ h. refl;
           shows =
               all-more
-              (g .frame p (let m = room p in omega (arith, hit-self p)) ∙ shown .0 ∙ ap (λ es. tree l es) b, all-new-shown)
+              (g .frame p (let m = room p in omega (arith, hit-self p)) ∙ shown .0 ∙ ap (λ es. tree l es) (sym b), new-shown)
               all-none;
           rest = g .rest;
           supplied = g .supplied;
-          pages = λ q. let m = room q in omega (arith, below-one (suc l) q y, under-suc l q y);
+          pages = λ q. let m = room q in omega (arith, below-one (suc l) q x′, under-suc l q x′);
           frame = λ q h. g .frame q (let m = room q in omega arith);
           head = g .head;
         }
 
-    further : Result (settled-x half l (x .entry) (splice (place t (bare (x .kid))) (r .became) (bare (x .kid))) (r .image)) (settled half x new (r′ .supply))
-    further =
-        rw (← bare-new)
-        (go (settled-x half l (x .entry) (bare new) (r .image)) (settled half x new (r′ .supply))
-        (settles half l x new (r .image) (r′ .supply) all-new-shown (g .supplied) (λ q. let m = room q in omega arith)))
-      where
-        go : (u : CuttingX) (u′ : Cutting (Kid (suc l)))
-            → Grew (suc l) (x .entry) (r .image) (r′ .supply) (λ q. hit q (x .entry .child) + times-below l q new) (λ q. hit q (x .entry .child)) u u′
-            → Result u u′
-        go u u′ h =
-            let more : (q : ℕ) → times q (firsts (h .took + g .took) S) ≡ times q (firsts (g .took) S) + times q (firsts (h .took) (r′ .supply)) =
-            λ q. firsts-add q (h .took) (g .took) S ∙ ap (λ (R : Supply). times q (firsts (g .took) S) + times q (firsts (h .took) R)) (sym (g .rest)) in
-            record {
-              took = h .took + g .took;
-              same = h .same;
-              some = h .some;
-              one = h .one;
-              shows = h .shows;
-              rest = h .rest ∙ ap (λ (R : Supply). later (h .took) R) (g .rest) ∙ sym (later-add (h .took) (g .took) S);
-              supplied = h .supplied;
-              pages = λ q. let m = room q in omega (arith, h .pages q, more q);
-              frame =
-                  λ q z. h .frame q (let m = room q in omega (arith, more q)) ∙ g .frame q (let m = room q in omega (arith, more q));
-              head = h .head ∙ g .head;
-            }
+    -- what was done to the pages below, and then to this one
+    further : (u : CuttingX) (u′ : Cutting (Kid (suc l)))
+        → Grew (suc l) (x .entry) (r .image) (r′ .supply) (λ q. hit q (x .entry .child) + times-below l q new) (λ q. hit q (x .entry .child)) u u′
+        → Result u u′
+    further u u′ h =
+        let more : (q : ℕ) → times q (firsts (h .took + g .took) S) ≡ times q (firsts (g .took) S) + times q (firsts (h .took) (r′ .supply)) =
+        λ q. firsts-add q (h .took) (g .took) S ∙ ap (λ (R : Supply). times q (firsts (g .took) S) + times q (firsts (h .took) R)) (sym (g .rest)) in
+        record {
+          took = h .took + g .took;
+          same = h .same;
+          some = h .some;
+          one = h .one;
+          shows = h .shows;
+          rest = h .rest ∙ ap (λ (R : Supply). later (h .took) R) (g .rest) ∙ sym (later-add (h .took) (g .took) S);
+          supplied = h .supplied;
+          pages = λ q. let m = room q in omega (arith, h .pages q, more q);
+          frame =
+              λ q z. h .frame q (let m = room q in omega (arith, more q)) ∙ g .frame q (let m = room q in omega (arith, more q));
+          head = h .head ∙ g .head;
+        }
 
     one-up : Result
         (cond (eqb (length (r .became)) 1) (record { became = x .entry ∷ []; image = r .image })
-        (settled-x half l (x .entry) (splice (place t (bare (x .kid))) (r .became) (bare (x .kid))) (r .image)))
+        (settled-x half l (x .entry) (splice i (r .became) (bare (x .kid))) (r .image)))
         (cond (eqb (length (r′ .became)) 1) (kept x new (r′ .supply)) (settled half x new (r′ .supply)))
     one-up =
         cond-both Result (eqb (length (r .became)) 1) (eqb (length (r′ .became)) 1)
-        (ap (λ (n : ℕ). eqb n 1) (ap length (g .same) ∙ length-map (r′ .became) (λ y. y .entry)))
-        unsplit (λ e. further)
-
-module _ (t : ℕ) (x : Ent (Kid 0)) (X : Image) (S : Supply) (s : Supplied X S) where
-  cut-leaf-is : Grew 0 (x .entry) X S (λ q. times q (pages-under 0 x)) (λ q. times q (way-in t 0 x)) (record { became = cut-leaf-entry t (x .entry); image = X }) (record { became = cut-leaf t x; supply = S })
-  unfolding cut-leaf-entry cut-leaf Shows later
-  cut-leaf-is =
-      cond-both (λ u v. Result u v) (eqb (x .entry .start) t) (eqb (x .entry .start) t) refl
-      (λ e. result (x .entry ∷ []) (x ∷ []) refl (omega arith) (λ h. refl) (all-more tt all-none) (λ q. omega (arith, below-one 0 q x, under-zero q x)))
-      (λ e. result (x .entry ∷ y .entry ∷ []) (x ∷ y ∷ []) refl (omega arith) (λ h. absurd (omega arith)) (all-more tt (all-more tt all-none)) (λ q. omega (arith, below-cons 0 q x (y ∷ []), below-one 0 q y, under-zero q x, under-zero q y)))
-    where
-      y : Ent (Kid 0)
-      y = record { entry = entry t (x .entry .pair) (x .entry .child); kid = tt }
-
-      Result : List Entry → Ents 0 → Type 0
-      Result u v = Grew 0 (x .entry) X S (λ q. times q (pages-under 0 x)) (λ q. times q (way-in t 0 x)) (record { became = u; image = X }) (record { became = v; supply = S })
-
-      result : (u : List Entry) (v : Ents 0) → u ≡ bare v → 1 ≤ length v → (length u ≡ 1 → u ≡ x .entry ∷ [])
-          → All (λ z. Shows 0 (X .page) z) v
-          → ((q : ℕ) → times-below 0 q v ≡ 0)
-          → Result u v
-      result u v a b c d f =
-          record {
-            took = 0;
-            same = a;
-            some = b;
-            one = c;
-            shows = d;
-            rest = refl;
-            supplied = s;
-            pages = λ q. omega (arith, f q, under-zero q x, firsts-none q S);
-            frame = λ q h. refl;
-            head = refl;
-          }
+        (ap (λ (n : ℕ). eqb n 1) (ap length (g .same) ∙ length-map (r′ .became) (λ z. z .entry)))
+        unsplit
+        (λ e.
+        rw (← bare-new)
+        (further (settled-x half l (x .entry) (bare new) (r .image)) (settled half x new (r′ .supply))
+        (settles half l x new (r .image) (r′ .supply) new-shown (g .supplied) (λ q. let m = room q in omega arith))))
 
 abbrev CutIs : (half t l : ℕ) → Ent (Kid l) → Image → Supply → Type 0
 CutIs half t l x X S =
     Grew l (x .entry) X S (λ q. times q (pages-under l x)) (λ q. times q (way-in t l x)) (cut-entry half t l (x .entry) X) (cut-ent half t l x S)
 
+-- a leaf entry
 cut-none : (half t : ℕ) (x : Ent (Kid 0)) (X : Image) (S : Supply) → Supplied X S → CutIs half t 0 x X S
-unfolding cut-entry cut-ent
-cut-none half t x X S s = cut-leaf-is t x X S s
+unfolding cut-entry cut-ent cut-leaf-entry cut-leaf later
+cut-none half t x X S s =
+    cond-both Result (eqb (x .entry .start) t) (eqb (x .entry .start) t) refl
+    (λ e. result (x ∷ []) (omega arith) (λ h. refl))
+    (λ e. result (x ∷ y ∷ []) (omega arith) (λ h. absurd (omega arith)))
+  where
+    y : Ent (Kid 0)
+    y = record { entry = entry t (x .entry .pair) (x .entry .child); kid = tt }
+
+    Result : List Entry → Ents 0 → Type 0
+    Result u v =
+        Grew 0 (x .entry) X S (λ q. times q (pages-under 0 x)) (λ q. times q (way-in t 0 x)) (record { became = u; image = X })
+        (record { became = v; supply = S })
+
+    result : (v : Ents 0) → 1 ≤ length v → (length (bare v) ≡ 1 → bare v ≡ x .entry ∷ []) → Result (bare v) v
+    result v some one =
+        record {
+          took = 0;
+          same = refl;
+          some = some;
+          one = one;
+          shows = leaves-shown (X .page) v;
+          rest = refl;
+          supplied = s;
+          pages = λ q. omega (arith, below-leaf q v, under-zero q x, firsts-none q S);
+          frame = λ q h. refl;
+          head = refl;
+        }
 
 cut-up : (half t l : ℕ) (x : Ent (Kid (suc l))) (X : Image) (S : Supply)
     → Shows (suc l) (X .page) x
@@ -283,7 +185,7 @@ once-there : (t l : ℕ) (x : Ent (Kid (suc l))) (S : Supply)
     → ((q : ℕ) → times q (pages-under (suc l) x) + times-spare q S ≤ 1)
     → (q : ℕ)
     → times q (pages-under l (there l t (x .kid))) + times-spare q S ≤ 1
-once-there t l x S stock once q = omega (arith, once q, under-suc l q x, below-at l q (place t (bare (x .kid))) (x .kid) (no-ent l) (has-place l t x stock))
+once-there t l x S stock once q = omega (arith, once q, under-suc l q x, below-at l q (place t (bare (x .kid))) (x .kid) (has-place l t x stock))
 
 cut-ent-is : (half t l : ℕ) (x : Ent (Kid l)) (X : Image) (S : Supply)
     → Shows l (X .page) x
@@ -309,7 +211,7 @@ raised-shown : (l : ℕ) (es : Ents (suc l)) (Z : Image) (R : Supply) → Z .hea
     → All (λ y. Shows (suc l) (Z .page) y) es
     → Supplied Z R
     → ((q : ℕ) → times-below (suc l) q es + times-spare q R ≤ 1)
-    → Shown (raised (bare es) Z) (record { tree = record { level = suc l; root = next-page R; ents = es }; supply = without-next R })
+    → Shown (raised (bare es) Z) (state (suc l) (next-page R) es (without-next R))
 unfolding root-ent
 raised-shown l es Z R h a s once =
     let n = next-page R in
@@ -336,32 +238,48 @@ raised-steady es Z =
     let s : Steady (Z .head) (taken Z .head) = steady-of (taken-lasting Z) in
     record { pages = s .pages; kind = s .kind; window = s .window; changes = s .changes }
 
-module _ (half t : ℕ) (X : Image) (Y : State) (sh : Shown X Y) (once : Once Y) (stock : Stocked (suc (Y .tree .level)) (root-ent (Y .tree))) where
+module _ (half t : ℕ) (X : Image) (Y : State) (sh : Shown X Y) (once : Once Y) (stock : Full Y) where
+  abbrev l : ℕ
+  l = Y .tree .level
+
+  abbrev x₀ : Ent (Kid (suc l))
+  x₀ = root-ent (Y .tree)
+
   -- a cut that took k pages
   finish : (X′ : Image) (Y′ : State) (k : ℕ) → Shown X′ Y′ → Y′ .supply ≡ later k (Y .supply) → ((q : ℕ) → held q Y′ ≡ held q Y)
-      → Frame (X .page) (X′ .page) (λ q. times q (way-in t (suc (Y .tree .level)) (root-ent (Y .tree))) + times q (firsts k (Y .supply)))
+      → Frame (X .page) (X′ .page) (λ q. times q (way-in t (suc l) x₀) + times q (firsts k (Y .supply)))
       → Steady (X .head) (X′ .head)
       → Stepped X X′ Y Y′ (way t X ++ spares (pages-taken X X′) X)
   finish X′ Y′ k a b c f d =
       let n : pages-taken X X′ ≡ k = taken-is k (sh .supplied) (subst (λ R. Supplied X′ R) b (a .supplied)) in
-      let w : (q : ℕ) → times q (way t X ++ spares (pages-taken X X′) X) ≡ times q (way-in t (suc (Y .tree .level)) (root-ent (Y .tree))) + times q (firsts k (Y .supply)) =
-      λ q. rw (n, spares-are k (sh .supplied), way-top t X Y sh stock) (times-append q (way-in t (suc (Y .tree .level)) (root-ent (Y .tree))) (firsts k (Y .supply))) in
-      record { shown = a; same-held = c; frame = λ q h. f q (omega (arith, w q)); steady = d }
+      let w : (q : ℕ) → times q (way t X ++ spares (pages-taken X X′) X) ≡ times q (way-in t (suc l) x₀) + times q (firsts k (Y .supply)) =
+      λ q. rw (n, spares-are k (sh .supplied), way-top t X Y sh stock) (times-append q (way-in t (suc l) x₀) (firsts k (Y .supply))) in
+      record {
+        shown = a;
+        same-held = c;
+        frame = λ q h. f q (omega (arith, w q));
+        inside = λ q h. omega (arith, w q, way-held q t Y stock, later-held q k (Y .supply), held-is q Y);
+        steady = d;
+      }
 
-  abbrev Cuts : CuttingX → Cutting (Kid (suc (Y .tree .level))) → Type 0
-  Cuts = Grew (suc (Y .tree .level)) (root-ent (Y .tree) .entry) X (Y .supply) (λ q. times q (pages-under (suc (Y .tree .level)) (root-ent (Y .tree)))) (λ q. times q (way-in t (suc (Y .tree .level)) (root-ent (Y .tree))))
+  abbrev Cuts : CuttingX → Cutting (Kid (suc l)) → Type 0
+  Cuts = Grew (suc l) (x₀ .entry) X (Y .supply) (λ q. times q (pages-under (suc l) x₀)) (λ q. times q (way-in t (suc l) x₀))
 
-  pages-kept : {r : CuttingX} {r′ : Cutting (Kid (suc (Y .tree .level)))} → Cuts r r′ → (q : ℕ) → times-below (suc (Y .tree .level)) q (r′ .became) + times-spare q (r′ .supply) ≡ held q Y
+  pages-kept : {r : CuttingX} {r′ : Cutting (Kid (suc l))}
+      → Cuts r r′
+      → (q : ℕ)
+      → times-below (suc l) q (r′ .became) + times-spare q (r′ .supply) ≡ held q Y
   pages-kept {r} {r′} g q =
       let e : times q (firsts (g .took) (Y .supply)) + times-spare q (r′ .supply) ≡ times-spare q (Y .supply) = rw (g .rest) (later-held q (g .took) (Y .supply)) in
       omega (arith, g .pages q, held-is q Y)
 
-  same-root : (x : Ent (Kid (suc (Y .tree .level)))) (R : Supply) (r : CuttingX) → Cuts r (record { became = x ∷ []; supply = R })
-      → Stepped X (r .image) Y (record { tree = record { level = Y .tree .level; root = x .entry .child; ents = x .kid }; supply = R }) (way t X ++ spares (pages-taken X (r .image)) X)
+  same-root : (x : Ent (Kid (suc l))) (R : Supply) (r : CuttingX) → Cuts r (record { became = x ∷ []; supply = R })
+      → Stepped X (r .image) Y (state l (x .entry .child) (x .kid) R) (way t X ++ spares (pages-taken X (r .image)) X)
   unfolding root-ent Shows lasting with-supply
   same-root x R r g =
+      let Y′ = state l (x .entry .child) (x .kid) R in
       let c : x .entry .child ≡ Y .tree .root = ap (λ (es : List Entry). at es 0 .child) (sym (g .same) ∙ g .one (ap length (g .same))) in
-      finish (r .image) (record { tree = record { level = Y .tree .level; root = x .entry .child; ents = x .kid }; supply = R }) (g .took)
+      finish (r .image) Y′ (g .took)
       (record {
         height = ap (λ (h : Head). h .height) (g .head) ∙ sh .height;
         root = ap (λ (h : Head). h .root) (g .head) ∙ sh .root ∙ sym c;
@@ -369,41 +287,41 @@ module _ (half t : ℕ) (X : Image) (Y : State) (sh : Shown X Y) (once : Once Y)
         supplied = g .supplied;
       })
       (g .rest)
-      (λ q. omega (arith, pages-kept g q, below-one (suc (Y .tree .level)) q x, held-is q (record { tree = record { level = Y .tree .level; root = x .entry .child; ents = x .kid }; supply = R }), under-suc (Y .tree .level) q x, under-suc (Y .tree .level) q (root-ent (record { level = Y .tree .level; root = x .entry .child; ents = x .kid }))))
+      (λ q. omega (arith, pages-kept g q, below-one (suc l) q x, held-is q Y′, under-suc l q x, under-suc l q (root-ent (record { level = Y .tree .level; root = x .entry .child; ents = x .kid }))))
       (g .frame)
       (steady-of (g .head))
 
-  new-root : (es : Ents (suc (Y .tree .level))) (R : Supply) (r : CuttingX) → Cuts r (record { became = es; supply = R })
-      → Stepped X (raised (r .became) (r .image)) Y (record { tree = record { level = suc (Y .tree .level); root = next-page R; ents = es }; supply = without-next R }) (way t X ++ spares (pages-taken X (raised (r .became) (r .image))) X)
+  new-root : (es : Ents (suc l)) (R : Supply) (r : CuttingX) → Cuts r (record { became = es; supply = R })
+      → Stepped X (raised (r .became) (r .image)) Y (state (suc l) (next-page R) es (without-next R)) (way t X ++ spares (pages-taken X (raised (r .became) (r .image))) X)
   unfolding lasting with-supply root-ent
   new-root es R r g =
-      let Y′ : State = record { tree = record { level = suc (Y .tree .level); root = next-page R; ents = es }; supply = without-next R } in
-      let h : r .image .head .height ≡ suc (Y .tree .level) = ap (λ (h : Head). h .height) (g .head) ∙ sh .height in
+      let Y′ = state (suc l) (next-page R) es (without-next R) in
+      let h : r .image .head .height ≡ suc l = ap (λ (h : Head). h .height) (g .head) ∙ sh .height in
       let s = steady-of (g .head) in
       let d = raised-steady (r .became) (r .image) in
       let n : next-page R ≡ next-page (later (g .took) (Y .supply)) = ap next-page (g .rest) in
       finish (raised (r .became) (r .image)) Y′ (suc (g .took))
-      (rw (g .same) (raised-shown (Y .tree .level) es (r .image) R h (g .shows) (g .supplied) (λ q. omega (arith, pages-kept g q, once-is Y once q))))
+      (rw (g .same) (raised-shown l es (r .image) R h (g .shows) (g .supplied) (λ q. omega (arith, pages-kept g q, once-is Y once q))))
       (ap without-next (g .rest) ∙ sym (later-more (g .took) (Y .supply)))
-      (λ q. omega (arith, pages-kept g q, held-is q Y′, under-suc (suc (Y .tree .level)) q (root-ent (Y′ .tree)), spare-next q R))
+      (λ q. omega (arith, pages-kept g q, held-is q Y′, under-suc (suc l) q (root-ent (Y′ .tree)), spare-next q R))
       (λ q z.
       let m : hit q (next-page R) ≡ hit q (next-page (later (g .took) (Y .supply))) = ap (λ (p : ℕ). hit q p) n in
       raised-else (r .became) (g .supplied) q (omega (arith, firsts-more q (g .took) (Y .supply)))
       ∙ g .frame q (omega (arith, firsts-more q (g .took) (Y .supply))))
       (steady-then s d)
 
-  grows : (b : List (Ent (Kid (suc (Y .tree .level))))) (R : Supply) (r : CuttingX)
+  grows : (b : List (Ent (Kid (suc l)))) (R : Supply) (r : CuttingX)
       → Cuts r (record { became = b; supply = R })
-      → Stepped X (grown-x r) Y (grown (Y .tree .level) b R) (way t X ++ spares (pages-taken X (grown-x r)) X)
+      → Stepped X (grown-x r) Y (grown l b R) (way t X ++ spares (pages-taken X (grown-x r)) X)
   unfolding grown-x grown
   grows [] R r g = absurd (omega (arith, g .some))
   grows (x ∷ []) R r g = rw (eq-eqb (length (r .became)) 1 (ap length (g .same))) (same-root x R r g)
   grows (x ∷ y ∷ zs) R r g =
       rw (ne-eqb (length (r .became)) 1 (λ e. omega (arith, ap length (g .same)))) (new-root (x ∷ y ∷ zs) R r g)
 
-pub cut-is : (half : ℕ) (_⊕_ : Pair → Pair → Pair) (t : ℕ) (X : Image) (Y : State) → Shown X Y → Once Y → Stocked (suc (Y .tree .level)) (root-ent (Y .tree))
+pub cut-is : (half : ℕ) (_⊕_ : Pair → Pair → Pair) (t : ℕ) (X : Image) (Y : State) → Shown X Y → Once Y → Full Y
     → Stepped X (cut-x half t X) Y (cut half t Y) (cut-names half _⊕_ t X)
-unfolding cut-x cut cut-names root-entry root-ent later
+unfolding cut-x cut cut-names root-entry root-ent later Full
 cut-is half _⊕_ t X Y sh once stock =
     cond-both (λ X′ Y′. Stepped X X′ Y Y′ (way t X ++ spares (pages-taken X X′) X)) (leb END t) (leb END t) refl
     (λ e. finish half t X Y sh once stock X Y 0 sh refl (λ q. refl) (λ q h. refl) (steady-of refl))

@@ -3,6 +3,14 @@ pub mod Moves
 pub mod Taking
 pub mod Ways
 pub mod Stepped
+pub mod Settle
 pub mod Cut
 pub mod Spread
 pub mod Order
+pub mod Turn
+pub mod Shrink
+pub mod Heal
+pub mod Change
+pub mod Formed
+pub mod Limits
+pub mod Fresh

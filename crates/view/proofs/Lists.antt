@@ -1,18 +1,18 @@
 -- Lists of entries, with and without what is below them: edits by place, facts of each entry, and how often a page is below them.
 -- Assumes nothing.
 use Prim.Native.Nat.{ℕ, zero, suc, _+_, _≤_, _<_}
-use mathlib.Core.Path.{_≡_, refl, sym, ap, _∙_, subst}
+use mathlib.Core.Path.{_≡_, refl, sym, ap, _∙_}
 use mathlib.Core.Bool.{Bool, true, false, cond}
-use mathlib.Core.List.{List, [], _∷_, _++_, map, append-assoc}
+use mathlib.Core.List.{List, [], _∷_, _++_, map}
 use native.Mathlib.Omega.{arith}
 use lib.Dec.{eqb, leb}
-use lib.ListN.{length, take, drop, getD, length-map, List·getD-map}
-use lib.Seq.{split-at, length-take-le, take-at, drop-at, take-take, take-append-le}
-use borrow.Author.Tests.{eqb-true, eqb-false, eq-eqb}
+use lib.ListN.{length, take, drop, getD, length-append}
+use lib.Seq.{split-at, drop-cons, length-take-le, drop-at, take-take, take-append-le}
+use borrow.Author.Tests.{eqb-true, eq-eqb}
 use Rattle.page.specs.declared.Entry.{Entry}
-use Rattle.page.specs.Entries.{no-entry, at, last-from, place, splice}
+use Rattle.page.specs.Entries.{last-from, place, splice}
 use Rattle.image.specs.Sound.{times}
-use Rattle.tree.specs.Tree.{Ent, Kid, Ents, no-ent, bare, over, pages-under}
+use Rattle.tree.specs.Tree.{Ent, Kid, Ents, no-ent, over, pages-under}
 use Rattle.tree.specs.Held.{times-below, All, all-none, all-more}
 
 -- ---- tests
@@ -27,6 +27,10 @@ cond-both P false false e f g = g refl
 pub cond-one : {A : Type 0} (P : A → Type 0) {x x′ : A} (a : Bool) → (a ≡ true → P x) → (a ≡ false → P x′) → P (cond a x x′)
 cond-one P true f g = f refl
 cond-one P false f g = g refl
+
+-- the i-th entry with what is below it
+abbrev pub ent-at : (l : ℕ) → Ents l → ℕ → Ent (Kid l)
+ent-at l es i = getD es i (no-ent l)
 
 -- ---- edits by place
 
@@ -63,6 +67,12 @@ module _ {A : Type 0} where
   splice-two i zs ys xs h =
       let n : length (take (suc i) xs) ≡ suc i = length-take-le (suc i) xs (omega arith) in
       rw (drop-at (take (suc i) xs) (ys ++ drop (suc (suc i)) xs) (suc i) n, take-append-le i (take (suc i) xs) (ys ++ drop (suc (suc i)) xs) (omega arith), take-take i (suc i) xs (omega arith))
+
+  -- a list of one has the one that stands anywhere in it first
+  pub only-first : (i : ℕ) (x : A) (zs xs : List A) (d : A) → i < length xs → length (take i xs ++ (x ∷ zs)) ≡ 1 → getD (take i xs ++ (x ∷ zs)) 0 d ≡ x
+  only-first zero x zs xs d h n = refl
+  only-first (suc i) x zs xs d h n =
+      absurd (omega (arith, length-append (take (suc i) xs) (x ∷ zs), length-take-le (suc i) xs (omega arith)))
 
 -- ---- the place of an instant
 
@@ -105,10 +115,6 @@ module _ {A : Type 0} {Q : Ent A → Type 0} where
   all-at i d all-none h = absurd (omega arith)
   all-at zero d (all-more q a) h = q
   all-at (suc i) d (all-more q a) h = all-at i d a (omega arith)
-
-  pub all-splice : (i : ℕ) {zs xs : List (Ent A)} → All Q zs → All Q xs → All Q (splice i zs xs)
-  unfolding splice
-  all-splice i b a = all-append (all-take i a) (all-append b (all-drop (suc i) a))
 
 -- ---- how often a page occurs
 
@@ -175,13 +181,40 @@ module _ (l q : ℕ) where
   below-halves i es =
       ap (λ r. times-below l q r) (sym (lib.ListN.take-append-drop i es)) ∙ below-append (take i es) (drop i es)
 
-  pub below-at : (i : ℕ) (es : Ents l) (d : Ent (Kid l)) → i < length es → times-below l q es ≡ times-below l q (take i es) + (times q (pages-under l (getD es i d)) + times-below l q (drop (suc i) es))
-  below-at i es d h =
-      ap (λ r. times-below l q r) (split-at es i d h)
-      ∙ below-append (take i es) (getD es i d ∷ drop (suc i) es)
-      ∙ ap (λ (n : ℕ). times-below l q (take i es) + n) (below-cons (getD es i d) (drop (suc i) es))
+  pub below-at : (i : ℕ) (es : Ents l) → i < length es
+      → times-below l q es ≡ times-below l q (take i es) + (times q (pages-under l (ent-at l es i)) + times-below l q (drop (suc i) es))
+  below-at i es h =
+      ap (λ r. times-below l q r) (split-at es i (no-ent l) h)
+      ∙ below-append (take i es) (ent-at l es i ∷ drop (suc i) es)
+      ∙ ap (λ (n : ℕ). times-below l q (take i es) + n) (below-cons (ent-at l es i) (drop (suc i) es))
 
   pub below-splice : (i : ℕ) (zs es : Ents l) → times-below l q (splice i zs es) ≡ times-below l q (take i es) + (times-below l q zs + times-below l q (drop (suc i) es))
   unfolding splice
   below-splice i zs es =
       below-append (take i es) (zs ++ drop (suc i) es) ∙ ap (λ (n : ℕ). times-below l q (take i es) + n) (below-append zs (drop (suc i) es))
+
+  -- two neighbours, and two neighbours replaced
+  pub below-two : (i : ℕ) (es : Ents l) → suc i < length es
+      → times-below l q es ≡ times-below l q (take i es) + (times q (pages-under l (ent-at l es i)) + (times q (pages-under l (ent-at l es (suc i))) + times-below l q (drop (suc (suc i)) es)))
+  below-two i es h =
+      let a : i < length es = omega arith in
+      let b : times-below l q (drop (suc i) es) ≡ times q (pages-under l (ent-at l es (suc i))) + times-below l q (drop (suc (suc i)) es) =
+      ap (λ r. times-below l q r) (drop-cons es (suc i) (no-ent l) h) ∙ below-cons (ent-at l es (suc i)) (drop (suc (suc i)) es) in
+      omega (arith, below-at i es a)
+
+  pub below-spliced : (i : ℕ) (zs ys es : Ents l) → suc i < length es
+      → times-below l q (splice i zs (splice (suc i) ys es)) ≡ times-below l q (take i es) + (times-below l q zs + (times-below l q ys + times-below l q (drop (suc (suc i)) es)))
+  below-spliced i zs ys es h =
+      rw (splice-two i zs ys es h)
+      (omega (arith, below-append (take i es) (zs ++ (ys ++ drop (suc (suc i)) es)), below-append zs (ys ++ drop (suc (suc i)) es), below-append ys (drop (suc (suc i)) es)))
+
+  -- a list of one
+  pub below-only : (es : Ents l) → length es ≡ 1 → times-below l q es ≡ times q (pages-under l (ent-at l es 0))
+  below-only [] h = absurd (omega arith)
+  below-only (x ∷ []) h = below-one x
+  below-only (x ∷ y ∷ es) h = absurd (omega arith)
+
+-- nothing is below leaf entries
+pub below-leaf : (q : ℕ) (es : Ents 0) → times-below 0 q es ≡ 0
+below-leaf q [] = below-none 0 q
+below-leaf q (x ∷ es) = omega (arith, below-cons 0 q x es, under-zero q x, below-leaf q es)

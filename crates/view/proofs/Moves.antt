@@ -1,22 +1,23 @@
 -- What a write of a page leaves of what an image shows: what is below an entry, and the supply. Assumes nothing.
-use Prim.Native.Nat.{ℕ, zero, suc, _+_, _-_, _≤_, _<_}
+use Prim.Native.Nat.{ℕ, zero, suc, _+_, _≤_}
 use mathlib.Core.Path.{_≡_, refl, sym, ap, _∙_, subst}
 use mathlib.Core.Bool.{Bool, true, false, cond}
-use mathlib.Core.List.{List, [], _∷_, _++_}
+use mathlib.Core.List.{List, [], _∷_}
 use native.Mathlib.Omega.{arith}
 use lib.Dec.{eqb, leb}
-use lib.ListN.{length}
+use lib.ListN.{take, drop}
 use borrow.Author.Tests.{eq-eqb, ne-eqb, eqb-true, eqb-false, le-leb, leb-true, leb-false}
 use Rattle.page.specs.declared.Entry.{Entry}
 use Rattle.page.specs.declared.Head.{Head}
-use Rattle.image.specs.Images.{Image, Cell, tree, free, never-used, next-in}
+use Rattle.page.specs.Entries.{splice}
+use Rattle.image.specs.Images.{Image, Cell, tree, free, next-in}
 use Rattle.image.specs.Sound.{times}
-use Rattle.steps.specs.Supply.{entries, put, with-supply, spare, taken, given-back, spares, with-root}
+use Rattle.steps.specs.Supply.{put, with-supply, spare, taken, given-back, with-root}
 use Rattle.tree.specs.Tree.{Ent, Kid, Ents, bare, over, pages-under}
 use Rattle.tree.specs.Supply.{Supply, next-page, without-next, with-page}
 use Rattle.tree.specs.Held.{times-below, times-spare, All, all-none, all-more}
 use Rattle.view.specs.View.{Shows, Linked, ends, leads, Supplied}
-use Rattle.view.proofs.Lists.{cond-one, hit, hit-self, hit-is, hit-not, times-cons, times-none, under-suc, below-cons}
+use Rattle.view.proofs.Lists.{cond-one, all-append, all-take, all-drop, hit, hit-self, hit-not, times-cons, times-none, under-suc, below-cons}
 
 -- ---- frames
 
@@ -72,6 +73,11 @@ pub all-shows : (l : ℕ) {pages pages′ : ℕ → Cell} (W : ℕ → ℕ) → 
 all-shows l {pages} {pages′} W frame a h =
     all-move l W (λ y. Shows l pages y) (λ y. Shows l pages′ y) (λ y s h′. shows-move l W frame y s h′) a h
 
+pub leaves-shown : (pages : ℕ → Cell) (es : Ents 0) → All (λ y. Shows 0 pages y) es
+unfolding Shows
+leaves-shown pages [] = all-none
+leaves-shown pages (x ∷ es) = all-more tt (leaves-shown pages es)
+
 -- page p holds the entries of a list that is shown
 pub put-shows : (l : ℕ) (Z : Image) (e : Entry) (es : Ents l) → All (λ y. Shows l (Z .page) y) es
     → ((q : ℕ) → hit q (e .child) + times-below l q es ≤ 1)
@@ -79,6 +85,18 @@ pub put-shows : (l : ℕ) (Z : Image) (e : Entry) (es : Ents l) → All (λ y. S
 unfolding Shows
 put-shows l Z e es a h =
     (put-at (e .child) (tree l (bare es)) Z, all-shows l (λ q. hit q (e .child)) (put-else (e .child) (tree l (bare es)) Z) a h)
+
+-- other entries in the place of one
+pub splice-shown : (l : ℕ) {pages pages′ : ℕ → Cell} (W : ℕ → ℕ) → Frame pages pages′ W
+    → (i : ℕ) {zs es : Ents l}
+    → All (λ y. Shows l pages y) es
+    → All (λ y. Shows l pages′ y) zs
+    → ((q : ℕ) → W q + (times-below l q (take i es) + times-below l q (drop (suc i) es)) ≤ 1)
+    → All (λ y. Shows l pages′ y) (splice i zs es)
+unfolding splice
+splice-shown l W frame i a b h =
+    all-append (all-shows l W frame (all-take i a) (λ q. omega (arith, h q)))
+    (all-append b (all-shows l W frame (all-drop (suc i) a) (λ q. omega (arith, h q))))
 
 -- another entry that leads to the same page
 module _ (l : ℕ) (x : Ent (Kid l)) (e : Entry) (c : e .child ≡ x .entry .child) where
@@ -143,7 +161,7 @@ pub put-supplied : {X : Image} {S : Supply} (p : ℕ) (c : Cell) → Supplied X 
 put-supplied {X} p c s h = supplied-move (λ q. hit q p) (put-head p c X) (put-else p c X) s h
 
 -- from m on is m, or from the next on
-from-on : (q m : ℕ) → hit q m + cond (leb (suc m) q) 1 0 ≡ cond {A = ℕ} (leb m q) 1 0
+pub from-on : (q m : ℕ) → hit q m + cond (leb (suc m) q) 1 0 ≡ cond {A = ℕ} (leb m q) 1 0
 unfolding hit
 from-on q m = go (eqb q m) (leb (suc m) q) (leb m q) refl refl refl
   where
@@ -212,6 +230,14 @@ given-supplied {X} {S} p s h =
       mark = s .mark;
       unused = λ q m n. put-else p (free (X .head .free)) X q (omega (arith, h q, spare-from S q (omega (arith, s .mark)))) ∙ s .unused q m n;
     }
+
+pub spare-given : (q p : ℕ) (S : Supply) → times-spare q (with-page p S) ≡ hit q p + times-spare q S
+unfolding times-spare with-page
+spare-given q p S = omega (arith, times-cons q p (S .chain))
+
+pub given-lasting : (p : ℕ) (X : Image) → lasting (given-back p X .head) ≡ lasting (X .head)
+unfolding given-back put with-supply lasting
+given-lasting p X = refl
 
 pub given-else : (p : ℕ) (X : Image) → Frame (X .page) (given-back p X .page) (λ q. hit q p)
 unfolding given-back

@@ -7,8 +7,7 @@ use mathlib.Core.Bool.{Bool, true, false, cond, _&&_, true≢false, false≢true
 use mathlib.Core.List.{List, [], _∷_, _++_}
 use native.Mathlib.Omega.{arith}
 use lib.Dec.{leb, ltb}
-use lib.ListN.{length, getD}
-use borrow.Author.Tests.{leb-true, leb-false, ltb-true, le-leb, lt-leb}
+use borrow.Author.Tests.{leb-false, ltb-true, le-leb, lt-leb}
 use Rattle.rule.specs.declared.Pair.{Pair}
 use Rattle.rule.specs.Time.{END}
 use Rattle.page.specs.declared.Entry.{Entry}
@@ -17,15 +16,15 @@ use Rattle.image.specs.Images.{Image}
 use Rattle.image.specs.Sound.{times}
 use Rattle.steps.specs.Spread.{inside, meets, start-of, spread as spread-x}
 use Rattle.steps.specs.Change.{way, spread-names}
-use Rattle.tree.specs.Tree.{Ent, Kid, Ents, no-ent, bare}
+use Rattle.tree.specs.Tree.{Ent, Kid, Ents, bare}
 use Rattle.tree.specs.Shape.{Seg, done, more}
 use Rattle.tree.specs.Cut.{State, root-ent}
 use Rattle.tree.specs.Spread.{spread}
-use Rattle.view.specs.View.{Shown, Once, Stocked, Ordered}
-use Rattle.view.proofs.Lists.{cond-one, hit, times-cons, times-none, times-append}
-use Rattle.view.proofs.Ways.{there, way-in, way-top}
-use Rattle.view.proofs.Stepped.{Stepped, steady-of-same}
-use Rattle.view.proofs.Spread.{over-ends, sent-in, spread-root, spread-shown, spread-held}
+use Rattle.view.specs.View.{Shown, Once, Ordered, Full, Gapless}
+use Rattle.view.proofs.Lists.{ent-at, cond-one, hit, times-cons, times-none, times-append}
+use Rattle.view.proofs.Ways.{way-held, there, way-in, way-top}
+use Rattle.view.proofs.Stepped.{held-is, Stepped, steady-of-same}
+use Rattle.view.proofs.Spread.{over-ends, sent-in, sent-below, spread-root, spread-shown, spread-held}
 
 -- ---- the entry that has t
 
@@ -69,13 +68,13 @@ module _ (l t : ℕ) {Q : ℕ → ℕ → Ent (Kid l) → Type 0} {lo hi : ℕ} 
   there-first : t < lo → there l t (x ∷ es) ≡ x
   unfolding place last-from
   there-first h =
-      ap (λ (n : ℕ). getD (x ∷ es) n (no-ent l))
+      ap (λ (n : ℕ). ent-at l (x ∷ es) n)
       (last-none t 1 (cond (leb (x .entry .start) t) 0 0) r h ∙ cond-one (λ (n : ℕ). n ≡ 0) (leb (x .entry .start) t) (λ e. refl) (λ e. refl))
 
   there-later : lo ≤ t → t < hi → there l t (x ∷ es) ≡ there l t es
   unfolding place last-from
   there-later h k =
-      ap (λ (n : ℕ). getD (x ∷ es) n (no-ent l))
+      ap (λ (n : ℕ). ent-at l (x ∷ es) n)
       (last-some t 1 (cond (leb (x .entry .start) t) 0 0) 1 r h k ∙ last-shift t 0 0 (bare es))
 
 -- ---- pages that are not on the ways
@@ -120,7 +119,7 @@ module _ (s e q : ℕ) where
   below-clear : (l lo hi : ℕ) (es : Ents l) → Seg (λ a b y. Ordered l a b y) lo hi es → Clear l
       → Off s l lo hi (there l s es)
       → Off e l lo hi (there l e es)
-      → times q (over-ends (λ h y. sent-in s e l h y) hi es) ≡ 0
+      → times q (sent-below s e l hi es) ≡ 0
   below-clear l lo hi es r clear off-s off-e =
       ends-zero l q (λ h y. sent-in s e l h y) r
       (λ a b y o st h k m th.
@@ -140,7 +139,7 @@ module _ (s e q : ℕ) where
   unfolding sent-in Ordered
   sent-clear zero lo hi x o st k off-s off-e = times-none q
   sent-clear (suc l) lo hi x o st k off-s off-e =
-      let below = over-ends (λ h y. sent-in s e l h y) hi (x .kid) in
+      let below = sent-below s e l hi (x .kid) in
       let b : times q below ≡ 0 = below-clear l lo hi (x .kid) o (λ lo hi x. sent-clear l lo hi x) (off-below s l lo hi x off-s) (off-below e l lo hi x off-e) in
       let none : (ps : List ℕ) → Type 0 = λ ps. times q ps ≡ 0 in
       rw st
@@ -155,14 +154,14 @@ module _ (s e q : ℕ) where
 -- ---- from the root
 
 pub spread-is : (half : ℕ) (_⊕_ : Pair → Pair → Pair) (s e : ℕ) (effect : Pair) (X : Image) (Y : State) → Shown X Y → Once Y
-    → Stocked (suc (Y .tree .level)) (root-ent (Y .tree))
-    → Ordered (suc (Y .tree .level)) 0 END (root-ent (Y .tree))
+    → Full Y
+    → Gapless Y
     → Stepped X (spread-x _⊕_ s e effect X) Y (spread _⊕_ s e effect Y) (spread-names half _⊕_ s e X)
-unfolding spread-names way-in Ordered root-ent
+unfolding spread-names way-in Ordered root-ent Gapless
 spread-is half _⊕_ s e effect X Y sh once stock order =
     let l = Y .tree .level in
     let es = Y .tree .ents in
-    let U = over-ends (λ h y. sent-in s e l h y) END es in
+    let U = sent-below s e l END es in
     let d = spread-root _⊕_ s e effect X Y sh once in
     record {
       shown = spread-shown _⊕_ s e effect X Y sh once;
@@ -175,5 +174,9 @@ spread-is half _⊕_ s e effect X Y sh once stock order =
           let c : times q (way s X ++ way e X) ≡ times q (way s X) + times q (way e X) = times-append q (way s X) (way e X) in
           let u : times q U ≡ 0 = below-clear s e q l 0 END es order (sent-clear s e q l) (λ i j. omega arith) (λ i j. omega arith) in
           d .frame q (omega (arith, times-cons q (Y .tree .root) U));
+      inside = λ q h.
+          let a : times q (way s X) ≡ times q (way-in s (suc l) (root-ent (Y .tree))) = ap (λ (ps : List ℕ). times q ps) (way-top s X Y sh stock) in
+          let b : times q (way e X) ≡ times q (way-in e (suc l) (root-ent (Y .tree))) = ap (λ (ps : List ℕ). times q ps) (way-top e X Y sh stock) in
+          omega (arith, times-append q (way s X) (way e X), way-held q s Y stock, way-held q e Y stock, held-is q Y);
       steady = steady-of-same (d .head);
     }

@@ -1,28 +1,27 @@
 -- Combining an effect into a span does to the tree that an image shows what it does to trees. Assumes nothing.
-use Prim.Native.Nat.{ℕ, zero, suc, _+_, _-_, _≤_, _<_}
-use mathlib.Core.Path.{_≡_, refl, sym, ap, _∙_, subst}
+use Prim.Native.Nat.{ℕ, zero, suc, _≤_}
+use mathlib.Core.Path.{_≡_, refl, sym, ap, _∙_}
 use mathlib.Core.Bool.{Bool, true, false, cond}
-use mathlib.Core.List.{List, [], _∷_, _++_, map}
+use mathlib.Core.List.{List, [], _∷_, _++_}
 use native.Mathlib.Omega.{arith}
-use lib.ListN.{length}
 use Rattle.rule.specs.declared.Pair.{Pair}
 use Rattle.rule.specs.Time.{END}
 use Rattle.page.specs.declared.Entry.{Entry}
 use Rattle.page.specs.declared.Head.{Head}
 use Rattle.page.specs.Entries.{entry}
-use Rattle.image.specs.Images.{Image, Cell, tree}
+use Rattle.image.specs.Images.{Image, tree}
 use Rattle.image.specs.Sound.{times}
-use Rattle.steps.specs.Supply.{entries, put}
+use Rattle.steps.specs.Supply.{put}
 use Rattle.steps.specs.Spread.{inside, meets, start-of, took, sent, spread-entries, spread-over, spread-page, spread as spread-x}
-use Rattle.tree.specs.Tree.{Ent, Kid, Ents, bare, pages-under, Tree}
+use Rattle.tree.specs.Tree.{Ent, Kid, Ents, bare, pages-under}
 use Rattle.tree.specs.Cut.{State, root-ent}
 use Rattle.tree.specs.Spread.{with-ends, spread-ent, spread-ents, spread}
-use Rattle.tree.specs.Held.{times-below, times-spare, All, all-none, all-more, held}
-use Rattle.view.specs.View.{Shows, Supplied, Shown, Once, Stocked}
-use Rattle.view.proofs.Lists.{cond-both, cond-one, hit, hit-self, times-cons, times-none, times-append, under-zero, under-suc, below-none, below-cons, all-head, all-tail}
-use Rattle.view.proofs.Moves.{Frame, put-at, put-else, put-head, shows-move, all-shows, put-shows, same-shows, same-under, supplied-move}
+use Rattle.tree.specs.Held.{times-below, All, all-none, all-more, held}
+use Rattle.view.specs.View.{Shows, Shown, Once}
+use Rattle.view.proofs.Lists.{cond-one, times-cons, times-none, times-append, under-zero, under-suc, below-cons, all-head, all-tail}
+use Rattle.view.proofs.Moves.{Frame, put-else, put-head, shows-move, all-shows, put-shows, same-shows, same-under, supplied-move}
 use Rattle.view.proofs.Stepped.{held-is, once-is}
-use Rattle.view.proofs.Ways.{entries-are, kids-shown}
+use Rattle.view.proofs.Ways.{from-root, entries-are, kids-shown}
 
 -- What a step does to an entry and the pages below it, W the pages that may be written. The head stays.
 pub record Sent (l : ℕ) (X X′ : Image) (x x′ : Ent (Kid l)) (W : List ℕ) : Type 0 where
@@ -50,21 +49,25 @@ sent-in s e (suc l) hi x =
     cond (inside s e (x .entry .start) hi) []
     (cond (meets s e (x .entry .start) hi) (x .entry .child ∷ over-ends (λ h y. sent-in s e l h y) hi (x .kid)) [])
 
+-- and below the entries of a page
+abbrev pub sent-below : (s e l hi : ℕ) → Ents l → List ℕ
+sent-below s e l hi es = over-ends (λ h y. sent-in s e l h y) hi es
+
 ends-within : (s e l q : ℕ) → ((hi : ℕ) (x : Ent (Kid l)) → times q (sent-in s e l hi x) ≤ times q (pages-under l x))
     → (hi : ℕ) (es : Ents l)
-    → times q (over-ends (λ h y. sent-in s e l h y) hi es) ≤ times-below l q es
+    → times q (sent-below s e l hi es) ≤ times-below l q es
 unfolding over-ends
 ends-within s e l q within hi [] = omega (arith, times-none q)
 ends-within s e l q within hi (x ∷ xs) =
     let end = start-of hi (bare xs) in
-    let r : times q (over-ends (λ h y. sent-in s e l h y) hi xs) ≤ times-below l q xs = ends-within s e l q within hi xs in
-    omega (arith, times-append q (sent-in s e l end x) (over-ends (λ h y. sent-in s e l h y) hi xs), within end x, below-cons l q x xs)
+    let r : times q (sent-below s e l hi xs) ≤ times-below l q xs = ends-within s e l q within hi xs in
+    omega (arith, times-append q (sent-in s e l end x) (sent-below s e l hi xs), within end x, below-cons l q x xs)
 
 sent-within : (s e l q hi : ℕ) (x : Ent (Kid l)) → times q (sent-in s e l hi x) ≤ times q (pages-under l x)
 unfolding sent-in
 sent-within s e zero q hi x = omega (arith, times-none q)
 sent-within s e (suc l) q hi x =
-    let below = over-ends (λ h y. sent-in s e l h y) hi (x .kid) in
+    let below = sent-below s e l hi (x .kid) in
     let r : times q below ≤ times-below l q (x .kid) = ends-within s e l q (λ h y. sent-within s e l q h y) hi (x .kid) in
     let few : (ps : List ℕ) → Type 0 = λ ps. times q ps ≤ times q (pages-under (suc l) x) in
     cond-one few (inside s e (x .entry .start) hi) (λ h. omega (arith, times-none q))
@@ -106,7 +109,12 @@ module _ (_⊕_ : Pair → Pair → Pair) (s e : ℕ) (effect : Pair) where
   SentIs l hi x X = Sent l X (sent _⊕_ s e effect (below-of l) hi (x .entry) X) x (spread-ent _⊕_ s e effect l hi x) (sent-in s e l hi x)
 
   abbrev WalkIs : (l hi : ℕ) → Ents l → Image → Type 0
-  WalkIs l hi es X = Walked l X (spread-entries _⊕_ s e effect (below-of l) hi (bare es) X .image) es (new l hi es) (over-ends (λ h y. sent-in s e l h y) hi es)
+  WalkIs l hi es X = Walked l X (spread-entries _⊕_ s e effect (below-of l) hi (bare es) X .image) es (new l hi es) (sent-below s e l hi es)
+
+  abbrev PageIs : (l hi : ℕ) → Ent (Kid (suc l)) → Image → Type 0
+  PageIs l hi x X =
+      Sent (suc l) X (spread-page _⊕_ s e effect l hi (x .entry .child) X) x (record { entry = x .entry; kid = new l hi (x .kid) })
+      (x .entry .child ∷ sent-below s e l hi (x .kid))
 
   walk-none : (l hi : ℕ) (X : Image) → WalkIs l hi [] X
   unfolding spread-entries with-ends
@@ -124,7 +132,7 @@ module _ (_⊕_ : Pair → Pair → Pair) (s e : ℕ) (effect : Pair) where
       let Z = sent _⊕_ s e effect (below-of l) end (x .entry) X in
       let x′ = spread-ent _⊕_ s e effect l end x in
       let W = sent-in s e l end x in
-      let U = over-ends (λ h y. sent-in s e l h y) hi xs in
+      let U = sent-below s e l hi xs in
       let u : SentIs l end x X = f end in
       let v : WalkIs l hi xs Z =
       g Z (all-shows l (λ q. times q W) (u .frame) (all-tail a) (λ q. omega (arith, once q, below-cons l q x xs, sent-within s e l q end x))) in
@@ -152,18 +160,18 @@ module _ (_⊕_ : Pair → Pair → Pair) (s e : ℕ) (effect : Pair) where
   -- a page and the entries below it
   paged : (l hi : ℕ) (x : Ent (Kid (suc l))) (X : Image) → Shows (suc l) (X .page) x → ((q : ℕ) → times q (pages-under (suc l) x) ≤ 1)
       → WalkIs l hi (x .kid) X
-      → Sent (suc l) X (spread-page _⊕_ s e effect l hi (x .entry .child) X) x (record { entry = x .entry; kid = new l hi (x .kid) }) (x .entry .child ∷ over-ends (λ h y. sent-in s e l h y) hi (x .kid))
+      → PageIs l hi x X
   unfolding spread-over
   paged l hi x X shown once w =
       rw (page-over l hi (x .entry .child) X, entries-are l X x shown, became-is l hi (x .kid) X)
       (go (spread-entries _⊕_ s e effect (below-of l) hi (bare (x .kid)) X .image) w)
     where
-      go : (Z : Image) → Walked l X Z (x .kid) (new l hi (x .kid)) (over-ends (λ h y. sent-in s e l h y) hi (x .kid))
-          → Sent (suc l) X (put (x .entry .child) (tree l (bare (new l hi (x .kid)))) Z) x (record { entry = x .entry; kid = new l hi (x .kid) }) (x .entry .child ∷ over-ends (λ h y. sent-in s e l h y) hi (x .kid))
+      go : (Z : Image) → Walked l X Z (x .kid) (new l hi (x .kid)) (sent-below s e l hi (x .kid))
+          → Sent (suc l) X (put (x .entry .child) (tree l (bare (new l hi (x .kid)))) Z) x (record { entry = x .entry; kid = new l hi (x .kid) }) (x .entry .child ∷ sent-below s e l hi (x .kid))
       go Z w =
           let p = x .entry .child in
           let c = tree l (bare (new l hi (x .kid))) in
-          let U = over-ends (λ h y. sent-in s e l h y) hi (x .kid) in
+          let U = sent-below s e l hi (x .kid) in
           record {
             shows = put-shows l Z (x .entry) (new l hi (x .kid)) (w .shows) (λ q. omega (arith, once q, under-suc l q x, w .pages q));
             frame = λ q h. put-else p c Z q (omega (arith, h, times-cons q p U)) ∙ w .frame q (omega (arith, h, times-cons q p U));
@@ -180,7 +188,7 @@ module _ (_⊕_ : Pair → Pair → Pair) (s e : ℕ) (effect : Pair) where
       cond-one still (inside s e (x .entry .start) hi) (λ h. same) (λ h. cond-one still (meets s e (x .entry .start) hi) (λ h. same) (λ h. same))
 
   sent-up : (l hi : ℕ) (x : Ent (Kid (suc l))) (X : Image) → Shows (suc l) (X .page) x
-      → Sent (suc l) X (spread-page _⊕_ s e effect l hi (x .entry .child) X) x (record { entry = x .entry; kid = new l hi (x .kid) }) (x .entry .child ∷ over-ends (λ h y. sent-in s e l h y) hi (x .kid))
+      → PageIs l hi x X
       → SentIs (suc l) hi x X
   unfolding sent below-of spread-ent sent-in
   sent-up l hi x X shown w = go (inside s e (x .entry .start) hi) (meets s e (x .entry .start) hi)
@@ -201,7 +209,7 @@ module _ (_⊕_ : Pair → Pair → Pair) (s e : ℕ) (effect : Pair) where
       Z = spread-page _⊕_ s e effect l hi (x .entry .child) X
 
       U : List ℕ
-      U = x .entry .child ∷ over-ends (λ h y. sent-in s e l h y) hi (x .kid)
+      U = x .entry .child ∷ sent-below s e l hi (x .kid)
 
       below : Sent (suc l) X Z x (record { entry = E; kid = new l hi (x .kid) }) U
       below =
@@ -227,16 +235,13 @@ module _ (_⊕_ : Pair → Pair → Pair) (s e : ℕ) (effect : Pair) where
   -- ---- from the root
 
   module _ (X : Image) (Y : State) (sh : Shown X Y) (once : Once Y) where
-    pub spread-root : Sent (suc (Y .tree .level)) X (spread-x _⊕_ s e effect X) (root-ent (Y .tree)) (record { entry = root-ent (Y .tree) .entry; kid = new (Y .tree .level) END (Y .tree .ents) }) (Y .tree .root ∷ over-ends (λ h y. sent-in s e (Y .tree .level) h y) END (Y .tree .ents))
+    pub spread-root : Sent (suc (Y .tree .level)) X (spread-x _⊕_ s e effect X) (root-ent (Y .tree)) (record { entry = root-ent (Y .tree) .entry; kid = new (Y .tree .level) END (Y .tree .ents) }) (Y .tree .root ∷ sent-below s e (Y .tree .level) END (Y .tree .ents))
     unfolding spread-x root-ent
     spread-root =
         let l = Y .tree .level in
         let x = root-ent (Y .tree) in
-        let h : X .head .height - 1 ≡ l = omega (arith, sh .height) in
         let few : (q : ℕ) → times q (pages-under (suc l) x) ≤ 1 = λ q. omega (arith, held-is q Y, once-is Y once q) in
-        let same : spread-page _⊕_ s e effect (X .head .height - 1) END (X .head .root) X ≡ spread-page _⊕_ s e effect l END (Y .tree .root) X =
-        ap (λ (n : ℕ). spread-page _⊕_ s e effect n END (X .head .root) X) h ∙ ap (λ (p : ℕ). spread-page _⊕_ s e effect l END p X) (sh .root) in
-        rw same
+        rw (from-root sh (λ n p. spread-page _⊕_ s e effect n END p X))
         (paged l END x X (sh .below) few
         (walk l END (λ h y Z a b. sent-is l h y Z a b) (Y .tree .ents) X (kids-shown l X x (sh .below)) (λ q. omega (arith, few q, under-suc l q x))))
 
@@ -245,7 +250,7 @@ module _ (_⊕_ : Pair → Pair → Pair) (s e : ℕ) (effect : Pair) where
     spread-shown =
         let l = Y .tree .level in
         let d = spread-root in
-        let U = over-ends (λ h y. sent-in s e l h y) END (Y .tree .ents) in
+        let U = sent-below s e l END (Y .tree .ents) in
         record {
           height = ap (λ (h : Head). h .height) (d .head) ∙ sh .height;
           root = ap (λ (h : Head). h .root) (d .head) ∙ sh .root;

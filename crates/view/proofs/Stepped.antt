@@ -1,19 +1,22 @@
 -- What every step does to an image and to the tree and supply that it shows. Assumes nothing.
 use Prim.Native.Nat.{ℕ, zero, suc, _+_, _≤_}
-use mathlib.Core.Path.{_≡_, refl, sym, ap, _∙_}
-use mathlib.Core.List.{List, [], _∷_, _++_, List·Memᴰ, List·Memᴰ·head, List·Memᴰ·tail}
+use mathlib.Core.Path.{_≡_, refl, ap, _∙_}
+use mathlib.Core.List.{List, [], _∷_, List·Memᴰ, List·Memᴰ·head, List·Memᴰ·tail}
 use native.Mathlib.Omega.{arith}
-use lib.Dec.{eqb}
 use Rattle.page.specs.declared.Head.{Head}
-use Rattle.image.specs.Images.{Image, Cell}
+use Rattle.image.specs.Images.{Image}
 use Rattle.image.specs.Sound.{times}
-use Rattle.steps.specs.Supply.{with-supply, with-root}
-use Rattle.tree.specs.Tree.{pages-under}
+use Rattle.steps.specs.Supply.{with-supply}
+use Rattle.tree.specs.Tree.{Ents, pages-under}
+use Rattle.tree.specs.Supply.{Supply}
 use Rattle.tree.specs.Cut.{State, root-ent}
 use Rattle.tree.specs.Held.{times-spare, held}
 use Rattle.view.specs.View.{Shown, Once}
-use Rattle.view.proofs.Lists.{hit, hit-is, times-cons, times-none, times-append, under-suc}
+use Rattle.view.proofs.Lists.{hit, hit-is, times-cons, times-none, under-suc}
 use Rattle.view.proofs.Moves.{Frame, lasting}
+
+abbrev pub state : (l root : ℕ) → Ents l → Supply → State
+state l root es S = record { tree = record { level = l; root = root; ents = es }; supply = S }
 
 -- the head's numbers that no step sets
 pub record Steady (h g : Head) : Type 0 where
@@ -44,11 +47,12 @@ steady-then a b =
       changes = b .changes ∙ a .changes;
     }
 
--- From X to X′, on trees from Y to Y′: what is shown, the pages held, and the pages that may differ.
+-- From X to X′, on trees from Y to Y′: what is shown, the pages held, and the pages that may differ, all of which are held.
 pub record Stepped (X X′ : Image) (Y Y′ : State) (names : List ℕ) : Type 0 where
   pub shown : Shown X′ Y′
   pub same-held : (q : ℕ) → held q Y′ ≡ held q Y
   pub frame : Frame (X .page) (X′ .page) (λ q. times q names)
+  pub inside : (q : ℕ) → held q Y ≡ 0 → times q names ≡ 0
   pub steady : Steady (X .head) (X′ .head)
 
 pub once-after : {X X′ : Image} {Y Y′ : State} {names : List ℕ} → Stepped X X′ Y Y′ names → Once Y → Once Y′

@@ -1,13 +1,13 @@
 -- Pages taken one after the other: which they are, how many, and what is left. Assumes nothing.
-use Prim.Native.Nat.{ℕ, zero, suc, _+_, _-_, _≤_, _<_}
-use mathlib.Core.Path.{_≡_, refl, sym, ap, _∙_}
+use Prim.Native.Nat.{ℕ, zero, suc, _+_, _≤_}
+use mathlib.Core.Path.{_≡_, refl, ap, _∙_}
 use mathlib.Core.List.{List, [], _∷_}
 use native.Mathlib.Omega.{arith}
 use native.Mathlib.Nat.{zero-add, suc-add}
 use lib.ListN.{length}
 use Rattle.image.specs.Images.{Image}
 use Rattle.image.specs.Sound.{times}
-use Rattle.steps.specs.Supply.{spare, taken, spares, pages-taken}
+use Rattle.steps.specs.Supply.{taken, spares, pages-taken}
 use Rattle.tree.specs.Supply.{Supply, next-page, without-next}
 use Rattle.tree.specs.Held.{times-spare}
 use Rattle.view.specs.View.{Supplied}

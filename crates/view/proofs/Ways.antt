@@ -1,11 +1,11 @@
 -- The way to an instant, on the tree: it is that of the image, and its pages are pages of the tree. Assumes nothing.
-use Prim.Native.Nat.{ℕ, zero, suc, _+_, _-_, _≤_, _<_}
+use Prim.Native.Nat.{ℕ, zero, suc, _-_, _≤_, _<_}
 use mathlib.Core.Path.{_≡_, refl, sym, ap, _∙_}
 use mathlib.Core.List.{List, [], _∷_}
 use native.Mathlib.Omega.{arith}
-use lib.ListN.{length, getD, length-map, List·getD-map}
+use lib.ListN.{length, length-map, List·getD-map}
 use Rattle.page.specs.declared.Entry.{Entry}
-use Rattle.page.specs.Entries.{at, place}
+use Rattle.page.specs.Entries.{no-entry, at, place, splice}
 use Rattle.image.specs.Images.{Image, entries-in}
 use Rattle.image.specs.Sound.{times}
 use Rattle.steps.specs.Supply.{entries}
@@ -13,9 +13,9 @@ use Rattle.steps.specs.Change.{way-from, way}
 use Rattle.tree.specs.Cut.{State, root-ent}
 use Rattle.tree.specs.Tree.{Ent, Kid, Ents, no-ent, bare, pages-under}
 use Rattle.tree.specs.Shape.{root-least}
-use Rattle.tree.specs.Held.{times-below, All}
-use Rattle.view.specs.View.{Shows, Shown, Stocked}
-use Rattle.view.proofs.Lists.{all-at, place-in, hit, times-cons, times-none, under-zero, under-suc, below-at}
+use Rattle.tree.specs.Held.{All}
+use Rattle.view.specs.View.{Shows, Shown, Stocked, Full}
+use Rattle.view.proofs.Lists.{ent-at, map-splice, splice-same, all-at, place-in, times-cons, times-none, under-zero, under-suc, below-at}
 
 pub entries-are : (l : ℕ) (X : Image) (x : Ent (Kid (suc l))) → Shows (suc l) (X .page) x → entries X (x .entry .child) ≡ bare (x .kid)
 unfolding Shows entries entries-in
@@ -25,8 +25,16 @@ pub kids-shown : (l : ℕ) (X : Image) (x : Ent (Kid (suc l))) → Shows (suc l)
 unfolding Shows
 kids-shown l X x s = s .1
 
-pub at-bare : (l : ℕ) (es : Ents l) (i : ℕ) → at (bare es) i ≡ getD es i (no-ent l) .entry
+pub at-bare : (l : ℕ) (es : Ents l) (i : ℕ) → at (bare es) i ≡ ent-at l es i .entry
 at-bare l es i = List·getD-map (λ x. x .entry) es i (no-ent l)
+
+-- the same entry in its place, whatever is below it
+pub bare-same : (l i : ℕ) (zs es : Ents l) → i < length es → bare zs ≡ ent-at l es i .entry ∷ [] → bare (splice i zs es) ≡ bare es
+bare-same l i zs es h e =
+    let n : i < length (bare es) = rw (length-map es (λ y. y .entry)) h in
+    map-splice (λ y. y .entry) i zs es
+    ∙ ap (λ (r : List Entry). splice i r (bare es)) (e ∙ ap (λ (z : Entry). z ∷ []) (sym (at-bare l es i)))
+    ∙ splice-same i (bare es) no-entry n
 
 least-one : (l : ℕ) → 1 ≤ root-least l
 unfolding root-least
@@ -35,7 +43,7 @@ least-one (suc l) = omega arith
 
 -- the entry that has t
 abbrev pub there : (l t : ℕ) → Ents l → Ent (Kid l)
-there l t es = getD es (place t (bare es)) (no-ent l)
+there l t es = ent-at l es (place t (bare es))
 
 module _ (l t : ℕ) (x : Ent (Kid (suc l))) (k : Stocked (suc l) x) where
   pub has-place : place t (bare (x .kid)) < length (x .kid)
@@ -67,14 +75,16 @@ way-is t (suc l) X x k s =
     ap (λ (b : Entry). x .entry .child ∷ way-from t l (b .child) X) e
     ∙ ap (λ (r : List ℕ). x .entry .child ∷ r) (way-is t l X y (stocked-on (suc l) t x k) (shows-on (suc l) t x k X s))
 
--- the way from the root
-pub way-top : (t : ℕ) (X : Image) (Y : State) → Shown X Y → Stocked (suc (Y .tree .level)) (root-ent (Y .tree)) → way t X ≡ way-in t (suc (Y .tree .level)) (root-ent (Y .tree))
-unfolding way root-ent
-way-top t X Y sh k =
+-- what starts at the root of an image starts at the root of the tree that it shows
+pub from-root : {A : Type 0} {X : Image} {Y : State} → Shown X Y → (f : ℕ → ℕ → A) → f (X .head .height - 1) (X .head .root) ≡ f (Y .tree .level) (Y .tree .root)
+from-root {A} {X} {Y} sh f =
     let e : X .head .height - 1 ≡ Y .tree .level = omega (arith, sh .height) in
-    ap (λ (n : ℕ). way-from t n (X .head .root) X) e
-    ∙ ap (λ (p : ℕ). way-from t (Y .tree .level) p X) (sh .root)
-    ∙ way-is t (Y .tree .level) X (root-ent (Y .tree)) k (sh .below)
+    ap (λ (n : ℕ). f n (X .head .root)) e ∙ ap (λ (p : ℕ). f (Y .tree .level) p) (sh .root)
+
+-- the way from the root
+pub way-top : (t : ℕ) (X : Image) (Y : State) → Shown X Y → Full Y → way t X ≡ way-in t (suc (Y .tree .level)) (root-ent (Y .tree))
+unfolding way root-ent Full
+way-top t X Y sh k = from-root sh (λ n p. way-from t n p X) ∙ way-is t (Y .tree .level) X (root-ent (Y .tree)) k (sh .below)
 
 pub way-below : (q t l : ℕ) (x : Ent (Kid l)) → Stocked l x → times q (way-in t l x) ≤ times q (pages-under l x)
 unfolding way-in
@@ -82,4 +92,8 @@ way-below q t zero x k = omega (arith, times-none q, under-zero q x)
 way-below q t (suc l) x k =
     let y = there l t (x .kid) in
     let r : times q (way-in t l y) ≤ times q (pages-under l y) = way-below q t l y (stocked-on l t x k) in
-    omega (arith, times-cons q (x .entry .child) (way-in t l y), under-suc l q x, below-at l q (place t (bare (x .kid))) (x .kid) (no-ent l) (has-place l t x k))
+    omega (arith, times-cons q (x .entry .child) (way-in t l y), under-suc l q x, below-at l q (place t (bare (x .kid))) (x .kid) (has-place l t x k))
+
+pub way-held : (q t : ℕ) (Y : State) → Full Y → times q (way-in t (suc (Y .tree .level)) (root-ent (Y .tree))) ≤ times q (pages-under (suc (Y .tree .level)) (root-ent (Y .tree)))
+unfolding Full
+way-held q t Y k = way-below q t (suc (Y .tree .level)) (root-ent (Y .tree)) k

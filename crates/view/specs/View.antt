@@ -5,7 +5,8 @@ use mathlib.Core.Path.{_≡_}
 use mathlib.Core.List.{List, [], _∷_}
 use lib.ListN.{length}
 use Rattle.image.specs.Images.{Image, Cell, tree, free, never-used}
-use Rattle.tree.specs.Tree.{Ent, Kid, Ents, bare, Tree}
+use Rattle.rule.specs.Time.{END}
+use Rattle.tree.specs.Tree.{Ent, Kid, bare}
 use Rattle.tree.specs.Supply.{Supply}
 use Rattle.tree.specs.Cut.{State, root-ent}
 use Rattle.tree.specs.Shape.{Seg, root-least}
@@ -45,7 +46,14 @@ unfoldable pub Stocked : (l : ℕ) → Ent (Kid l) → Type 0
 Stocked zero x = Unit {0}
 Stocked (suc l) x = (root-least l ≤ length (x .kid)) × All (λ y. Stocked l y) (x .kid)
 
+-- the whole tree
+unfoldable pub Full : State → Type 0
+Full Y = Stocked (suc (Y .tree .level)) (root-ent (Y .tree))
+
 -- The entries below follow each other from lo to hi with no gap, on every level.
 unfoldable pub Ordered : (l : ℕ) → ℕ → ℕ → Ent (Kid l) → Type 0
 Ordered zero lo hi x = Unit {0}
 Ordered (suc l) lo hi x = Seg (λ a b y. Ordered l a b y) lo hi (x .kid)
+
+unfoldable pub Gapless : State → Type 0
+Gapless Y = Ordered (suc (Y .tree .level)) 0 END (root-ent (Y .tree))

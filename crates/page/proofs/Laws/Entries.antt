@@ -6,7 +6,8 @@ use native.Mathlib.Nat.{add-zero}
 use native.Mathlib.Omega.{arith}
 use lib.ListN.{length, length-append}
 use lib.Dec.{lit<}
-use Rattle.fields.specs.Bytes.{part}
+use Rattle.fields.specs.Bytes.{part, patch}
+use Rattle.fields.proofs.Laws.Parts.{patch-patch-next}
 use Rattle.fields.specs.Numbers.{u32-at, i32-at, i64-at, u32-bytes, i32-bytes, i64-bytes}
 use Rattle.fields.proofs.Laws.Digits.{Bytes, bytes-append}
 use Rattle.fields.proofs.Laws.Places.{Field, u32, i32, i64}
@@ -81,3 +82,18 @@ module _ (half : ℕ) (s : List ℕ) (i : ℕ) where
     count = i32 .at-fits s (entry-place half i + 8) b;
     child = u32 .at-fits s (entry-place half i + 12) b;
   }
+
+-- an entry's three numbers in its place of the array, written one after the other
+pub patch-entry : (s : List ℕ) (o : ℕ) (e : Entry) → o + 16 ≤ length s
+    → patch (patch (patch s o (i64-bytes (e .pair .sum))) (o + 8) (i32-bytes (e .pair .count))) (o + 12) (u32-bytes (e .child)) ≡ patch s o (entry-bytes e)
+unfolding entry-bytes
+patch-entry s o e h =
+    let a : List ℕ = i64-bytes (e .pair .sum) in
+    let b : List ℕ = i32-bytes (e .pair .count) in
+    let c : List ℕ = u32-bytes (e .child) in
+    let la : length a ≡ 8 = i64 .length-bytes (e .pair .sum) in
+    let lb : length b ≡ 4 = i32 .length-bytes (e .pair .count) in
+    let lab : length (a ++ b) ≡ 12 = length-append a b ∙ (λ j. la j + lb j) in
+    ap (λ l. patch l (o + 12) c) (patch-patch-next s o a b (o + 8) (ap (λ k. o + k) la) (omega arith))
+    ∙ patch-patch-next s o (a ++ b) c (o + 12) (ap (λ k. o + k) lab) (omega arith)
+    ∙ ap (patch s o) (append-assoc a b c)

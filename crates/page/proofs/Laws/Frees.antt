@@ -47,9 +47,9 @@ module _ (half next : ℕ) where
       λ j. eq-eqb (level-of (free-bytes half next)) free-level level-of-free j && (ap (all-are 255) e ∙ all-are-unused m) j
 
 -- a free page is its next page's number
-pub free-of : (half : ℕ) (s : List ℕ) → length s ≡ page-size half → Bytes s → free-ok half s ≡ true → free-bytes half (next-of s) ≡ s
+pub free-again : (half : ℕ) (s : List ℕ) → length s ≡ page-size half → Bytes s → free-ok half s ≡ true → free-bytes half (next-of s) ≡ s
 unfolding free-ok free-bytes level-of next-of
-free-of half s l b ok =
+free-again half s l b ok =
     let m : ℕ = page-size half - 8 in
     let k : (eqb (level-of s) free-level ≡ true) × (all-are 255 (part s 8 m) ≡ true) = and-eq-true-iff (eqb (level-of s) free-level) (all-are 255 (part s 8 m)) .0 ok in
     let e : part s 8 m ≡ unused m = unused-all-are m (part s 8 m) (length-part s 8 m (omega arith)) (k .1) in
@@ -63,6 +63,6 @@ pub never-used-ok-unused : (n : ℕ) → never-used-ok (unused n) ≡ true
 unfolding never-used-ok
 never-used-ok-unused n = all-are-unused n
 
-pub unused-of : (n : ℕ) (s : List ℕ) → length s ≡ n → never-used-ok s ≡ true → s ≡ unused n
+pub unused-again : (n : ℕ) (s : List ℕ) → length s ≡ n → never-used-ok s ≡ true → s ≡ unused n
 unfolding never-used-ok
-unused-of n s l ok = unused-all-are n s l ok
+unused-again n s l ok = unused-all-are n s l ok

@@ -15,9 +15,9 @@ use Rattle.fields.proofs.Laws.Places.{Field, u32}
 use Rattle.fields.proofs.Laws.Tests.{length-unused, unused-add, all-are-unused, unused-all-are}
 use Rattle.page.specs.declared.Entry.{Entry}
 use Rattle.page.specs.Entries.{at, no-entry}
-use Rattle.page.specs.Layout.{capacity, start-place, entry-place, page-size, level-of, number-of, entry-at, entries-of, unused-ok, listed, joined, entry-bytes, tree-bytes}
+use Rattle.page.specs.Layout.{capacity, start-place, entry-place, page-size, level-of, number-of, entry-at, entries-of, unused-ok, listed, joined, entry-bytes, with-entry, tree-bytes}
 use Rattle.page.specs.Widths.{Entry-fits, Entries-fit}
-use Rattle.page.proofs.Laws.Listed.{length-listed, getD-listed, listed-same, listed-getD, listed-each}
+use Rattle.page.proofs.Laws.Listed.{length-listed, getD-listed, listed-more, listed-same, listed-getD, listed-each}
 use Rattle.page.proofs.Laws.Joined.{run, run-none, bytes-run, length-run, part-run, part-run-past, run-parts, patch-run}
 use Rattle.page.proofs.Laws.Pieces.{part-pieces, part-second, part-third, patch-second, patch-third}
 use Rattle.page.proofs.Laws.Entries.{start-bytes, length-start-bytes, bytes-start-bytes, length-entry-bytes, bytes-entry-bytes, entry-at-bytes, start-bytes-at, entry-bytes-at, entry-at-fits, no-entry-fits}
@@ -128,9 +128,8 @@ module _ (half level number : ℕ) (es : List Entry) where
 
   -- the next entry is written
   pub page-more : (e : Entry) → length es < capacity half
-      → patch (patch (page-bytes half level number es) (start-place (length es)) (start-bytes e)) (entry-place half (length es)) (entry-bytes e)
-      ≡ page-bytes half level number (es ++ (e ∷ []))
-  unfolding page-bytes starts entries
+      → with-entry half (length es) e (page-bytes half level number es) ≡ page-bytes half level number (es ++ (e ∷ []))
+  unfolding page-bytes starts entries with-entry
   page-more e h =
       let a : List ℕ = top level number in
       let n : ℕ = length es in
@@ -146,6 +145,20 @@ module _ (half level number : ℕ) (es : List Entry) where
     where
       one-more : (e : Entry) → length es < capacity half → length (es ++ (e ∷ [])) ≤ capacity half
       one-more e h = simp length-append (omega arith)
+
+-- a page whose entries are listed: a loop's step writes one more of them, and with all of them it is the tree page
+pub page-listed-more : (half level number i : ℕ) (f : ℕ → Entry) {s t : List ℕ} {e : Entry} → i < capacity half → t ≡ with-entry half i e s → e ≡ f i
+    → s ≡ page-bytes half level number (listed i f) → t ≡ page-bytes half level number (listed (i + 1) f)
+page-listed-more half level number i f h step same before =
+    let n : length (listed i f) ≡ i = length-listed i f in
+    step
+    ∙ (λ j. with-entry half (sym n j) (same j) (before j))
+    ∙ page-more half level number (listed i f) (f i) (omega arith)
+    ∙ ap (page-bytes half level number) (sym (listed-more i f))
+
+pub page-listed : (half level number : ℕ) (f : ℕ → Entry) → page-bytes half level number (listed number f) ≡ tree-bytes half level (listed number f)
+page-listed half level number f =
+    ap (λ k. page-bytes half level k (listed number f)) (sym (length-listed number f)) ∙ sym (tree-page half level (listed number f))
 
 -- ---- tree pages
 
@@ -230,10 +243,10 @@ unused-ok-parts half s l within ok =
     }
 
 -- a page that is read and written again is as it was
-pub tree-of : (half : ℕ) (s : List ℕ) → length s ≡ page-size half → Bytes s → number-of s ≤ capacity half → unused-ok half s ≡ true
+pub tree-again : (half : ℕ) (s : List ℕ) → length s ≡ page-size half → Bytes s → number-of s ≤ capacity half → unused-ok half s ≡ true
     → tree-bytes half (level-of s) (entries-of half s) ≡ s
 unfolding page-bytes starts entries entries-of level-of number-of
-tree-of half s l b within ok =
+tree-again half s l b within ok =
     let n : ℕ = number-of s in
     let room : ℕ = capacity half in
     let x : ℕ → Entry = λ i. entry-at half s i in

@@ -17,8 +17,8 @@ use Rattle.page.specs.Layout.{page-size, level-of, number-of, child-at, entries
 use Rattle.page.specs.Fit.{Place, root-place, place-below, head-fit}
 use Rattle.page.proofs.Laws.Joined.{joined-parts}
 use Rattle.page.proofs.Laws.Pieces.{part-pieces}
-use Rattle.page.proofs.Laws.Trees.{length-tree, length-entries-of, tree-of}
-use Rattle.page.proofs.Laws.Frees.{length-free, free-of, unused-of}
+use Rattle.page.proofs.Laws.Trees.{length-tree, length-entries-of, tree-again}
+use Rattle.page.proofs.Laws.Frees.{length-free, free-again, unused-again}
 use Rattle.page.proofs.Laws.Heads.{head-again}
 use Rattle.image.specs.Images.{page-at, pages-in, length-ok, never-used-level, cell-of, cell-bytes, image-of, image-bytes}
 use Rattle.image.specs.Sound.{tree-fit, tree-pages, times, sound}
@@ -74,35 +74,35 @@ module _ (half : ℕ) (img : List ℕ) (ok : length-ok half img ≡ true) (b : B
   bytes-page p = bytes-part img (page-size half * p) (page-size half) b
 
   module _ (p : ℕ) (l : 1 ≤ p) (r : p < pages-in half img) where
-    tree-again : 1 ≤ times p (the-tree half img) → cell-bytes half (cell-of half (page-at half img p)) ≡ page-at half img p
+    tree-cell : 1 ≤ times p (the-tree half img) → cell-bytes half (cell-of half (page-at half img p)) ≡ page-at half img p
     unfolding cell-bytes
-    tree-again n =
+    tree-cell n =
         let h : Head = the-head half img in
         let s : List ℕ = page-at half img p in
         let w = placed half h img p (h .height - 1) (root-place h) (h .root) (f .fit .tree) n in
         ap (cell-bytes half) (cell-tree half s (omega (arith, tree-level ok (f .fit) p n, f .fit .head .height-most)))
-        ∙ tree-of half s (page-length half img ok p r) (bytes-page p) (w .fit .most) (w .fit .unused)
+        ∙ tree-again half s (page-length half img ok p r) (bytes-page p) (w .fit .most) (w .fit .unused)
 
-    free-again : free-ok half (page-at half img p) ≡ true → cell-bytes half (cell-of half (page-at half img p)) ≡ page-at half img p
+    free-cell : free-ok half (page-at half img p) ≡ true → cell-bytes half (cell-of half (page-at half img p)) ≡ page-at half img p
     unfolding cell-bytes
-    free-again e =
+    free-cell e =
         let s : List ℕ = page-at half img p in
-        ap (cell-bytes half) (cell-free half s (free-level-is half s e)) ∙ free-of half s (page-length half img ok p r) (bytes-page p) e
+        ap (cell-bytes half) (cell-free half s (free-level-is half s e)) ∙ free-again half s (page-length half img ok p r) (bytes-page p) e
 
-    never-again : never-used-ok (page-at half img p) ≡ true → cell-bytes half (cell-of half (page-at half img p)) ≡ page-at half img p
+    never-cell : never-used-ok (page-at half img p) ≡ true → cell-bytes half (cell-of half (page-at half img p)) ≡ page-at half img p
     unfolding cell-bytes
-    never-again e =
+    never-cell e =
         let s : List ℕ = page-at half img p in
         let n : length s ≡ page-size half = page-length half img ok p r in
-        ap (cell-bytes half) (cell-never half s (never-level (page-size half) s (omega arith) n e)) ∙ sym (unused-of (page-size half) s n e)
+        ap (cell-bytes half) (cell-never half s (never-level (page-size half) s (omega arith) n e)) ∙ sym (unused-again (page-size half) s n e)
 
     page-again : cell-bytes half (cell-of half (page-at half img p)) ≡ page-at half img p
     page-again = go (decLe (the-head half img .mark) p) (decLe 1 (times p (the-tree half img)))
       where
         go : Dec (the-head half img .mark ≤ p) → Dec (1 ≤ times p (the-tree half img)) → cell-bytes half (cell-of half (page-at half img p)) ≡ page-at half img p
-        go (yes k) t = never-again (f .fit .never p k r)
-        go (no k) (yes t) = tree-again t
-        go (no k) (no t) = free-again (f .free p (omega (arith, f .once p l (omega arith))))
+        go (yes k) t = never-cell (f .fit .never p k r)
+        go (no k) (yes t) = tree-cell t
+        go (no k) (no t) = free-cell (f .free p (omega (arith, f .once p l (omega arith))))
 
 -- ---- all of them, one after the other
 

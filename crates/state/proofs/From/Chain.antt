@@ -10,7 +10,7 @@ use Rattle.fields.specs.Bytes.{unused}
 use Rattle.fields.specs.Numbers.{num, u32-at}
 use Rattle.fields.proofs.Laws.Tests.{part-unused}
 use Rattle.page.specs.Layout.{page-size, level-of, next-of, never-used-ok}
-use Rattle.page.proofs.Laws.Frees.{unused-of}
+use Rattle.page.proofs.Laws.Frees.{unused-again}
 use Rattle.image.specs.Images.{page-at, pages-in, length-ok, image-of, never-used-level}
 use Rattle.image.specs.Sound.{chain-pages}
 use Rattle.view.specs.View.{Linked, ends, leads, Supplied}
@@ -47,7 +47,7 @@ unfolding level-of u32-at num unused
 level-unused n l = ap num (part-unused n 0 4 l)
 
 pub never-level : (n : ℕ) (s : List ℕ) → 4 ≤ n → length s ≡ n → never-used-ok s ≡ true → level-of s ≡ never-used-level
-never-level n s l e ok = ap level-of (unused-of n s e ok) ∙ level-unused n l
+never-level n s l e ok = ap level-of (unused-again n s e ok) ∙ level-unused n l
 
 -- ---- both
 

@@ -1,7 +1,7 @@
 -- `page::at::count_at` meets its contract: it is one load. Assumes nothing.
 use mir.Syntax.{w32}
 use Rattle.page.proofs.Laws.Signed.{result-is}
-use borrow.Author.Needs.{needs}
+use native.Mathlib.Omega.{arith}
 use Rattle.page.specs.Layout.{pair-at}
 use Rattle.page.proofs.at.count_at.Statement.{statement}
 use Rattle.page.proofs.at.count_at.Tie as tie
@@ -11,4 +11,4 @@ unfolding pair-at
 returns c = result-is w32 (c .get-i32 .ok) (c .get-i32 .ensures)
 
 pub count-at-spec : {M : Type 1} → statement M
-count-at-spec = tie.close (tie.spec (λ c. search needs) (λ c. search needs) (λ c. search needs) (λ c κs. search needs) returns)
+count-at-spec = tie.close (tie.spec (λ c. omega arith) (λ c. omega arith) (λ c. omega arith) (λ c κs. omega arith) returns)

@@ -1,7 +1,7 @@
 -- `page::at::pair_at` meets its contract: its sum and its count are read as they stand. Assumes nothing.
 use mir.Syntax.{w32, w64}
 use Rattle.page.proofs.Laws.Signed.{result-is}
-use borrow.Author.Needs.{needs}
+use native.Mathlib.Omega.{arith}
 use Rattle.page.specs.Layout.{pair-at}
 use Rattle.page.proofs.at.pair_at.Statement.{statement}
 use Rattle.page.proofs.at.pair_at.Tie as tie
@@ -15,4 +15,4 @@ returns c =
     }
 
 pub pair-at-spec : {M : Type 1} → statement M
-pair-at-spec = tie.close (tie.spec (λ c κs. search needs) (λ c κs. search needs) returns)
+pair-at-spec = tie.close (tie.spec (λ c κs. omega arith) (λ c κs. omega arith) returns)

@@ -1,7 +1,7 @@
 -- `page::at::sum_at` meets its contract: it is one load. Assumes nothing.
 use mir.Syntax.{w64}
 use Rattle.page.proofs.Laws.Signed.{result-is}
-use borrow.Author.Needs.{needs}
+use native.Mathlib.Omega.{arith}
 use Rattle.page.specs.Layout.{pair-at}
 use Rattle.page.proofs.at.sum_at.Statement.{statement}
 use Rattle.page.proofs.at.sum_at.Tie as tie
@@ -11,4 +11,4 @@ unfolding pair-at
 returns c = result-is w64 (c .get-i64 .ok) (c .get-i64 .ensures)
 
 pub sum-at-spec : {M : Type 1} → statement M
-sum-at-spec = tie.close (tie.spec (λ c. search needs) (λ c. search needs) (λ c κs. search needs) returns)
+sum-at-spec = tie.close (tie.spec (λ c. omega arith) (λ c. omega arith) (λ c κs. omega arith) returns)

@@ -1,0 +1,59 @@
+-- The further cases hold: each is computed. Assumes nothing.
+use mathlib.Core.Path.{refl}
+use Rattle.calls.specs.Cases.{Cases}
+use Rattle.calls.proofs.Opened.{all-definitions}
+
+pub cases : Cases
+unfolding all-definitions
+cases =
+    record {
+      clip = refl;
+      clip-3 = refl;
+      pages-2 = refl;
+      height-2 = refl;
+      pages-hurt-leaf = refl;
+      left-leaf-unhurt = refl;
+      pages-hurt-root = refl;
+      pages-end = refl;
+      b-starts-hurt = refl;
+      b-past-hurt = refl;
+      out-31 = refl;
+      out-33 = refl;
+      scratch-13 = refl;
+      scratch-22 = refl;
+      scratch-0 = refl;
+      scratch-17 = refl;
+      order-21-22 = refl;
+      order-22-23 = refl;
+      order-23 = refl;
+      cap = refl;
+      cap-itself = refl;
+      zero-counts = refl;
+      zero-greatest = refl;
+      neg-greatest = refl;
+      neg-zero = refl;
+      least = refl;
+      changes = refl;
+      chain-length = refl;
+      grown-head = refl;
+      grown-entries = refl;
+      head-bytes = refl;
+      leaf-bytes = refl;
+      entry-bytes = refl;
+      free-bytes = refl;
+      free-page = refl;
+      free-last = refl;
+      chain-first = refl;
+      chain-root = refl;
+      way-bound = refl;
+      way-within = refl;
+      other-entry = refl;
+      parent-pair-3 = refl;
+      parent-pair-4 = refl;
+      give-left-3 = refl;
+      give-left-1 = refl;
+      give-left-2 = refl;
+      give-right-1 = refl;
+      join-right-3 = refl;
+      join-right-1 = refl;
+    }

@@ -1,0 +1,76 @@
+-- The parts of a check, by their cases. Assumes nothing.
+use mathlib.Core.Path.{_≡_, sym, ap}
+use mathlib.Core.Logic.{_↔_}
+use mathlib.Core.Bool.{Bool, true, false, cond, _&&_}
+use Prim.Native.Nat.{ℕ, suc, _+_, _*_, _≤_, _<_}
+use native.Mathlib.Numerals.{add-one}
+use native.Mathlib.Omega.{arith}
+use mathlib.Core.List.{List}
+use lib.ListN.{length}
+use lib.Dec.{leb, ltb, eqb}
+use lib.IntN.{natAbs}
+use borrow.Author.Tests.{lt-ltb, le-ltb}
+use Rattle.rule.specs.declared.Pair.{Pair}
+use Rattle.rule.specs.Time.{most-value}
+use Rattle.rule.specs.Bounds.{value-or-none}
+use Rattle.rule.proofs.Tests.{both}
+use Rattle.page.specs.declared.Head.{Head}
+use Rattle.page.specs.Layout.{capacity, number-of, start-at}
+use Rattle.page.specs.Fit.{Place, end-at, fewest, number-ok, child-ok, pair-ok}
+use Rattle.fit.specs.Places.{Compared}
+use Rattle.fit.proofs.Tests.{le-is}
+
+-- ---- the number of entries
+
+pub fewest-pos : (half : ℕ) (at : Place) → 1 ≤ half → 1 ≤ fewest half at
+unfolding fewest
+fewest-pos half at h = go (at .is-root) (eqb (at .level) 0)
+  where
+    go : (t u : Bool) → 1 ≤ cond t (cond u 1 2) half
+    go true true = omega arith
+    go true false = omega arith
+    go false u = h
+
+pub number-is : (half : ℕ) (at : Place) (s : List ℕ) → (number-ok half at s ≡ true) ↔ ((fewest half at ≤ number-of s) × (number-of s ≤ capacity half))
+unfolding number-ok
+number-is half at s = both _ _ (le-is _ _) (le-is _ _)
+
+-- a number of entries that may stand in a page has been compared with 24
+pub compared : (at : Place) (s : List ℕ) {n : ℕ} → length s ≡ 512 → n ≡ number-of s → number-ok 12 at s ≡ true → Compared s n
+compared at s e m h =
+    let k = number-is 12 at s .0 h in
+    let p = fewest-pos 12 at (omega arith) in
+    record { size = e; number = m; some = omega (arith, k .0); most = omega (arith, k .1) }
+
+-- ---- where an entry ends
+
+module _ (s : List ℕ) (hi i : ℕ) where
+  pub end-next : i + 1 < number-of s → end-at s hi i ≡ start-at s (i + 1)
+  unfolding end-at
+  end-next h = rw (lt-ltb (suc i) (number-of s) (omega arith)) (ap (start-at s) (sym (add-one i)))
+
+  pub end-last : number-of s ≤ i + 1 → end-at s hi i ≡ hi
+  unfolding end-at
+  end-last h = rw (le-ltb (suc i) (number-of s) (omega arith))
+
+-- ---- a child, by the level
+
+module _ (pages level child : ℕ) where
+  pub child-leaf : eqb level 0 ≡ true → child-ok pages level child ≡ eqb child 0
+  unfolding child-ok
+  child-leaf e = rw e
+
+  pub child-inner : eqb level 0 ≡ false → child-ok pages level child ≡ leb 1 child && ltb child pages
+  unfolding child-ok
+  child-inner e = rw e
+
+-- ---- a pair, by the kind
+
+module _ (h : Head) (at : Place) (p : Pair) where
+  pub pair-total : eqb (h .kind) 1 ≡ true → pair-ok h at p ≡ leb (at .sums + natAbs (p .sum)) (most-value * h .changes) && leb (at .counts + natAbs (p .count)) (h .changes)
+  unfolding pair-ok
+  pair-total e = rw e
+
+  pub pair-mark : eqb (h .kind) 1 ≡ false → pair-ok h at p ≡ value-or-none p
+  unfolding pair-ok value-or-none
+  pair-mark e = rw e

@@ -1,0 +1,15 @@
+-- `fit::number::number_ok` meets its contract: it is the definition. Assumes nothing.
+use mathlib.Core.Path.{ap₂}
+use mathlib.Core.Bool.{_&&_}
+use lib.Dec.{leb}
+use borrow.Author.Needs.{needs}
+use Rattle.page.specs.Fit.{number-ok}
+use Rattle.fit.proofs.number.number_ok.Statement.{statement}
+use Rattle.fit.proofs.number.number_ok.Tie as tie
+
+returns : tie.Need-returns
+unfolding number-ok
+returns c = ap₂ (λ few n. leb few n && leb n 24) (c .fewest .ensures) (c .before .number-of .ensures)
+
+pub number-ok-spec : {M : Type 1} → statement M
+number-ok-spec = tie.close (tie.spec (λ c κs. search needs) (λ c κs. search needs) returns)

@@ -1,0 +1,33 @@
+-- `fit::unused::unused_ok` meets its contract. Assumes nothing.
+use mathlib.Core.Path.{ap, ap₂, _∙_}
+use mathlib.Core.Bool.{_&&_}
+use Prim.Native.Nat.{_+_, _*_, _-_}
+use Rattle.fields.specs.Bytes.{part, all-are}
+use borrow.Author.Needs.{needs}
+use Rattle.page.specs.Layout.{unused-ok}
+use Rattle.fit.proofs.unused.unused_ok.Statement.{statement}
+use Rattle.fit.proofs.unused.unused_ok.Tie as tie
+
+returns : tie.Need-returns
+unfolding unused-ok
+returns c =
+    let start = c .before .before .before .before in
+    let s = start .args .s .now in
+    ap₂ _&&_ (c .before .before .all-ff .ensures) (ap₂ _&&_ (c .before .all-ff2 .ensures) (c .all-ff3 .ensures))
+    ∙ ap (λ n. all-are 255 (part s 8 24) && (all-are 255 (part s (32 + 4 * n) (4 * (24 - n))) && all-are 255 (part s (128 + 16 * n) (16 * (24 - n))))) (start .pre .number)
+
+pub unused-ok-spec : {M : Type 1} → statement M
+unused-ok-spec =
+    tie.close
+    (tie.spec
+    (λ c. search needs)
+    (λ c κs. search needs)
+    (λ c. search needs)
+    (λ c. search needs)
+    (λ c. search needs)
+    (λ c κs. search needs)
+    (λ c. search needs)
+    (λ c. search needs)
+    (λ c. search needs)
+    (λ c κs. search needs)
+    returns)

@@ -1,0 +1,35 @@
+// Is the head fit?
+use fields::fill::all_ff;
+use page::Head;
+use page::heads::read_head;
+use rule::time::kind_ok;
+use rule::time::window_ok;
+ghost use mathlib.Core.Path.{_≡_};
+ghost use lib.ListN.{length};
+ghost use Rattle.page.specs.Fit.{ranges-ok, head-fit};
+
+// "n matches the length, changes ≤ 1,000,000,000, the root lies in 1 to n−1, the chain's first page is 0 or there, the other
+// fields keep the ranges named"; the chain's length has none of its own.
+fn ranges_ok(h: Head, pages: u32) -> bool
+    ensures { λ r. ⌜ r ≡ ranges-ok pages h ⌝ }
+{
+    (h.pages == pages)
+        & (1 <= h.height)
+        & (h.height <= 4)
+        & (1 <= h.root)
+        & (h.root < pages)
+        & (h.free < pages)
+        & (2 <= h.mark)
+        & (h.mark <= pages)
+        & kind_ok(h.kind)
+        & window_ok(h.window)
+        & (h.changes <= 1000000000)
+}
+
+// Whether page 0 is the fit head of an image of so many pages, for any 512 bytes: ranges, "and its rest is FF".
+pub fn head_fit(s: &[u8], pages: u32) -> bool
+    requires { ⌜ length (now s) ≡ 512 ⌝ }
+    ensures { λ r. ⌜ r ≡ head-fit 12 pages (now (s .entry)) ⌝ }
+{
+    ranges_ok(read_head(s), pages) & all_ff(s, 36, 476)
+}

@@ -1,0 +1,66 @@
+-- The pages that a heal gives back: they stand before the chain as it was, and the tree has so many less. Assumes nothing.
+use Prim.Native.Nat.{ℕ, zero, suc, _+_, _≤_}
+use mathlib.Core.Path.{_≡_, refl, ap, _∙_}
+use mathlib.Core.List.{List, [], _∷_, _++_}
+use native.Mathlib.Omega.{arith}
+use lib.Dec.{eqb, ltb}
+use lib.ListN.{length, getD, length-append}
+use Rattle.rule.specs.declared.Pair.{Pair}
+use Rattle.page.specs.Entries.{place}
+use Rattle.steps.specs.Heal.{neighbour}
+use Rattle.tree.specs.Tree.{Kid, Ents, no-ent, bare}
+use Rattle.tree.specs.Supply.{Supply, with-page}
+use Rattle.tree.specs.Cut.{State}
+use Rattle.tree.specs.Heal.{Healing, turn, heal-ents, shrunk, heal}
+use Rattle.tree.specs.Shape.{Asked, Formed}
+use Rattle.held.specs.Counts.{pages-of}
+use Rattle.held.proofs.Places.{either}
+use Rattle.held.proofs.Pages.{heal-pages}
+
+record Gave (S T : Supply) : Type 0 where
+  given : List ℕ
+  chain : T .chain ≡ given ++ S .chain
+  mark : T .mark ≡ S .mark
+
+gave-page : {S T : Supply} (p : ℕ) → Gave S T → Gave S (with-page p T)
+unfolding with-page
+gave-page p g = record { given = p ∷ g .given; chain = ap (λ ps. p ∷ ps) (g .chain); mark = g .mark }
+
+module _ (half : ℕ) (_⊕_ : Pair → Pair → Pair) where
+  turn-gave : {R : Supply} (l i : ℕ) (es : Ents (suc l)) (S : Supply) → Gave R S → Gave R (turn half _⊕_ l i es S .supply)
+  unfolding turn
+  turn-gave {R} l i es S g =
+      either (λ (H : Healing (Kid (suc l))). Gave R (H .supply)) g (gave-page _ g) (ltb half (length (getD es (neighbour i) (no-ent (suc l)) .kid)))
+
+  ents-gave : (t l : ℕ) (es : Ents l) (S : Supply) → Gave S (heal-ents half _⊕_ t l es S .supply)
+  unfolding heal-ents
+  ents-gave t zero es S = record { given = []; chain = refl; mark = refl }
+  ents-gave t (suc l) es S =
+      let x = getD es (place t (bare es)) (no-ent (suc l)) in
+      let g = ents-gave t l (x .kid) S in
+      either (λ (H : Healing (Kid (suc l))). Gave S (H .supply)) (turn-gave l (place t (bare es)) _ _ g) g (ltb (length (heal-ents half _⊕_ t l (x .kid) S .ents)) half)
+
+  shrunk-gave : {R : Supply} (l root : ℕ) (es : Ents l) (S : Supply) → Gave R S → Gave R (shrunk half _⊕_ l root es S .supply)
+  unfolding shrunk
+  shrunk-gave zero root es S g = g
+  shrunk-gave {R} (suc l) root es S g = either (λ (Z : State). Gave R (Z .supply)) (gave-page root g) g (eqb (length es) 1)
+
+-- a heal from Y to Z gave these pages back
+pub record Given (Y Z : State) : Type 0 where
+  pub given : List ℕ
+  pub pages : length (pages-of (Z .tree)) + length given ≡ length (pages-of (Y .tree))
+  pub chain : Z .supply .chain ≡ given ++ Y .supply .chain
+  pub mark : Z .supply .mark ≡ Y .supply .mark
+
+pub heal-gives : (half : ℕ) → 2 ≤ half → {B : Asked (Kid 0)} (_⊕_ : Pair → Pair → Pair) (t : ℕ) (Y : State)
+    → Formed half B (Y .tree) → Given Y (heal half _⊕_ t Y)
+unfolding heal
+heal-gives half two _⊕_ t Y F =
+    let g : Gave (Y .supply) (heal half _⊕_ t Y .supply) =
+    shrunk-gave half _⊕_ (Y .tree .level) (Y .tree .root) _ _ (ents-gave half _⊕_ t (Y .tree .level) (Y .tree .ents) (Y .supply)) in
+    record {
+      given = g .given;
+      pages = omega (arith, heal-pages half two t Y F _⊕_ .same-number, ap length (g .chain) ∙ length-append (g .given) (Y .supply .chain), g .mark);
+      chain = g .chain;
+      mark = g .mark;
+    }

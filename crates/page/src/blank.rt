@@ -1,0 +1,35 @@
+// Writing a page without entries: one about to get some, a free page, a page that was never used.
+use fields::fill::fill;
+use fields::write::put_u32;
+ghost use mathlib.Core.Path.{_≡_};
+ghost use mathlib.Core.List.{_++_};
+ghost use lib.ListN.{length};
+ghost use Rattle.fields.specs.Bytes.{unused};
+ghost use Rattle.fields.specs.Numbers.{u32-bytes};
+ghost use Rattle.page.specs.Layout.{free-bytes};
+
+// Writes a page of two numbers, the rest unused.
+pub(crate) fn write_blank(s: &mut [u8], level: u32, second: u32)
+    requires { ⌜ length (now s) ≡ 512 ⌝ }
+    ensures { λ _. ⌜ now (s .exit) ≡ u32-bytes level ++ (u32-bytes second ++ unused 504) ⌝ }
+{
+    put_u32(s, 0, level);
+    put_u32(s, 4, second);
+    fill(s, 8, 504, 255);
+}
+
+// Writes a free page with the page behind it in the chain, 0 at its end.
+pub fn write_free(s: &mut [u8], next: u32)
+    requires { ⌜ length (now s) ≡ 512 ⌝ }
+    ensures { λ _. ⌜ now (s .exit) ≡ free-bytes 12 next ⌝ }
+{
+    write_blank(s, 255, next)
+}
+
+// Writes a page that was never used.
+pub fn write_unused(s: &mut [u8])
+    requires { ⌜ length (now s) ≡ 512 ⌝ }
+    ensures { λ _. ⌜ now (s .exit) ≡ unused 512 ⌝ }
+{
+    fill(s, 0, 512, 255)
+}

@@ -1,0 +1,51 @@
+// Reading and writing page 0, the head.
+use super::Head;
+use fields::fill::fill;
+use fields::read::get_u32;
+use fields::write::put_u32;
+ghost use mathlib.Core.Path.{_≡_};
+ghost use mathlib.Core.List.{[], _∷_};
+ghost use Prim.Native.Nat.{_+_, _≤_};
+ghost use lib.ListN.{length};
+ghost use Rattle.fields.specs.Bytes.{patch};
+ghost use Rattle.fields.specs.Numbers.{u32-bytes};
+ghost use Rattle.page.specs.Layout.{joined, head-of, head-bytes};
+
+// The head's numbers.
+pub fn read_head(s: &[u8]) -> Head
+    requires { ⌜ 36 ≤ length (now s) ⌝ }
+    ensures { λ r. ⌜ r ≡ head-of (now (s .entry)) ⌝ }
+{
+    Head {
+        pages: get_u32(s, 0),
+        height: get_u32(s, 4),
+        root: get_u32(s, 8),
+        free: get_u32(s, 12),
+        chain: get_u32(s, 16),
+        mark: get_u32(s, 20),
+        kind: get_u32(s, 24),
+        window: get_u32(s, 28),
+        changes: get_u32(s, 32),
+    }
+}
+
+// Writes three numbers, one after the other, from place o on.
+fn put_three(s: &mut [u8], o: usize, x: u32, y: u32, z: u32)
+    requires { ⌜ o + 12 ≤ length (now s) ⌝ }
+    ensures { λ _. ⌜ now (s .exit) ≡ patch (now (s .entry)) o (joined u32-bytes (x ∷ y ∷ z ∷ [])) ⌝ }
+{
+    put_u32(s, o, x);
+    put_u32(s, o + 4, y);
+    put_u32(s, o + 8, z);
+}
+
+// Writes the head: its numbers, the rest unused.
+pub fn write_head(s: &mut [u8], h: Head)
+    requires { ⌜ length (now s) ≡ 512 ⌝ }
+    ensures { λ _. ⌜ now (s .exit) ≡ head-bytes 12 h ⌝ }
+{
+    put_three(s, 0, h.pages, h.height, h.root);
+    put_three(s, 12, h.free, h.chain, h.mark);
+    put_three(s, 24, h.kind, h.window, h.changes);
+    fill(s, 36, 476, 255);
+}

@@ -1,0 +1,140 @@
+-- A page with its new entries, split if they are too many: the same on the image as on the tree that it shows. Assumes nothing.
+use Prim.Native.Nat.{ℕ, suc, _+_, _≤_}
+use mathlib.Core.Path.{_≡_, refl, ap, _∙_}
+use mathlib.Core.List.{[], _∷_}
+use native.Mathlib.Omega.{arith}
+use lib.Dec.{leb}
+use lib.ListN.{length, take, drop, length-map}
+use Rattle.page.specs.declared.Entry.{Entry}
+use Rattle.page.specs.Entries.{entry, at}
+use Rattle.page.specs.Layout.{capacity}
+use Rattle.image.specs.Images.{Image, Cell, tree}
+use Rattle.image.specs.Sound.{times}
+use Rattle.steps.specs.Supply.{put, taken}
+use Rattle.steps.specs.Cut.{Cutting as CuttingX, kept as kept-x, split as split-x, settled as settled-x}
+use Rattle.tree.specs.Tree.{Ent, Kid, Ents, bare}
+use Rattle.tree.specs.Supply.{Supply, next-page, without-next}
+use Rattle.tree.specs.Cut.{Cutting, kept, split, settled}
+use Rattle.tree.specs.Held.{times-below, times-spare, All, all-none, all-more}
+use Rattle.view.specs.View.{Shows, Supplied}
+use Rattle.view.proofs.Lists.{cond-both, map-take, map-drop, all-take, all-drop, hit, under-suc, below-cons, below-one, below-halves}
+use Rattle.view.proofs.Moves.{Frame, put-else, put-head, shows-move, all-shows, put-shows, lasting, put-supplied, spare-next, spare-is, taken-supplied, taken-page, taken-lasting}
+use Rattle.view.proofs.Taking.{firsts, later, firsts-none, firsts-more}
+
+-- What the cut of an entry does to an image and to the tree that it shows. Before counts the pages that were below the entry, W
+-- those that may be written besides pages taken.
+pub record Grew (l : ℕ) (e : Entry) (X : Image) (S : Supply) (before W : ℕ → ℕ) (r : CuttingX) (r′ : Cutting (Kid l)) : Type 0 where
+  pub took : ℕ
+  pub same : r .became ≡ bare (r′ .became)
+  pub some : 1 ≤ length (r′ .became)
+  pub one : length (r .became) ≡ 1 → r .became ≡ e ∷ []
+  pub shows : All (λ y. Shows l (r .image .page) y) (r′ .became)
+  pub rest : r′ .supply ≡ later took S
+  pub supplied : Supplied (r .image) (r′ .supply)
+  pub pages : (q : ℕ) → times-below l q (r′ .became) ≡ before q + times q (firsts took S)
+  pub frame : Frame (X .page) (r .image .page) (λ q. W q + times q (firsts took S))
+  pub head : lasting (r .image .head) ≡ lasting (X .head)
+
+module _ (half l : ℕ) (x : Ent (Kid (suc l))) (es : Ents l) (Z : Image) (R : Supply)
+    (a : All (λ y. Shows l (Z .page) y) es) (s : Supplied Z R)
+    (once : (q : ℕ) → hit q (x .entry .child) + times-below l q es + times-spare q R ≤ 1) where
+  abbrev Settles : CuttingX → Cutting (Kid (suc l)) → Type 0
+  Settles r r′ = Grew (suc l) (x .entry) Z R (λ q. hit q (x .entry .child) + times-below l q es) (λ q. hit q (x .entry .child)) r r′
+
+  keeps : Settles (kept-x l (x .entry) (bare es) Z) (kept x es R)
+  unfolding kept-x kept later
+  keeps =
+      let p = x .entry .child in
+      let v : Ent (Kid (suc l)) = record { entry = x .entry; kid = es } in
+      record {
+        took = 0;
+        same = refl;
+        some = omega arith;
+        one = λ h. refl;
+        shows = all-more (put-shows l Z (x .entry) es a (λ q. omega (arith, once q))) all-none;
+        rest = refl;
+        supplied = put-supplied p (tree l (bare es)) s (λ q. omega (arith, once q));
+        pages = λ q. omega (arith, below-one (suc l) q v, under-suc l q v, firsts-none q R);
+        frame = λ q h. put-else p (tree l (bare es)) Z q (omega arith);
+        head = ap lasting (put-head p (tree l (bare es)) Z);
+      }
+
+  abbrev left : Ents l
+  left = take half es
+
+  abbrev right : Ents l
+  right = drop half es
+
+  abbrev y : Ent (Kid (suc l))
+  y = record { entry = x .entry; kid = left }
+
+  abbrev z : Ent (Kid (suc l))
+  z = record { entry = entry (at (bare right) 0 .start) (x .entry .pair) (next-page R); kid = right }
+
+  abbrev Z₁ : Image
+  Z₁ = taken Z
+
+  abbrev Z₂ : Image
+  Z₂ = put (x .entry .child) (tree l (bare left)) Z₁
+
+  abbrev Z₃ : Image
+  Z₃ = put (next-page R) (tree l (bare right)) Z₂
+
+  room : (q : ℕ) → hit q (x .entry .child) + (times-below l q left + times-below l q right) + (hit q (next-page R) + times-spare q (without-next R)) ≤ 1
+  room q = omega (arith, once q, below-halves l q half es, spare-next q R)
+
+  taken-shown : All (λ v. Shows l (Z₁ .page) v) es
+  taken-shown = rw (taken-page Z) a
+
+  left-shown : Shows (suc l) (Z₃ .page) y
+  left-shown =
+      shows-move (suc l) (λ q. hit q (next-page R)) (put-else (next-page R) (tree l (bare right)) Z₂) y
+      (put-shows l Z₁ (x .entry) left (all-take half taken-shown) (λ q. omega (arith, room q)))
+      (λ q. omega (arith, room q, under-suc l q y))
+
+  right-shown : Shows (suc l) (Z₃ .page) z
+  right-shown =
+      put-shows l Z₂ (z .entry) right
+      (all-shows l (λ q. hit q (x .entry .child)) (put-else (x .entry .child) (tree l (bare left)) Z₁) (all-drop half taken-shown) (λ q. omega (arith, room q)))
+      (λ q. omega (arith, room q))
+
+  split-supplied : Supplied Z₃ (without-next R)
+  split-supplied =
+      put-supplied (next-page R) (tree l (bare right))
+      (put-supplied (x .entry .child) (tree l (bare left)) (taken-supplied s) (λ q. omega (arith, room q)))
+      (λ q. omega (arith, room q))
+
+  one-taken : (q : ℕ) → times q (firsts 1 R) ≡ hit q (next-page R)
+  unfolding later
+  one-taken q = omega (arith, firsts-more q 0 R, firsts-none q R)
+
+  splits : Settles (split-x half l (x .entry) (bare es) Z) (split half x es R)
+  unfolding split-x split later
+  splits =
+      rw (← map-take (λ v. v .entry) half es, ← map-drop (λ v. v .entry) half es, spare-is s)
+      (record {
+        took = 1;
+        same = refl;
+        some = omega arith;
+        one = λ h. absurd (omega arith);
+        shows = all-more left-shown (all-more right-shown all-none);
+        rest = refl;
+        supplied = split-supplied;
+        pages =
+            λ q. omega (arith, below-cons (suc l) q y (z ∷ []), below-one (suc l) q z, under-suc l q y, under-suc l q z, below-halves l q half es, one-taken q);
+        frame =
+            λ q h. put-else (next-page R) (tree l (bare right)) Z₂ q (omega (arith, h, one-taken q))
+            ∙ put-else (x .entry .child) (tree l (bare left)) Z₁ q (omega arith)
+            ∙ ap (λ (f : ℕ → Cell). f q) (taken-page Z);
+        head =
+            ap lasting (put-head (next-page R) (tree l (bare right)) Z₂ ∙ put-head (x .entry .child) (tree l (bare left)) Z₁)
+            ∙ taken-lasting Z;
+      })
+
+  pub settles : Grew (suc l) (x .entry) Z R (λ q. hit q (x .entry .child) + times-below l q es) (λ q. hit q (x .entry .child)) (settled-x half l (x .entry) (bare es) Z) (settled half x es R)
+  unfolding settled-x settled
+  settles =
+      cond-both Settles
+      (leb (length (bare es)) (capacity half)) (leb (length es) (capacity half))
+      (ap (λ (n : ℕ). leb n (capacity half)) (length-map es (λ y. y .entry)))
+      (λ e. keeps) (λ e. splits)
