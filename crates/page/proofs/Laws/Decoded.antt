@@ -1,10 +1,10 @@
 -- The laws of a decoded page as the list of its entries. Assumes nothing.
 use mathlib.Core.Path.{_≡_, sym, ap, _∙_}
 use mathlib.Core.List.{List}
-use Prim.Native.Nat.{ℕ, _≤_, _<_, min}
+use Prim.Native.Nat.{ℕ, _≤_, _<_}
 use native.Mathlib.Nat.{min-eq-left}
 use native.Mathlib.Omega.{arith}
-use lib.ListN.{length, getD}
+use lib.ListN.{length}
 use Rattle.page.specs.declared.Page.{Page}
 use Rattle.page.specs.Entries.{at, no-entry}
 use Rattle.page.specs.Layout.{capacity, number-of, listed, entry-at, entries-of}

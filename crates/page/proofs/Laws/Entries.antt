@@ -1,19 +1,19 @@
 -- An entry and its bytes: it is read where they stand, and they are the bytes of what is read. Assumes nothing.
 use mathlib.Core.Path.{_≡_, refl, sym, ap, _∙_}
-use mathlib.Core.List.{List, [], _∷_, _++_, append-assoc, append-nil}
-use Prim.Native.Nat.{ℕ, _+_, _*_, _≤_, _<_}
+use mathlib.Core.List.{List, [], _++_, append-assoc, append-nil}
+use Prim.Native.Nat.{ℕ, _+_, _≤_}
 use native.Mathlib.Nat.{add-zero}
 use native.Mathlib.Omega.{arith}
 use lib.ListN.{length, length-append}
 use lib.Dec.{lit<}
 use Rattle.fields.specs.Bytes.{part, patch}
 use Rattle.fields.proofs.Laws.Parts.{patch-patch-next}
-use Rattle.fields.specs.Numbers.{u32-at, i32-at, i64-at, u32-bytes, i32-bytes, i64-bytes}
+use Rattle.fields.specs.Numbers.{u32-bytes, i32-bytes, i64-bytes}
 use Rattle.fields.proofs.Laws.Digits.{Bytes, bytes-append}
 use Rattle.fields.proofs.Laws.Places.{Field, u32, i32, i64}
 use Rattle.page.specs.declared.Entry.{Entry}
 use Rattle.page.specs.Entries.{no-entry}
-use Rattle.page.specs.Layout.{capacity, start-place, entry-place, start-at, pair-at, child-at, entry-at, entry-bytes}
+use Rattle.page.specs.Layout.{start-place, entry-place, start-at, pair-at, child-at, entry-at, entry-bytes}
 use Rattle.page.specs.Widths.{Entry-fits}
 use Rattle.page.proofs.Laws.Pieces.{part-pieces, part-inside}
 

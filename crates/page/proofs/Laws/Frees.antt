@@ -1,8 +1,8 @@
 -- The laws of a free page's bytes, which are those of a tree page with no entry, and of a page that was never used. Assumes nothing.
 use mathlib.Core.Path.{_≡_, refl, sym, ap, _∙_}
-use mathlib.Core.Bool.{Bool, true, _&&_, and-eq-true-iff}
-use mathlib.Core.List.{List, [], _∷_, _++_}
-use Prim.Native.Nat.{ℕ, _+_, _-_, _*_, _^_, _≤_, _<_}
+use mathlib.Core.Bool.{true, _&&_, and-eq-true-iff}
+use mathlib.Core.List.{List, []}
+use Prim.Native.Nat.{ℕ, _+_, _-_, _^_, _<_}
 use native.Mathlib.Omega.{arith}
 use lib.ListN.{length}
 use lib.Dec.{eqb, lit<}
@@ -13,7 +13,7 @@ use Rattle.fields.proofs.Laws.Parts.{length-part, part-whole}
 use Rattle.fields.proofs.Laws.Digits.{Bytes}
 use Rattle.fields.proofs.Laws.Places.{Field, u32}
 use Rattle.fields.proofs.Laws.Tests.{length-unused, all-are-unused, unused-all-are}
-use Rattle.page.specs.Layout.{capacity, page-size, level-of, free-level, next-of, free-bytes, free-ok, never-used-ok}
+use Rattle.page.specs.Layout.{page-size, level-of, free-level, next-of, free-bytes, free-ok, never-used-ok}
 use Rattle.page.proofs.Laws.Pieces.{part-pieces, part-third}
 use Rattle.page.proofs.Laws.Trees.{page-bytes, page-none, bytes-page, length-page, page-level, page-number}
 

@@ -1,8 +1,7 @@
 -- Lists of two or three pieces: a part that is made of pieces, and reading and writing in the second or the third piece. Assumes nothing.
-use mathlib.Core.Path.{_≡_, refl, sym, ap, _∙_}
-use mathlib.Core.List.{List, [], _∷_, _++_, append-assoc, append-nil}
+use mathlib.Core.Path.{_≡_, sym, ap, _∙_}
+use mathlib.Core.List.{List, [], _++_, append-assoc, append-nil}
 use Prim.Native.Nat.{ℕ, _+_, _≤_}
-use native.Mathlib.Omega.{arith}
 use lib.ListN.{length, length-append}
 use Rattle.fields.specs.Bytes.{part, patch}
 use Rattle.fields.proofs.Laws.Parts.{part-add, part-part, part-middle, part-append-left, part-append-right, patch-append-left, patch-append-right}

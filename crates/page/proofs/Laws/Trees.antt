@@ -4,18 +4,18 @@ use mathlib.Core.Path.{_≡_, refl, sym, ap, _∙_}
 use mathlib.Core.Bool.{Bool, true, _&&_, and-eq-true-iff}
 use mathlib.Core.List.{List, [], _∷_, _++_, append-assoc}
 use Prim.Native.Nat.{ℕ, _+_, _-_, _*_, _^_, _≤_, _<_, min}
-use native.Mathlib.Nat.{min-eq-left, add-zero}
+use native.Mathlib.Nat.{min-eq-left}
 use native.Mathlib.Omega.{arith}
-use lib.ListN.{length, getD, length-append}
+use lib.ListN.{length, length-append}
 use Rattle.fields.specs.Bytes.{part, patch, unused, all-are}
-use Rattle.fields.specs.Numbers.{u32-at, u32-bytes}
+use Rattle.fields.specs.Numbers.{u32-bytes}
 use Rattle.fields.proofs.Laws.Parts.{length-part, part-whole, part-middle, part-append-left}
 use Rattle.fields.proofs.Laws.Digits.{Bytes, bytes-append, bytes-unused}
 use Rattle.fields.proofs.Laws.Places.{Field, u32}
 use Rattle.fields.proofs.Laws.Tests.{length-unused, unused-add, all-are-unused, unused-all-are}
 use Rattle.page.specs.declared.Entry.{Entry}
 use Rattle.page.specs.Entries.{at, no-entry}
-use Rattle.page.specs.Layout.{capacity, start-place, entry-place, page-size, level-of, number-of, entry-at, entries-of, unused-ok, listed, joined, entry-bytes, with-entry, tree-bytes}
+use Rattle.page.specs.Layout.{capacity, start-place, entry-place, page-size, level-of, number-of, entry-at, entries-of, unused-ok, listed, entry-bytes, with-entry, tree-bytes}
 use Rattle.page.specs.Widths.{Entry-fits, Entries-fit}
 use Rattle.page.proofs.Laws.Listed.{length-listed, getD-listed, listed-more, listed-same, listed-getD, listed-each}
 use Rattle.page.proofs.Laws.Joined.{run, run-none, bytes-run, length-run, part-run, part-run-past, run-parts, patch-run}

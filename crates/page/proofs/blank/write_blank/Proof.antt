@@ -1,5 +1,5 @@
 -- `page::blank::write_blank` meets its contract: two numbers and unused bytes, one after the other, are the whole page. Assumes nothing.
-use mathlib.Core.Path.{_≡_, refl, _∙_}
+use mathlib.Core.Path.{refl, _∙_}
 use mathlib.Core.List.{List, [], _∷_}
 use Prim.Native.Nat.{ℕ}
 use native.Mathlib.Omega.{arith}

@@ -1,13 +1,12 @@
 -- `page::read::read_page` meets its contract. The loop's invariant: each array has what stands in its places passed. Assumes nothing.
-use mathlib.Core.Path.{_≡_, refl, _∙_}
+use mathlib.Core.Path.{refl}
 use mathlib.Core.List.{List}
-use Prim.Native.Nat.{ℕ, _+_, _-_, _≤_, _<_}
+use Prim.Native.Nat.{ℕ, _-_, _≤_, _<_}
 use native.Mathlib.Omega.{arith}
-use lib.ListN.{length, getD}
 use lib.IntN.{ℤ, pos}
 use mir.Syntax.{w32, w64}
 use Rattle.page.specs.Layout.{start-at, pair-at, child-at, entry-at}
-use Rattle.page.specs.Decoded.{shown-at, Read}
+use Rattle.page.specs.Decoded.{shown-at}
 use Rattle.page.proofs.Laws.Signed.{result-is}
 use Rattle.page.proofs.Laws.Filled.{Filled, filled-none, filled-more}
 use Rattle.page.proofs.Laws.Decoded.{shown-entries}

@@ -1,18 +1,18 @@
 -- `page::write::write_entry` meets its contract: the numbers in the array of entries are written one after the other. Assumes nothing.
 use mathlib.Core.Path.{_≡_, ap, _∙_}
 use mathlib.Core.List.{List}
-use Prim.Native.Nat.{ℕ, _+_, _*_, _≤_}
+use Prim.Native.Nat.{ℕ, _+_}
 use native.Mathlib.Omega.{arith}
 use lib.ListN.{length}
 use mir.Syntax.{w32, w64}
-use mir.Val.{SFits, toZ, ofZ}
+use mir.Val.{toZ, ofZ}
 use mir.ValLaws.{toZ-ofZ}
 use Rattle.fields.specs.Bytes.{patch}
 use Rattle.fields.specs.Numbers.{u32-bytes, i32-bytes, i64-bytes}
 use Rattle.fields.proofs.Laws.Parts.{length-patch}
 use Rattle.fields.proofs.Laws.Places.{Field, u32}
 use Rattle.page.specs.Entries.{entry}
-use Rattle.page.specs.Layout.{start-place, entry-place, entry-bytes, with-entry}
+use Rattle.page.specs.Layout.{start-place, entry-place, with-entry}
 use Rattle.page.proofs.Laws.Entries.{patch-entry}
 use Rattle.page.proofs.write.write_entry.Statement.{statement}
 use Rattle.page.proofs.write.write_entry.Tie as tie

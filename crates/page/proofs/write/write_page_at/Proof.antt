@@ -1,9 +1,8 @@
 -- `page::write::write_page_at` meets its contract: what comes back of the page that was lent is patched into the image. Assumes nothing.
-use mathlib.Core.Path.{_≡_, refl, ap, _∙_}
+use mathlib.Core.Path.{refl, ap, _∙_}
 use mathlib.Core.List.{List}
 use Prim.Native.Nat.{ℕ, _+_, _*_}
 use native.Mathlib.Omega.{arith}
-use lib.ListN.{length}
 use Rattle.fields.specs.Bytes.{patch}
 use Rattle.fields.proofs.Laws.Lent.{back-patch}
 use Rattle.page.proofs.write.write_page_at.Statement.{statement}
