@@ -1,0 +1,179 @@
+-- Every page of a tree that is ready and written is fit at its place. Assumes nothing.
+use Prim.Native.Nat.{ℕ, zero, suc, _+_, _-_, _≤_, _<_, _^_}
+use mathlib.Core.Path.{_≡_, refl, sym, ap, _∙_}
+use mathlib.Core.Bool.{true, and-eq-true-iff}
+use mathlib.Core.List.{List, [], _∷_}
+use native.Mathlib.Omega.{arith}
+use lib.ListN.{length, getD, length-map}
+use lib.IntN.{natAbs}
+use borrow.Author.Tests.{eq-eqb, le-leb, lt-ltb}
+use Rattle.rule.specs.Time.{END}
+use Rattle.fields.proofs.Laws.Tests.{every-of}
+use Rattle.page.specs.declared.Entry.{Entry}
+use Rattle.page.specs.declared.Head.{Head}
+use Rattle.page.specs.Layout.{capacity, level-of, number-of, start-at, pair-at, child-at, entry-at, entries-of, unused-ok, free-level, tree-bytes, joined}
+use Rattle.page.specs.Fit.{Place, place-below, fewest, number-ok, starts-ok, child-ok, children-ok, pair-ok, pairs-ok, page-fit}
+use Rattle.page.specs.Widths.{Entries-fit}
+use Rattle.page.proofs.Laws.Trees.{level-of-tree, number-of-tree, entry-at-tree, entries-of-tree, unused-ok-tree}
+use Rattle.image.specs.Images.{Cell, page-at, cell-bytes}
+use Rattle.image.specs.Sound.{tree-fit, tree-pages}
+use Rattle.tree.specs.Tree.{Ent, Kid, Ents, no-ent, bare, over, pages-under}
+use Rattle.tree.specs.Shape.{Seg}
+use Rattle.view.proofs.Ways.{at-bare}
+use Rattle.audit.proofs.Spans.{bound, bound-next, bound-in, bound-past}
+use Rattle.state.specs.Good.{Ranges}
+use Rattle.state.proofs.To.Weights.{pair-passes}
+use Rattle.state.proofs.To.Ready.{seg-length, Paged, Ready, ready-weighed, ready-child, entries-fit}
+use Rattle.state.proofs.To.Places.{seg-first, seg-at, seg-over}
+
+-- ---- what is read from a tree page's bytes
+
+pub record Read (half : ℕ) (s : List ℕ) (l : ℕ) (es : Ents l) : Type 0 where
+  pub level : level-of s ≡ l
+  pub number : number-of s ≡ length es
+  pub entry : (i : ℕ) → i < length es → entry-at half s i ≡ getD es i (no-ent l) .entry
+  pub entries : entries-of half s ≡ bare es
+  pub unused : unused-ok half s ≡ true
+
+read : (half l : ℕ) (es : Ents l) → length es ≤ capacity half → length es < 2 ^ 32 → l < free-level → Entries-fit (bare es)
+    → (s : List ℕ) → s ≡ tree-bytes half l (bare es) → Read half s l es
+read half l es within narrow low fits s e =
+    let n : length (bare es) ≡ length es = length-map es (λ x. x .entry) in
+    let w : length (bare es) ≤ capacity half = omega arith in
+    let k : length (bare es) < 2 ^ 32 = omega arith in
+    rw e
+    (record {
+      level = level-of-tree half l (bare es) w (omega arith);
+      number = number-of-tree half l (bare es) w k ∙ n;
+      entry = λ i m. entry-at-tree half l (bare es) w k i (omega arith) (fits i) ∙ at-bare l es i;
+      entries = entries-of-tree half l (bare es) w k fits;
+      unused = unused-ok-tree half l (bare es) w k;
+    })
+
+-- ---- a leaf has no pages below it
+
+over-none : (es : Ents 0) → over (λ x. pages-under 0 x) es ≡ []
+unfolding over pages-under
+over-none [] = refl
+over-none (x ∷ es) = over-none es
+
+-- ---- a page at its place
+
+pub record Stands (at : Place) (l a b m n : ℕ) : Type 0 where
+  pub level : at .level ≡ l
+  pub sums : at .sums ≡ a
+  pub counts : at .counts ≡ b
+  pub lo : at .lo ≡ m
+  pub hi : at .hi ≡ n
+
+module _ (half : ℕ) (h : Head) (pages : ℕ → Cell) where
+  module _ (l sums counts lo hi : ℕ) (at : Place) (s : List ℕ) (es : Ents l) (r : Read half s l es) (st : Stands at l sums counts lo hi)
+      (spans : Seg (Ready half h pages l sums counts) lo hi es) where
+    start-is : (i : ℕ) → i < length es → bound s (at .hi) i ≡ getD es i (no-ent l) .entry .start
+    unfolding entry-at
+    start-is i m = bound-in s (at .hi) i (omega (arith, r .number)) ∙ ap (λ (e : Entry). e .start) (r .entry i m)
+
+    end-is : bound s (at .hi) (length es) ≡ hi
+    end-is = bound-past s (at .hi) (length es) (omega (arith, r .number)) ∙ st .hi
+
+    spanned : (i : ℕ) → i < number-of s
+        → (bound s (at .hi) i < bound s (at .hi) (suc i)) × (bound s (at .hi) (suc i) ≤ hi)
+        × Ready half h pages l sums counts (bound s (at .hi) i) (bound s (at .hi) (suc i)) (getD es i (no-ent l))
+    spanned i m = seg-at (no-ent l) (bound s (at .hi)) start-is end-is spans i (omega (arith, r .number))
+
+    page-passes : fewest half at ≤ length es → 1 ≤ length es → length es ≤ capacity half → page-fit half h at s ≡ true
+    unfolding page-fit number-ok starts-ok children-ok pairs-ok entry-at
+    page-passes few some most =
+        let n : number-of s ≡ length es = r .number in
+        let b : ℕ → ℕ = bound s (at .hi) in
+        let least : fewest half at ≤ number-of s = omega arith in
+        let within : number-of s ≤ capacity half = omega arith in
+        let first : start-at s 0 ≡ at .lo = sym (bound-in s (at .hi) 0 (omega arith)) ∙ seg-first (no-ent l) b start-is end-is spans ∙ sym (st .lo) in
+        let rising : (i : ℕ) → i < number-of s - 1 → start-at s i < start-at s (suc i) =
+        λ i m. omega (arith, spanned i (omega arith) .0, bound-in s (at .hi) i (omega arith), bound-in s (at .hi) (suc i) (omega arith)) in
+        let last : start-at s (number-of s - 1) < at .hi =
+        omega (
+          arith,
+          spanned (number-of s - 1) (omega arith) .0,
+          bound-in s (at .hi) (number-of s - 1) (omega arith),
+          bound-past s (at .hi) (suc (number-of s - 1)) (omega arith),
+        ) in
+        let children : (i : ℕ) → i < number-of s → child-ok (h .pages) (at .level) (child-at half s i) ≡ true =
+        λ i m.
+        ap (λ (e : Entry). child-ok (h .pages) (at .level) (e .child)) (r .entry i (omega arith))
+        ∙ ap (λ k. child-ok (h .pages) k (getD es i (no-ent l) .entry .child)) (st .level)
+        ∙ ready-child half h pages l sums counts (b i) (b (suc i)) (getD es i (no-ent l)) (spanned i m .2) in
+        let pairs : (i : ℕ) → i < number-of s → pair-ok h at (pair-at half s i) ≡ true =
+        λ i m.
+        ap (λ (e : Entry). pair-ok h at (e .pair)) (r .entry i (omega arith))
+        ∙ pair-passes h l sums counts (getD es i (no-ent l))
+        (ready-weighed half h pages l sums counts (b i) (b (suc i)) (getD es i (no-ent l)) (spanned i m .2)) at (st .sums) (st .counts) in
+        simp and-eq-true-iff (
+          eq-eqb _ _ (r .level ∙ sym (st .level)),
+          (
+            (le-leb _ _ least, le-leb _ _ within),
+            (
+              (eq-eqb _ _ first, (every-of _ _ (λ i m. lt-ltb _ _ (rising i m)), lt-ltb _ _ last)),
+              (r .unused, (every-of _ _ children, every-of _ _ pairs)),
+            ),
+          ),
+        )
+
+    -- the place of the page below an entry
+    stands-below : (i : ℕ) → i < number-of s → (k : ℕ) → l ≡ suc k
+        → Stands (place-below half s at i) k (sums + natAbs (getD es i (no-ent l) .entry .pair .sum)) (counts + natAbs (getD es i (no-ent l) .entry .pair .count))
+        (bound s (at .hi) i) (bound s (at .hi) (suc i))
+    unfolding place-below entry-at
+    stands-below i m k e =
+        let same : entry-at half s i ≡ getD es i (no-ent l) .entry = r .entry i (omega (arith, r .number)) in
+        record {
+          level = omega (arith, st .level);
+          sums = λ j. st .sums j + natAbs (same j .pair .sum);
+          counts = λ j. st .counts j + natAbs (same j .pair .count);
+          lo = sym (bound-in s (at .hi) i m);
+          hi = bound-next s (at .hi) i;
+        }
+
+  -- ---- the pages below
+
+  module _ (img : List ℕ) (ranges : Ranges h) (some : 1 ≤ half) (written : (p : ℕ) → 1 ≤ p → p < h .pages → page-at half img p ≡ cell-bytes half (pages p)) where
+    page-read : (l sums counts lo hi p : ℕ) (es : Ents l) → hi ≤ END → l < free-level → Paged half h pages l (Ready half h pages l sums counts) lo hi p es
+        → Read half (page-at half img p) l es
+    unfolding cell-bytes
+    page-read l sums counts lo hi p es m low P =
+        read half l es (P .most) (omega (arith, seg-length (P .spans))) low (entries-fit half h pages ranges l sums counts (P .spans) m) (page-at half img p)
+        (written p (P .least) (P .below) ∙ ap (cell-bytes half) (P .page))
+
+    pub fit-tree : (l sums counts lo hi p : ℕ) (at : Place) (es : Ents l) → Stands at l sums counts lo hi → hi ≤ END → l < free-level
+        → 1 ≤ fewest half at → fewest half at ≤ length es → Paged half h pages l (Ready half h pages l sums counts) lo hi p es → tree-fit half h img l at p ≡ true
+    unfolding tree-fit fewest place-below Ready entry-at
+    fit-tree zero sums counts lo hi p at es st m low one few P =
+        page-passes zero sums counts lo hi at (page-at half img p) es (page-read zero sums counts lo hi p es m low P) st (P .spans) few (omega arith) (P .most)
+    fit-tree (suc l) sums counts lo hi p at es st m low one few P =
+        let s : List ℕ = page-at half img p in
+        let r : Read half s (suc l) es = page-read (suc l) sums counts lo hi p es m low P in
+        simp and-eq-true-iff (
+          page-passes (suc l) sums counts lo hi at s es r st (P .spans) few (omega arith) (P .most),
+          every-of _ _
+              (λ i k.
+              let x : Ent (Kid (suc l)) = getD es i (no-ent (suc l)) in
+              let q = spanned (suc l) sums counts lo hi at s es r st (P .spans) i k in
+              ap (λ (e : Entry). tree-fit half h img l (place-below half s at i) (e .child)) (r .entry i (omega (arith, r .number)))
+              ∙ fit-tree l (sums + natAbs (x .entry .pair .sum)) (counts + natAbs (x .entry .pair .count)) (bound s (at .hi) i) (bound s (at .hi) (suc i)) (x .entry .child)
+              (place-below half s at i) (x .kid) (stands-below (suc l) sums counts lo hi at s es r st (P .spans) i k l refl) (omega arith) (omega arith) some (q .2 .1)
+              (q .2 .2)),
+        )
+
+    -- ---- which pages they are
+
+    pub pages-are : (l sums counts lo hi p : ℕ) (es : Ents l) → hi ≤ END → l < free-level → Paged half h pages l (Ready half h pages l sums counts) lo hi p es
+        → tree-pages half img l p ≡ p ∷ over (λ x. pages-under l x) es
+    unfolding tree-pages pages-under Ready
+    pages-are zero sums counts lo hi p es m low P = ap (λ (r : List ℕ). p ∷ r) (sym (over-none es))
+    pages-are (suc l) sums counts lo hi p es m low P =
+        ap (λ (r : List ℕ). p ∷ r)
+        (ap (joined (λ e. tree-pages half img l (e .child))) (page-read (suc l) sums counts lo hi p es m low P .entries)
+        ∙ seg-over (λ e. tree-pages half img l (e .child)) (λ x. pages-under (suc l) x)
+        (λ a b x k r.
+        pages-are l (sums + natAbs (x .entry .pair .sum)) (counts + natAbs (x .entry .pair .count)) a b (x .entry .child) (x .kid) (omega arith) (omega arith) (r .2))
+        (P .spans))

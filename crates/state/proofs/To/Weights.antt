@@ -1,0 +1,83 @@
+-- What is asked of the pairs of an entry and of all below it, for all kinds at once: each passes the test of its page, and has its widths. Assumes nothing.
+use Prim.Native.Nat.{ℕ, zero, suc, _+_, _*_, _≤_}
+use mathlib.Core.Path.{_≡_, refl}
+use mathlib.Core.Bool.{Bool, true, false, and-eq-true-iff}
+use mathlib.Core.List.{[], _∷_}
+use native.Mathlib.Omega.{arith}
+use lib.Dec.{eqb}
+use lib.IntN.{natAbs}
+use mir.Syntax.{w32, w64}
+use mir.Val.{SFits}
+use borrow.Author.Tests.{le-leb}
+use Rattle.rule.specs.declared.Pair.{Pair}
+use Rattle.rule.specs.Time.{most-value}
+use Rattle.rule.specs.Bounds.{value-or-none}
+use Rattle.rule.proofs.Signed.{sfits-natAbs}
+use Rattle.rule.proofs.Laws.{value-or-none-bound}
+use Rattle.page.specs.declared.Head.{Head}
+use Rattle.page.specs.Fit.{Place, pair-ok, most-changes}
+use Rattle.tree.specs.Tree.{Ent, Kid, Ents}
+use Rattle.tree.specs.Held.{All, all-none, all-more, Within}
+use Rattle.view.proofs.Lists.{cond-one, all-head, all-tail}
+use Rattle.state.specs.Good.{Any, Value-or-none}
+
+-- An entry of level l below pairs whose absolute sums and counts add to these.
+pub record Weighed (h : Head) (l sums counts : ℕ) (x : Ent (Kid l)) : Type 0 where
+  pub by-sum : eqb (h .kind) 1 ≡ true → Within (λ p. natAbs (p .sum)) Any (most-value * h .changes) l sums x
+  pub by-count : eqb (h .kind) 1 ≡ true → Within (λ p. natAbs (p .count)) Any (h .changes) l counts x
+  pub by-value : eqb (h .kind) 1 ≡ false → Within (λ p. 0) Value-or-none 0 l 0 x
+
+-- ---- from the three measures, and down
+
+pub weighed-all : (h : Head) (l sums counts : ℕ) (es : Ents l)
+    → (eqb (h .kind) 1 ≡ true → All (Within (λ p. natAbs (p .sum)) Any (most-value * h .changes) l sums) es)
+    → (eqb (h .kind) 1 ≡ true → All (Within (λ p. natAbs (p .count)) Any (h .changes) l counts) es)
+    → (eqb (h .kind) 1 ≡ false → All (Within (λ p. 0) Value-or-none 0 l 0) es)
+    → All (λ x. Weighed h l sums counts x) es
+weighed-all h l sums counts [] s c v = all-none
+weighed-all h l sums counts (x ∷ es) s c v =
+    all-more (record { by-sum = λ e. all-head (s e); by-count = λ e. all-head (c e); by-value = λ e. all-head (v e) })
+    (weighed-all h l sums counts es (λ e. all-tail (s e)) (λ e. all-tail (c e)) (λ e. all-tail (v e)))
+
+pub weighed-below : (h : Head) (l sums counts : ℕ) (x : Ent (Kid (suc l))) → Weighed h (suc l) sums counts x
+    → All (λ y. Weighed h l (sums + natAbs (x .entry .pair .sum)) (counts + natAbs (x .entry .pair .count)) y) (x .kid)
+unfolding Within
+weighed-below h l sums counts x w =
+    weighed-all h l (sums + natAbs (x .entry .pair .sum)) (counts + natAbs (x .entry .pair .count)) (x .kid) (λ e. w .by-sum e .2) (λ e. w .by-count e .2) (λ e. w .by-value e .2)
+
+-- ---- the entry itself
+
+within-here : (norm : Pair → ℕ) (Each : Pair → Type 0) (most l above : ℕ) (x : Ent (Kid l)) → Within norm Each most l above x
+    → Each (x .entry .pair) × (above + norm (x .entry .pair) ≤ most)
+unfolding Within
+within-here norm Each most zero above x w = w
+within-here norm Each most (suc l) above x w = (w .0, w .1)
+
+module _ (h : Head) (l sums counts : ℕ) (x : Ent (Kid l)) (w : Weighed h l sums counts x) where
+  sum-here : eqb (h .kind) 1 ≡ true → sums + natAbs (x .entry .pair .sum) ≤ most-value * h .changes
+  sum-here e = within-here (λ p. natAbs (p .sum)) Any (most-value * h .changes) l sums x (w .by-sum e) .1
+
+  count-here : eqb (h .kind) 1 ≡ true → counts + natAbs (x .entry .pair .count) ≤ h .changes
+  count-here e = within-here (λ p. natAbs (p .count)) Any (h .changes) l counts x (w .by-count e) .1
+
+  value-here : eqb (h .kind) 1 ≡ false → value-or-none (x .entry .pair) ≡ true
+  value-here e = within-here (λ p. 0) Value-or-none 0 l 0 x (w .by-value e) .0
+
+  pub pair-passes : (at : Place) → at .sums ≡ sums → at .counts ≡ counts → pair-ok h at (x .entry .pair) ≡ true
+  unfolding pair-ok value-or-none
+  pair-passes at s c =
+      cond-one (λ t. t ≡ true) (eqb (h .kind) 1)
+      (λ e.
+      let a : at .sums + natAbs (x .entry .pair .sum) ≤ most-value * h .changes = omega (arith, sum-here e) in
+      let b : at .counts + natAbs (x .entry .pair .count) ≤ h .changes = omega (arith, count-here e) in
+      simp and-eq-true-iff (le-leb _ _ a, le-leb _ _ b))
+      (λ e. value-here e)
+
+  pub pair-fits : h .changes ≤ most-changes → SFits w64 (x .entry .pair .sum) × SFits w32 (x .entry .pair .count)
+  pair-fits slow = go (eqb (h .kind) 1) refl
+    where
+      go : (t : Bool) → eqb (h .kind) 1 ≡ t → SFits w64 (x .entry .pair .sum) × SFits w32 (x .entry .pair .count)
+      go true e = (sfits-natAbs w64 (omega (arith, sum-here e)), sfits-natAbs w32 (omega (arith, count-here e)))
+      go false e =
+          let v : (natAbs (x .entry .pair .sum) ≤ most-value) × (natAbs (x .entry .pair .count) ≤ 1) = value-or-none-bound (x .entry .pair) (value-here e) in
+          (sfits-natAbs w64 (omega arith), sfits-natAbs w32 (omega arith))
