@@ -1,0 +1,301 @@
+//! The public calls, "Turned back by the input" and "Turned back by the state".
+//!
+//! "The order is 16, 17, 11 or 12, 13, 14, 21, 22, 23, 24, and 15 last." "An accepted call returns 0, with its answer if
+//! it has one. A refusal returns its number and zeros (instant: the pages read too). Image and output keep their bytes;
+//! scratch is untouched at 16 and 17, also at 11 and 13, else its n bytes are 0."
+
+use std::collections::BTreeSet;
+
+use crate::fit::{child_place, fit_head, fit_page, root_place, Place};
+use crate::page::{number_of_pages, read_head, write_head, write_page, Entry, Head, Page, UNUSED};
+use crate::sound::is_sound;
+use crate::steps::{five_steps, Effect, StepTale};
+use crate::value::{
+    average_of, combine, kind_in_range, lengthened_end, value_in_range, window_in_range, Average, Pair, Span, END,
+    MOST_CHANGES, NOTHING, TOTALS,
+};
+
+pub const ACCEPTED: u32 = 0;
+/// "span with s ≥ e"
+pub const BAD_SPAN: u32 = 11;
+/// "instant END"
+pub const BAD_INSTANT: u32 = 12;
+/// "value outside its range"
+pub const BAD_VALUE: u32 = 13;
+/// "kind or window outside its range"
+pub const BAD_KIND_OR_WINDOW: u32 = 14;
+/// "output shorter than the runs"
+pub const SHORT_OUTPUT: u32 = 15;
+/// "image length not 512 × n for an n in range"
+pub const BAD_LENGTH: u32 = 16;
+/// "scratch shorter than n bytes"
+pub const SHORT_SCRATCH: u32 = 17;
+/// "instant, listing: a page it meets is unfit; audit, change: image not sound"
+pub const UNFIT: u32 = 21;
+/// "withdrawal, kind 2 or 3"
+pub const NO_WITHDRAWAL: u32 = 22;
+/// "changes is 1,000,000,000"
+pub const TOO_MANY_CHANGES: u32 = 23;
+/// "A and B together take more pages than chain and pages from the high mark hold"
+pub const PAGES_LACK: u32 = 24;
+
+// ---------------------------------------------------------------- format
+
+/// "Format leaves height 1, changes 0, high mark 2, no chain and root 1, a leaf with entry 0, (0, 0)."
+pub fn format(image: &mut [u8], kind: u32, window: u32) -> u32 {
+    let Some(n) = number_of_pages(image) else { return BAD_LENGTH };
+    if !kind_in_range(kind) || !window_in_range(window) {
+        return BAD_KIND_OR_WINDOW;
+    }
+    image.fill(UNUSED);
+    let head = Head { n, height: 1, root: 1, first_free: 0, free_length: 0, high_mark: 2, kind, window, changes: 0 };
+    write_head(image, &head);
+    write_page(image, 1, &Page { level: 0, entries: vec![Entry { start: 0, pair: NOTHING, child: 0 }] });
+    ACCEPTED
+}
+
+// ---------------------------------------------------------------- changes
+
+/// "an entry adds (v, 1), a withdrawal (−v, −1), whether or not such a booking is live"
+#[derive(Clone, Copy, PartialEq, Eq, Debug)]
+enum Change {
+    Enter,
+    Withdraw,
+}
+
+/// A change's number and, if it was accepted, the tales of its five steps.
+#[derive(Clone, PartialEq, Eq, Debug)]
+pub struct Told {
+    pub number: u32,
+    pub tales: Vec<StepTale>,
+}
+
+impl Told {
+    fn refused(number: u32) -> Told {
+        Told { number, tales: Vec::new() }
+    }
+
+    /// The pages that the change's five steps name; none for a refused one. The count of changes is in the head, which
+    /// every step names.
+    pub fn named_pages(&self) -> BTreeSet<u32> {
+        self.tales.iter().flat_map(StepTale::named_pages).collect()
+    }
+}
+
+pub fn enter(image: &mut [u8], scratch: &mut [u8], v: i64, s: u32, e: u32) -> u32 {
+    change(image, scratch, Change::Enter, v, s, e).number
+}
+
+pub fn withdraw(image: &mut [u8], scratch: &mut [u8], v: i64, s: u32, e: u32) -> u32 {
+    change(image, scratch, Change::Withdraw, v, s, e).number
+}
+
+pub fn enter_told(image: &mut [u8], scratch: &mut [u8], v: i64, s: u32, e: u32) -> Told {
+    change(image, scratch, Change::Enter, v, s, e)
+}
+
+pub fn withdraw_told(image: &mut [u8], scratch: &mut [u8], v: i64, s: u32, e: u32) -> Told {
+    change(image, scratch, Change::Withdraw, v, s, e)
+}
+
+/// 16, 17, 11 and 13 leave the scratch untouched; then, whatever comes, "those n bytes are 0 afterwards, any beyond keep
+/// theirs".
+fn change(image: &mut [u8], scratch: &mut [u8], which: Change, v: i64, s: u32, e: u32) -> Told {
+    let Some(n) = number_of_pages(image) else { return Told::refused(BAD_LENGTH) };
+    if scratch.len() < n as usize {
+        return Told::refused(SHORT_SCRATCH);
+    }
+    if s >= e {
+        return Told::refused(BAD_SPAN);
+    }
+    if !value_in_range(v) {
+        return Told::refused(BAD_VALUE);
+    }
+    scratch[..n as usize].fill(0);
+    change_by_state(image, which, v, Span { start: s, end: e })
+}
+
+/// 21, 22, 23 and 24, else the change (R17). The steps run on a copy, so that a refused change leaves the image as it
+/// was.
+fn change_by_state(image: &mut [u8], which: Change, v: i64, booked: Span) -> Told {
+    if !is_sound(image) {
+        return Told::refused(UNFIT);
+    }
+    let head = read_head(image);
+    if which == Change::Withdraw && head.kind != TOTALS {
+        return Told::refused(NO_WITHDRAWAL);
+    }
+    if head.changes == MOST_CHANGES {
+        return Told::refused(TOO_MANY_CHANGES);
+    }
+    let mut copy = image.to_vec();
+    match five_steps(&mut copy, &effect_of(&head, which, v, booked)) {
+        Err(_) => Told::refused(PAGES_LACK),
+        Ok(tales) => {
+            image.copy_from_slice(&copy);
+            Told { number: ACCEPTED, tales }
+        }
+    }
+}
+
+fn effect_of(head: &Head, which: Change, v: i64, booked: Span) -> Effect {
+    let pair = match which {
+        Change::Enter => Pair { sum: v, count: 1 },
+        Change::Withdraw => Pair { sum: -v, count: -1 },
+    };
+    Effect { pair, span: Span { start: booked.start, end: lengthened_end(booked.end, head.window) } }
+}
+
+// ---------------------------------------------------------------- instant
+
+#[derive(Clone, Copy, PartialEq, Eq, Debug)]
+pub struct Instant {
+    pub number: u32,
+    pub sum: i64,
+    pub count: i32,
+    pub pages: u32,
+}
+
+impl Instant {
+    fn refused(number: u32, pages: u32) -> Instant {
+        Instant { number, sum: 0, count: 0, pages }
+    }
+}
+
+/// "An instant's answer combines the pairs on its way from root to leaf. It reports the tree pages read: the height if
+/// answered, or if a page is unfit, the pages up to and including it (0 for the head and at other refusals)."
+pub fn instant(image: &[u8], t: u32) -> Instant {
+    if number_of_pages(image).is_none() {
+        return Instant::refused(BAD_LENGTH, 0);
+    }
+    if t == END {
+        return Instant::refused(BAD_INSTANT, 0);
+    }
+    let Some(head) = fit_head(image) else { return Instant::refused(UNFIT, 0) };
+    let mut place = root_place(&head);
+    let mut pair = NOTHING;
+    let mut pages = 0;
+    loop {
+        pages += 1;
+        let Some(page) = fit_page(image, &head, &place) else { return Instant::refused(UNFIT, pages) };
+        let i = page.entry_at(t);
+        pair = combine(head.kind, pair, page.entries[i].pair);
+        if page.is_leaf() {
+            return Instant { number: ACCEPTED, sum: pair.sum, count: pair.count, pages };
+        }
+        place = child_place(&place, &page, i);
+    }
+}
+
+// ---------------------------------------------------------------- average
+
+/// "The average's pair is taken by an instant call." The number and the hundredths; none where there is no average and
+/// at a refusal. For kinds 2 and 3 it is accepted, with none (R13).
+pub fn average(image: &[u8], t: u32) -> (u32, Option<i64>) {
+    let answer = instant(image, t);
+    if answer.number != ACCEPTED {
+        return (answer.number, None);
+    }
+    match average_of(read_head(image).kind, answer.sum, answer.count) {
+        Average::Hundredths(hundredths) => (ACCEPTED, Some(hundredths)),
+        Average::None => (ACCEPTED, None),
+        Average::Beyond => unreachable!("fit pages show sums of at most 10^15"),
+    }
+}
+
+// ---------------------------------------------------------------- span listing
+
+#[derive(Clone, Copy, PartialEq, Eq, Debug)]
+pub struct Listing {
+    pub number: u32,
+    pub runs: u32,
+}
+
+/// One run: its start and its pair. It ends where the next one starts, the last one at b.
+#[derive(Clone, Copy, PartialEq, Eq, Debug)]
+pub struct Run {
+    pub start: u32,
+    pub pair: Pair,
+}
+
+/// "16 bytes each: start (u32), count (i32), sum (i64)"
+pub const RUN_BYTES: usize = 16;
+
+/// "Runs over [a, b), the first starting at a: joined as long as the pair is equal [...] Bytes past the last run keep
+/// what they held. The answer is the number of runs."
+pub fn listing(image: &[u8], a: u32, b: u32, out: &mut [u8]) -> Listing {
+    if number_of_pages(image).is_none() {
+        return Listing { number: BAD_LENGTH, runs: 0 };
+    }
+    if a >= b {
+        return Listing { number: BAD_SPAN, runs: 0 };
+    }
+    let Some(runs) = runs_over(image, Span { start: a, end: b }) else { return Listing { number: UNFIT, runs: 0 } };
+    if out.len() < runs.len() * RUN_BYTES {
+        return Listing { number: SHORT_OUTPUT, runs: 0 };
+    }
+    for (i, run) in runs.iter().enumerate() {
+        out[i * RUN_BYTES..(i + 1) * RUN_BYTES].copy_from_slice(&run_bytes(run));
+    }
+    Listing { number: ACCEPTED, runs: runs.len() as u32 }
+}
+
+pub fn run_bytes(run: &Run) -> [u8; RUN_BYTES] {
+    let mut bytes = [0; RUN_BYTES];
+    bytes[0..4].copy_from_slice(&run.start.to_le_bytes());
+    bytes[4..8].copy_from_slice(&run.pair.count.to_le_bytes());
+    bytes[8..16].copy_from_slice(&run.pair.sum.to_le_bytes());
+    bytes
+}
+
+/// The runs over a span, or none where a page met is unfit.
+fn runs_over(image: &[u8], asked: Span) -> Option<Vec<Run>> {
+    let head = fit_head(image)?;
+    let mut runs = Vec::new();
+    walk(image, &head, &root_place(&head), NOTHING, asked, &mut runs)?;
+    Some(runs)
+}
+
+/// The pages met are the root, then the child of each inner entry that overlaps the span asked for (R5). `above` is the
+/// combined pair of the entries above on the way.
+fn walk(image: &[u8], head: &Head, place: &Place, above: Pair, asked: Span, runs: &mut Vec<Run>) -> Option<()> {
+    let page = fit_page(image, head, place)?;
+    for i in 0..page.entries.len() {
+        let span = page.span_of(i, place.span.end);
+        if !span.overlaps(asked) {
+            continue;
+        }
+        let pair = combine(head.kind, above, page.entries[i].pair);
+        if page.is_leaf() {
+            join_or_open_run(runs, Run { start: span.start.max(asked.start), pair });
+        } else {
+            walk(image, head, &child_place(place, &page, i), pair, asked, runs)?;
+        }
+    }
+    Some(())
+}
+
+/// "joined as long as the pair is equal": sum and count, as "Joining two entries of equal sum and different count" is a
+/// fault we have seen made.
+fn join_or_open_run(runs: &mut Vec<Run>, next: Run) {
+    let joined = runs.last().is_some_and(|open| open.pair == next.pair);
+    if !joined {
+        runs.push(next);
+    }
+}
+
+// ---------------------------------------------------------------- audit
+
+/// "Audit and changes borrow a scratch of n bytes; those n bytes are 0 afterwards, any beyond keep theirs."
+pub fn audit(image: &[u8], scratch: &mut [u8]) -> u32 {
+    let Some(n) = number_of_pages(image) else { return BAD_LENGTH };
+    if scratch.len() < n as usize {
+        return SHORT_SCRATCH;
+    }
+    scratch[..n as usize].fill(0);
+    if is_sound(image) {
+        ACCEPTED
+    } else {
+        UNFIT
+    }
+}

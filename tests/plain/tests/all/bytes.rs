@@ -1,0 +1,386 @@
+//! Whole images written out by hand: layout, split, give, merge, root changes and the order of pages taken and given
+//! back. The bytes are put together here from document 01's words, not by the crate.
+
+use crate::support::*;
+use plain::{enter_told, withdraw_told, Told, END};
+
+type HandEntry = (u32, i64, i32, u32);
+
+fn head(fields: [u32; 9]) -> Vec<u8> {
+    let mut bytes: Vec<u8> = fields.iter().flat_map(|field| field.to_le_bytes()).collect();
+    bytes.resize(512, 0xFF);
+    bytes
+}
+
+fn tree_page(level: u32, entries: &[HandEntry]) -> Vec<u8> {
+    let mut bytes = Vec::new();
+    bytes.extend_from_slice(&level.to_le_bytes());
+    bytes.extend_from_slice(&(entries.len() as u32).to_le_bytes());
+    bytes.resize(32, 0xFF);
+    for (start, _, _, _) in entries {
+        bytes.extend_from_slice(&start.to_le_bytes());
+    }
+    bytes.resize(32 + 96, 0xFF);
+    for (_, sum, count, child) in entries {
+        bytes.extend_from_slice(&sum.to_le_bytes());
+        bytes.extend_from_slice(&count.to_le_bytes());
+        bytes.extend_from_slice(&child.to_le_bytes());
+    }
+    bytes.resize(512, 0xFF);
+    bytes
+}
+
+fn free_page(next: u32) -> Vec<u8> {
+    let mut bytes = vec![0xFF, 0, 0, 0];
+    bytes.extend_from_slice(&next.to_le_bytes());
+    bytes.resize(512, 0xFF);
+    bytes
+}
+
+fn never_used() -> Vec<u8> {
+    vec![0xFF; 512]
+}
+
+fn assert_image(image: &[u8], pages: &[Vec<u8>]) {
+    assert_eq!(image.len(), 512 * pages.len());
+    for (page, expected) in pages.iter().enumerate() {
+        assert!(image[512 * page..512 * page + 512] == expected[..], "page {page} differs");
+    }
+}
+
+fn enter(image: &mut [u8], v: i64, s: u32, e: u32) -> Told {
+    let told = enter_told(image, &mut [0; 1_024], v, s, e);
+    assert_eq!(told.number, 0);
+    told
+}
+
+fn withdraw(image: &mut [u8], v: i64, s: u32, e: u32) -> Told {
+    let told = withdraw_told(image, &mut [0; 1_024], v, s, e);
+    assert_eq!(told.number, 0);
+    told
+}
+
+fn taken(told: &Told) -> Vec<u32> {
+    told.tales.iter().flat_map(|tale| tale.taken.clone()).collect()
+}
+
+fn given_back(told: &Told) -> Vec<u32> {
+    told.tales.iter().flat_map(|tale| tale.given_back.clone()).collect()
+}
+
+/// Value 1 on [10, 15), [20, 25) to [120, 125): page 1 keeps 12 entries, page 2 has 13, page 3 is the root.
+fn twelve(n: usize, kind: u32) -> Vec<u8> {
+    let mut image = fresh(n, kind, 0);
+    for i in 1..=12 {
+        enter(&mut image, 1, 10 * i, 10 * i + 5);
+    }
+    image
+}
+
+/// (1, 1) at 10, 20, 30 and so on, (0, 0) at 15, 25 and so on, both with a pair added.
+fn leaf(starts: &[u32], plus: (i64, i32)) -> Vec<HandEntry> {
+    let own = |start: u32| if start.is_multiple_of(10) && start > 0 { 1 } else { 0 };
+    starts.iter().map(|&start| (start, i64::from(own(start)) + plus.0, own(start) + plus.1, 0)).collect()
+}
+
+const LEFT: [u32; 12] = [0, 10, 15, 20, 25, 30, 35, 40, 45, 50, 55, 60];
+const RIGHT: [u32; 13] = [65, 70, 75, 80, 85, 90, 95, 100, 105, 110, 115, 120, 125];
+
+#[test]
+fn fresh_images() {
+    for (kind, window) in [(1, 0), (2, 20), (3, 1_000_000_000)] {
+        let image = fresh(4, kind, window);
+        let pages =
+            [head([4, 1, 1, 0, 0, 2, kind, window, 0]), tree_page(0, &[(0, 0, 0, 0)]), never_used(), never_used()];
+        assert_image(&image, &pages);
+    }
+}
+
+#[test]
+fn one_booking() {
+    let mut image = fresh(2, 1, 3);
+    enter(&mut image, -6, 10, 40);
+    let leaf = tree_page(0, &[(0, 0, 0, 0), (10, -6, 1, 0), (43, 0, 0, 0)]);
+    assert_image(&image, &[head([2, 1, 1, 0, 0, 2, 1, 3, 1]), leaf]);
+}
+
+/// "25 entries split: the page keeps 12, a taken page gets 13"; "A split root gets a new root, two entries with pair
+/// (0, 0). Lower pages take first."
+#[test]
+fn split_of_the_root_leaf() {
+    let image = twelve(5, 1);
+    let pages = [
+        head([5, 2, 3, 0, 0, 4, 1, 0, 12]),
+        tree_page(0, &leaf(&LEFT, (0, 0))),
+        tree_page(0, &leaf(&RIGHT, (0, 0))),
+        tree_page(1, &[(0, 0, 0, 1), (65, 0, 0, 2)]),
+        never_used(),
+    ];
+    assert_image(&image, &pages);
+}
+
+/// Without a left neighbour the right one gives; then, with 12 left, it is joined: "the right is given back", the root
+/// after it. The next split takes them from the chain's front.
+#[test]
+fn give_then_merge_then_split_from_the_chain() {
+    let mut image = twelve(4, 1);
+    let told = withdraw(&mut image, 1, 10, 15);
+    assert_eq!((told.tales[3].gives_from_right, told.tales[3].turned_to.clone()), (1, vec![2]));
+    assert_eq!((told.tales[4].merges_with_right, told.tales[4].turned_to.clone()), (1, vec![2]));
+    assert_eq!(given_back(&told), [2, 3]);
+    assert_eq!(told.named_pages().into_iter().collect::<Vec<u32>>(), [0, 1, 2, 3]);
+    let starts: Vec<u32> = LEFT.iter().chain(&RIGHT).copied().filter(|start| *start != 10 && *start != 15).collect();
+    let merged = [head([4, 1, 1, 3, 2, 4, 1, 0, 13]), tree_page(0, &leaf(&starts, (0, 0))), free_page(0), free_page(2)];
+    assert_image(&image, &merged);
+
+    let told = enter(&mut image, 1, 10, 15);
+    assert_eq!(taken(&told), [3, 2]);
+    let split = [
+        head([4, 2, 2, 0, 0, 4, 1, 0, 14]),
+        tree_page(0, &leaf(&LEFT, (0, 0))),
+        tree_page(1, &[(0, 0, 0, 1), (65, 0, 0, 3)]),
+        tree_page(0, &leaf(&RIGHT, (0, 0))),
+    ];
+    assert_image(&image, &split);
+}
+
+/// "an entry wholly inside the span takes the effect": inner entries, too. "Each of the two parent pairs is first
+/// combined into its page's entries and set to (0, 0)."
+#[test]
+fn right_gives_with_parent_pairs() {
+    let mut image = twelve(4, 1);
+    enter(&mut image, 5, 0, 65);
+    enter(&mut image, 7, 65, END);
+    let pairs_above = [
+        head([4, 2, 3, 0, 0, 4, 1, 0, 14]),
+        tree_page(0, &leaf(&LEFT, (0, 0))),
+        tree_page(0, &leaf(&RIGHT, (0, 0))),
+        tree_page(1, &[(0, 5, 1, 1), (65, 7, 1, 2)]),
+    ];
+    assert_image(&image, &pairs_above);
+
+    // 15 comes to (1, 1) like 10 and is healed; 20 comes to (2, 2).
+    let told = enter(&mut image, 1, 15, 25);
+    assert_eq!(told.tales[3].gives_from_right, 1);
+    assert_eq!(told.tales[4].entries_healed, 0);
+    let mut left = leaf(&LEFT, (5, 1));
+    left[3] = (20, 7, 3, 0);
+    left.remove(2);
+    left.push((65, 7, 1, 0));
+    let given = [
+        head([4, 2, 3, 0, 0, 4, 1, 0, 15]),
+        tree_page(0, &left),
+        tree_page(0, &leaf(&RIGHT[1..], (7, 1))),
+        tree_page(1, &[(0, 0, 0, 1), (70, 0, 0, 2)]),
+    ];
+    assert_image(&image, &given);
+}
+
+/// The left neighbour gives its last entry, and "the right page's parent start follows".
+#[test]
+fn left_gives_with_parent_pairs() {
+    let mut image = twelve(4, 1);
+    enter(&mut image, 3, 2, 4);
+    enter(&mut image, 1, 75, 85);
+    enter(&mut image, 5, 0, 65);
+    enter(&mut image, 7, 65, END);
+    let told = enter(&mut image, 1, 95, 105);
+    assert_eq!((told.tales[3].gives_from_left, told.tales[3].turned_to.clone()), (1, vec![1]));
+    let mut left = leaf(&LEFT, (5, 1));
+    left.splice(1..1, [(2, 8, 2, 0), (4, 5, 1, 0)]);
+    left.pop();
+    let mut right = leaf(&[65, 70, 80, 85, 90, 100, 105, 110, 115, 120, 125], (7, 1));
+    right[2] = (80, 9, 3, 0);
+    right[5] = (100, 9, 3, 0);
+    right.insert(0, (60, 6, 2, 0));
+    let given = [
+        head([4, 2, 3, 0, 0, 4, 1, 0, 17]),
+        tree_page(0, &left),
+        tree_page(0, &right),
+        tree_page(1, &[(0, 0, 0, 1), (60, 0, 0, 2)]),
+    ];
+    assert_image(&image, &given);
+}
+
+/// The left neighbour has 12: both join in it.
+#[test]
+fn merge_with_left() {
+    let mut image = twelve(4, 1);
+    enter(&mut image, 1, 75, 85);
+    enter(&mut image, 5, 0, 65);
+    enter(&mut image, 7, 65, END);
+    let told = enter(&mut image, 1, 95, 105);
+    assert_eq!((told.tales[3].merges_with_left, told.tales[3].turned_to.clone()), (1, vec![1]));
+    assert_eq!(given_back(&told), [2, 3]);
+    let mut merged = leaf(&LEFT, (5, 1));
+    let mut right = leaf(&[65, 70, 80, 85, 90, 100, 105, 110, 115, 120, 125], (7, 1));
+    right[2] = (80, 9, 3, 0);
+    right[5] = (100, 9, 3, 0);
+    merged.extend(right);
+    let pages = [head([4, 1, 1, 3, 2, 4, 1, 0, 16]), tree_page(0, &merged), free_page(0), free_page(2)];
+    assert_image(&image, &pages);
+}
+
+/// The chain comes ahead of the pages from the high mark on.
+#[test]
+fn the_chain_is_taken_first() {
+    let mut image = twelve(6, 1);
+    assert_eq!(given_back(&withdraw(&mut image, 1, 10, 15)), [2, 3]);
+    assert_eq!(word(&image, 0, HIGH_MARK), 4);
+    assert_eq!(taken(&enter(&mut image, 1, 10, 15)), [3, 2]);
+    assert_eq!(word(&image, 0, HIGH_MARK), 4);
+    assert_eq!(word(&image, 0, FREE_LENGTH), 0);
+    // With the chain used up, at the high mark.
+    for i in 13..=18 {
+        assert_eq!(taken(&enter(&mut image, 1, 10 * i, 10 * i + 5)), if i == 18 { vec![4] } else { vec![] });
+    }
+    assert_eq!(word(&image, 0, HIGH_MARK), 5);
+}
+
+/// Between a left neighbour of 12 and a right one of 13, the left is turned to, and both join (R9).
+#[test]
+fn the_left_neighbour_comes_first() {
+    let mut image = twelve(5, 1);
+    for i in 13..=18 {
+        enter(&mut image, 1, 10 * i, 10 * i + 5);
+    }
+    let told = enter(&mut image, 1, 75, 85);
+    assert_eq!((told.tales[3].merges_with_left, told.tales[3].turned_to.clone()), (1, vec![1]));
+    assert_eq!(given_back(&told), [2]);
+    let mut merged = leaf(&LEFT, (0, 0));
+    merged.extend(leaf(&RIGHT[..12], (0, 0)));
+    merged.retain(|(start, _, _, _)| *start != 75);
+    merged[14] = (80, 2, 2, 0);
+    let pages = [
+        head([5, 2, 3, 2, 1, 5, 1, 0, 19]),
+        tree_page(0, &merged),
+        free_page(0),
+        tree_page(1, &[(0, 0, 0, 1), (125, 0, 0, 4)]),
+        tree_page(0, &leaf(&[125, 130, 135, 140, 145, 150, 155, 160, 165, 170, 175, 180, 185], (0, 0))),
+    ];
+    assert_image(&image, &pages);
+}
+
+/// "the parent gains an entry with the same pair": that of its entry for the page that was split (R8).
+#[test]
+fn split_under_a_parent_with_pairs() {
+    let mut image = twelve(5, 1);
+    enter(&mut image, 5, 0, 65);
+    enter(&mut image, 7, 65, END);
+    for i in 13..=18 {
+        let told = enter(&mut image, 1, 10 * i, 10 * i + 5);
+        assert_eq!(taken(&told), if i == 18 { vec![4] } else { vec![] });
+    }
+    let pages = [
+        head([5, 2, 3, 0, 0, 5, 1, 0, 20]),
+        tree_page(0, &leaf(&LEFT, (0, 0))),
+        tree_page(0, &leaf(&RIGHT[..12], (0, 0))),
+        tree_page(1, &[(0, 5, 1, 1), (65, 7, 1, 2), (125, 7, 1, 4)]),
+        tree_page(0, &leaf(&[125, 130, 135, 140, 145, 150, 155, 160, 165, 170, 175, 180, 185], (0, 0))),
+    ];
+    assert_image(&image, &pages);
+}
+
+/// Kinds 2 and 3: no early stop where the parent's pair is already greater or less (R6).
+#[test]
+fn greatest_and_least_go_down() {
+    for (kind, v) in [(2, 100), (3, -100)] {
+        let mut image = twelve(4, kind);
+        enter(&mut image, v, 0, 65);
+        enter(&mut image, v / 20, 20, 25);
+        let mut left = leaf(&LEFT, (0, 0));
+        left[3] = (20, v / 20, 1, 0);
+        let pages = [
+            head([4, 2, 3, 0, 0, 4, kind, 0, 14]),
+            tree_page(0, &left),
+            tree_page(0, &leaf(&RIGHT, (0, 0))),
+            tree_page(1, &[(0, v, 1, 1), (65, 0, 0, 2)]),
+        ];
+        assert_image(&image, &pages);
+    }
+}
+
+/// Kinds 2 and 3: a parent's pair combined into entries, some of them nothing, some greater and some less.
+#[test]
+fn greatest_and_least_merge_with_parent_pairs() {
+    for kind in [2, 3] {
+        let best = |one: i64, other: i64| if kind == 2 { one.max(other) } else { one.min(other) };
+        let mut image = twelve(4, kind);
+        enter(&mut image, 0, 0, 65);
+        enter(&mut image, 4, 65, END);
+        // 15 comes to (1, 1) like 10 and is healed, 20 has it already and is healed too: give, then merge.
+        let told = enter(&mut image, 1, 15, 20);
+        assert_eq!((told.tales[3].gives_from_right, told.tales[4].merges_with_right), (1, 1));
+        let pushed = |start: &u32, v: i64| {
+            let own = start.is_multiple_of(10) && *start > 0;
+            (*start, if own { best(1, v) } else { v }, 1, 0)
+        };
+        let mut merged: Vec<HandEntry> =
+            LEFT.iter().filter(|start| **start != 15 && **start != 20).map(|start| pushed(start, 0)).collect();
+        merged.extend(RIGHT.iter().map(|start| pushed(start, 4)));
+        let pages = [head([4, 1, 1, 3, 2, 4, kind, 0, 15]), tree_page(0, &merged), free_page(0), free_page(2)];
+        assert_image(&image, &pages);
+    }
+}
+
+/// A change with no effect on any pair still cuts, heals and counts (R21).
+#[test]
+fn a_change_without_effect() {
+    for (kind, v) in [(2, 5), (3, -5)] {
+        let mut image = fresh(2, kind, 0);
+        enter(&mut image, v, 0, END);
+        let told = enter(&mut image, 0, 10, 20);
+        let cuts: u32 = told.tales.iter().map(|tale| tale.entries_cut).sum();
+        let heals: u32 = told.tales.iter().map(|tale| tale.entries_healed).sum();
+        assert_eq!((cuts, heals), (2, 2));
+        assert_image(&image, &[head([2, 1, 1, 0, 0, 2, kind, 0, 2]), tree_page(0, &[(0, v, 1, 0)])]);
+    }
+}
+
+/// And it gives 24 if its cuts lack pages (R21).
+#[test]
+fn a_change_without_effect_lacks_pages() {
+    let mut image = fresh(2, 2, 0);
+    for i in 1..=11 {
+        enter(&mut image, 100 + i64::from(i), 10 * i, 10 * i + 5);
+    }
+    enter(&mut image, 100, 0, END);
+    enter(&mut image, 100, 500, END);
+    assert_eq!(Node::of(&image).leaf_entries(), 23);
+    let before = image.clone();
+    assert_eq!(enter_told(&mut image, &mut [0; 2], 1, 600, 700).number, 24);
+    assert!(image == before);
+    // One cut is still possible; the entry that it makes is healed again.
+    enter(&mut image, 1, 600, END);
+    assert_eq!(Node::of(&image).leaf_entries(), 23);
+}
+
+/// Splits go up by levels: "Lower pages take first", the new root last (R7).
+#[test]
+fn splits_up_to_a_new_root() {
+    let mut image = fresh(64, 1, 0);
+    let mut i = 0;
+    let (told, before) = loop {
+        i += 1;
+        let before = image.clone();
+        let told = enter(&mut image, 1, 10 * i, 10 * i + 5);
+        if height(&image) == 3 {
+            break (told, before);
+        }
+    };
+    let mark = word(&before, 0, HIGH_MARK);
+    assert_eq!(taken(&told), [mark, mark + 1, mark + 2]);
+    let old_root = word(&before, 0, ROOT);
+    assert_eq!(get_u32(&before, old_root, NUMBER_AT), 24);
+    assert_eq!(word(&image, 0, ROOT), mark + 2);
+    assert_eq!(get_u32(&image, mark, LEVEL_AT), 0);
+    assert_eq!(get_u32(&image, mark + 1, LEVEL_AT), 1);
+    assert_eq!(get_u32(&image, mark + 2, LEVEL_AT), 2);
+    assert_eq!(get_u32(&image, old_root, NUMBER_AT), 12);
+    assert_eq!(get_u32(&image, mark, NUMBER_AT), 13);
+    assert_eq!(get_u32(&image, mark + 1, NUMBER_AT), 13);
+    assert_eq!(get_u32(&image, mark + 1, child_at(12)), mark);
+    let second = get_u32(&image, mark + 1, start_at(0));
+    let root = tree_page(2, &[(0, 0, 0, old_root), (second, 0, 0, mark + 1)]);
+    assert!(image[512 * (mark as usize + 2)..512 * (mark as usize + 3)] == root[..]);
+}

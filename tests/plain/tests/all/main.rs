@@ -1,0 +1,17 @@
+//! The tests of the plain version. Run with `cargo test --release --offline`.
+//! Seeds are fixed; every test writes its counts to standard error, past cargo's capture.
+
+mod model;
+mod support;
+
+mod average;
+mod bytes;
+mod damage;
+mod fitness;
+mod heights;
+mod loads;
+mod marks;
+mod orders;
+mod paper;
+mod program;
+mod refusals;

@@ -1,0 +1,712 @@
+//! What the tests share: random numbers, a second reader of the bytes, a model that counts the pages a change takes, a
+//! quick book, and a rack that does a call with every check.
+
+use std::collections::{BTreeMap, BTreeSet};
+use std::io::Write;
+
+use crate::model::Model;
+use plain::calls::{run_bytes, Run};
+use plain::sound::{is_sound, is_sound_by_counting};
+use plain::steps::{count_the_change, one_step, Effect, Step, StepTale, FIVE_STEPS};
+use plain::value::Span;
+use plain::{audit, enter_told, format, instant, listing, withdraw_told, Book, Pair, END};
+
+// ---------------------------------------------------------------- counts on standard error
+
+/// Written past the capture of `cargo test`, so that the counts of passed tests are seen.
+pub fn report(line: &str) {
+    let _ = std::io::stderr().write_all(format!("\n  {line}\n").as_bytes());
+}
+
+#[derive(Clone, Default, Debug)]
+pub struct Tally {
+    pub formats: u64,
+    pub changes_accepted: u64,
+    pub changes_refused: u64,
+    pub refused_24: u64,
+    pub instants: u64,
+    pub averages: u64,
+    pub listings: u64,
+    pub audits: u64,
+    pub cuts: u64,
+    pub heals: u64,
+    pub splits: u64,
+    pub gives_from_left: u64,
+    pub gives_from_right: u64,
+    pub merges_with_left: u64,
+    pub merges_with_right: u64,
+    pub roots_gained: u64,
+    pub roots_lost: u64,
+    pub chain_taken: u64,
+    pub greatest_height: u32,
+}
+
+impl Tally {
+    pub fn calls(&self) -> u64 {
+        self.formats
+            + self.changes_accepted
+            + self.changes_refused
+            + self.instants
+            + self.averages
+            + self.listings
+            + self.audits
+    }
+
+    pub fn gives(&self) -> u64 {
+        self.gives_from_left + self.gives_from_right
+    }
+
+    pub fn merges(&self) -> u64 {
+        self.merges_with_left + self.merges_with_right
+    }
+
+    pub fn add_tale(&mut self, tale: &StepTale) {
+        self.cuts += u64::from(tale.entries_cut);
+        self.heals += u64::from(tale.entries_healed);
+        self.splits += u64::from(tale.splits);
+        self.gives_from_left += u64::from(tale.gives_from_left);
+        self.gives_from_right += u64::from(tale.gives_from_right);
+        self.merges_with_left += u64::from(tale.merges_with_left);
+        self.merges_with_right += u64::from(tale.merges_with_right);
+        self.roots_gained += u64::from(tale.roots_gained);
+        self.roots_lost += u64::from(tale.roots_lost);
+    }
+
+    pub fn add(&mut self, other: &Tally) {
+        self.formats += other.formats;
+        self.changes_accepted += other.changes_accepted;
+        self.changes_refused += other.changes_refused;
+        self.refused_24 += other.refused_24;
+        self.instants += other.instants;
+        self.averages += other.averages;
+        self.listings += other.listings;
+        self.audits += other.audits;
+        self.cuts += other.cuts;
+        self.heals += other.heals;
+        self.splits += other.splits;
+        self.gives_from_left += other.gives_from_left;
+        self.gives_from_right += other.gives_from_right;
+        self.merges_with_left += other.merges_with_left;
+        self.merges_with_right += other.merges_with_right;
+        self.roots_gained += other.roots_gained;
+        self.roots_lost += other.roots_lost;
+        self.chain_taken += other.chain_taken;
+        self.greatest_height = self.greatest_height.max(other.greatest_height);
+    }
+
+    pub fn report(&self, name: &str) {
+        report(&format!(
+            "{name}: {} calls ({} changes accepted, {} refused, of these {} with 24; {} instants, {} listings, {} audits); \
+             {} cuts, {} heals, {} splits, gives {} left {} right, merges {} left {} right, roots +{} -{}, \
+             {} pages taken from the chain, height up to {}",
+            self.calls(),
+            self.changes_accepted,
+            self.changes_refused,
+            self.refused_24,
+            self.instants,
+            self.listings,
+            self.audits,
+            self.cuts,
+            self.heals,
+            self.splits,
+            self.gives_from_left,
+            self.gives_from_right,
+            self.merges_with_left,
+            self.merges_with_right,
+            self.roots_gained,
+            self.roots_lost,
+            self.chain_taken,
+            self.greatest_height,
+        ));
+    }
+}
+
+// ---------------------------------------------------------------- random numbers
+
+pub struct Xorshift(u64);
+
+impl Xorshift {
+    pub fn new(seed: u64) -> Xorshift {
+        Xorshift(seed.wrapping_mul(0x9E37_79B9_7F4A_7C15) | 1)
+    }
+
+    pub fn next(&mut self) -> u64 {
+        self.0 ^= self.0 << 13;
+        self.0 ^= self.0 >> 7;
+        self.0 ^= self.0 << 17;
+        self.0.wrapping_mul(0x2545_F491_4F6C_DD1D)
+    }
+
+    /// From 0 to `bound` − 1.
+    pub fn below(&mut self, bound: u64) -> u64 {
+        (self.next() >> 16) % bound
+    }
+
+    pub fn one_in(&mut self, bound: u64) -> bool {
+        self.below(bound) == 0
+    }
+
+    pub fn between(&mut self, low: i64, high: i64) -> i64 {
+        low + self.below((high - low + 1) as u64) as i64
+    }
+
+    pub fn pick<T: Copy>(&mut self, from: &[T]) -> T {
+        from[self.below(from.len() as u64) as usize]
+    }
+
+    pub fn bytes(&mut self, length: usize) -> Vec<u8> {
+        let mut bytes = Vec::with_capacity(length + 8);
+        while bytes.len() < length {
+            bytes.extend_from_slice(&self.next().to_le_bytes());
+        }
+        bytes.truncate(length);
+        bytes
+    }
+
+    pub fn shuffle<T>(&mut self, list: &mut [T]) {
+        for i in (1..list.len()).rev() {
+            list.swap(i, self.below(i as u64 + 1) as usize);
+        }
+    }
+}
+
+// ---------------------------------------------------------------- a second reader of the bytes
+
+/// Byte offsets written out again here, so that a mistaken one in the crate shows.
+pub fn word(image: &[u8], page: u32, field: usize) -> u32 {
+    let at = page as usize * 512 + field * 4;
+    u32::from(image[at])
+        | u32::from(image[at + 1]) << 8
+        | u32::from(image[at + 2]) << 16
+        | u32::from(image[at + 3]) << 24
+}
+
+pub fn set_word(image: &mut [u8], page: u32, field: usize, to: u32) {
+    let at = page as usize * 512 + field * 4;
+    image[at..at + 4].copy_from_slice(&to.to_le_bytes());
+}
+
+pub const N: usize = 0;
+pub const HEIGHT: usize = 1;
+pub const ROOT: usize = 2;
+pub const FIRST_FREE: usize = 3;
+pub const FREE_LENGTH: usize = 4;
+pub const HIGH_MARK: usize = 5;
+pub const KIND: usize = 6;
+pub const WINDOW: usize = 7;
+pub const CHANGES: usize = 8;
+
+/// Byte positions in a tree page.
+pub const LEVEL_AT: usize = 0;
+pub const NUMBER_AT: usize = 4;
+pub fn start_at(i: usize) -> usize {
+    32 + 4 * i
+}
+pub fn sum_at(i: usize) -> usize {
+    128 + 16 * i
+}
+pub fn count_at(i: usize) -> usize {
+    136 + 16 * i
+}
+pub fn child_at(i: usize) -> usize {
+    140 + 16 * i
+}
+
+pub fn set(image: &mut [u8], page: u32, at: usize, bytes: &[u8]) {
+    let at = page as usize * 512 + at;
+    image[at..at + bytes.len()].copy_from_slice(bytes);
+}
+
+pub fn get_u32(image: &[u8], page: u32, at: usize) -> u32 {
+    let at = page as usize * 512 + at;
+    u32::from_le_bytes(image[at..at + 4].try_into().unwrap())
+}
+
+pub fn height(image: &[u8]) -> u32 {
+    word(image, 0, HEIGHT)
+}
+
+/// A tree read from the image into nested lists: the starts of leaves, the pages below inner entries.
+#[derive(Clone, PartialEq, Eq, Debug)]
+pub enum Node {
+    Leaf { page: u32, entries: Vec<(u32, Pair)> },
+    Inner { page: u32, entries: Vec<(u32, Pair, Node)> },
+}
+
+impl Node {
+    pub fn of(image: &[u8]) -> Node {
+        Node::at(image, word(image, 0, ROOT))
+    }
+
+    fn at(image: &[u8], page: u32) -> Node {
+        let number = get_u32(image, page, NUMBER_AT) as usize;
+        let start = |i: usize| get_u32(image, page, start_at(i));
+        let pair = |i: usize| {
+            let at = page as usize * 512 + sum_at(i);
+            Pair {
+                sum: i64::from_le_bytes(image[at..at + 8].try_into().unwrap()),
+                count: i32::from_le_bytes(image[at + 8..at + 12].try_into().unwrap()),
+            }
+        };
+        if get_u32(image, page, LEVEL_AT) == 0 {
+            Node::Leaf { page, entries: (0..number).map(|i| (start(i), pair(i))).collect() }
+        } else {
+            let child = |i: usize| Node::at(image, get_u32(image, page, child_at(i)));
+            Node::Inner { page, entries: (0..number).map(|i| (start(i), pair(i), child(i))).collect() }
+        }
+    }
+
+    pub fn page(&self) -> u32 {
+        match self {
+            Node::Leaf { page, .. } | Node::Inner { page, .. } => *page,
+        }
+    }
+
+    pub fn pages(&self) -> BTreeSet<u32> {
+        match self {
+            Node::Leaf { page, .. } => BTreeSet::from([*page]),
+            Node::Inner { page, entries } => {
+                entries.iter().flat_map(|(_, _, below)| below.pages()).chain([*page]).collect()
+            }
+        }
+    }
+
+    pub fn leaf_entries(&self) -> usize {
+        match self {
+            Node::Leaf { entries, .. } => entries.len(),
+            Node::Inner { entries, .. } => entries.iter().map(|(_, _, below)| below.leaf_entries()).sum(),
+        }
+    }
+
+    /// The pair at t, without any check of fitness.
+    pub fn pair_at(&self, kind: u32, t: u32) -> Pair {
+        let pairs = self.pairs_on_way(t);
+        let values = pairs.iter().filter(|pair| pair.count != 0).map(|pair| pair.sum);
+        let best = match kind {
+            1 => {
+                let sum = pairs.iter().map(|pair| pair.sum).sum();
+                return Pair { sum, count: pairs.iter().map(|pair| pair.count).sum() };
+            }
+            2 => values.max(),
+            _ => values.min(),
+        };
+        best.map_or(Pair { sum: 0, count: 0 }, |sum| Pair { sum, count: 1 })
+    }
+
+    fn pairs_on_way(&self, t: u32) -> Vec<Pair> {
+        match self {
+            Node::Leaf { entries, .. } => vec![entries.iter().rfind(|(start, _)| *start <= t).unwrap().1],
+            Node::Inner { entries, .. } => {
+                let (_, pair, below) = entries.iter().rfind(|(start, _, _)| *start <= t).unwrap();
+                let mut pairs = vec![*pair];
+                pairs.extend(below.pairs_on_way(t));
+                pairs
+            }
+        }
+    }
+
+    /// The pages met on the way to t.
+    pub fn way(&self, t: u32) -> Vec<u32> {
+        let mut way = vec![self.page()];
+        if let Node::Inner { entries, .. } = self {
+            let (_, _, below) = entries.iter().rfind(|(start, _, _)| *start <= t).unwrap();
+            way.extend(below.way(t));
+        }
+        way
+    }
+
+    /// The pages that a listing over [a, b) meets (R5).
+    pub fn met_by_listing(&self, a: u32, b: u32, end: u32) -> BTreeSet<u32> {
+        let mut met = BTreeSet::from([self.page()]);
+        if let Node::Inner { entries, .. } = self {
+            for (i, (start, _, below)) in entries.iter().enumerate() {
+                let next = entries.get(i + 1).map_or(end, |(next, _, _)| *next);
+                if *start < b && a < next {
+                    met.extend(below.met_by_listing(a, b, next));
+                }
+            }
+        }
+        met
+    }
+
+    /// Of the pages on the way to t, from the leaf up: the left neighbour under the same parent, else the right.
+    pub fn siblings_of_way(&self, t: u32) -> Vec<u32> {
+        let Node::Inner { entries, .. } = self else { return Vec::new() };
+        let i = entries.iter().filter(|(start, _, _)| *start <= t).count() - 1;
+        let mut siblings = entries[i].2.siblings_of_way(t);
+        let sibling = if i > 0 { i - 1 } else { i + 1 };
+        siblings.push(entries[sibling].2.page());
+        siblings
+    }
+}
+
+// ---------------------------------------------------------------- how many pages A and B take
+
+/// Only how many entries pages have and where they start: enough to count the pages that cuts take.
+#[derive(Clone)]
+enum Shape {
+    Leaf(Vec<u32>),
+    Inner(Vec<(u32, Shape)>),
+}
+
+impl Shape {
+    fn of(node: &Node) -> Shape {
+        match node {
+            Node::Leaf { entries, .. } => Shape::Leaf(entries.iter().map(|(start, _)| *start).collect()),
+            Node::Inner { entries, .. } => {
+                Shape::Inner(entries.iter().map(|(start, _, below)| (*start, Shape::of(below))).collect())
+            }
+        }
+    }
+
+    /// Adds t; the second half if this page had to split.
+    fn add(&mut self, t: u32, taken: &mut u64) -> Option<(u32, Shape)> {
+        match self {
+            Shape::Leaf(starts) => {
+                let Err(at) = starts.binary_search(&t) else { return None };
+                starts.insert(at, t);
+                if starts.len() < 25 {
+                    return None;
+                }
+                *taken += 1;
+                let right = starts.split_off(12);
+                Some((right[0], Shape::Leaf(right)))
+            }
+            Shape::Inner(entries) => {
+                let at = entries.partition_point(|(start, _)| *start <= t);
+                let gained = entries[at - 1].1.add(t, taken)?;
+                entries.insert(at, gained);
+                if entries.len() < 25 {
+                    return None;
+                }
+                *taken += 1;
+                let right = entries.split_off(12);
+                Some((right[0].0, Shape::Inner(right)))
+            }
+        }
+    }
+}
+
+/// The pages that A and B together take on this image.
+pub fn pages_wanted(image: &[u8], s: u32, end: u32) -> u64 {
+    let mut shape = Shape::of(&Node::of(image));
+    let mut taken = 0;
+    for t in [s, end] {
+        if t == END {
+            continue;
+        }
+        if let Some(right) = shape.add(t, &mut taken) {
+            taken += 1;
+            shape = Shape::Inner(vec![(0, shape), right]);
+        }
+    }
+    taken
+}
+
+/// "chain and pages from the high mark hold"
+pub fn pages_at_hand(image: &[u8]) -> u64 {
+    u64::from(word(image, 0, FREE_LENGTH)) + u64::from(word(image, 0, N) - word(image, 0, HIGH_MARK))
+}
+
+// ---------------------------------------------------------------- a quick book
+
+/// The same pairs as the plain book's, kept by their starts, for loads on which the plain book is too slow.
+#[derive(Clone)]
+pub struct Timeline {
+    kind: u32,
+    window: u32,
+    pairs: BTreeMap<u32, Pair>,
+}
+
+impl Timeline {
+    pub fn new(kind: u32, window: u32) -> Timeline {
+        Timeline { kind, window, pairs: BTreeMap::from([(0, Pair { sum: 0, count: 0 })]) }
+    }
+
+    pub fn change(&mut self, v: i64, count: i32, s: u32, e: u32) {
+        let end = (u64::from(e) + u64::from(self.window)).min(u64::from(END)) as u32;
+        for t in [s, end] {
+            let before = self.pair_at(t);
+            self.pairs.insert(t, before);
+        }
+        for (_, pair) in self.pairs.range_mut(s..end) {
+            *pair = match self.kind {
+                1 => Pair { sum: pair.sum + v, count: pair.count + count },
+                2 if pair.count == 1 => Pair { sum: pair.sum.max(v), count: 1 },
+                3 if pair.count == 1 => Pair { sum: pair.sum.min(v), count: 1 },
+                _ => Pair { sum: v, count: 1 },
+            };
+        }
+    }
+
+    pub fn pair_at(&self, t: u32) -> Pair {
+        *self.pairs.range(..=t).next_back().unwrap().1
+    }
+
+    pub fn boundaries(&self) -> BTreeSet<u32> {
+        self.pairs.keys().copied().collect()
+    }
+
+    pub fn runs(&self, a: u32, b: u32) -> Vec<Run> {
+        let mut runs = vec![Run { start: a, pair: self.pair_at(a) }];
+        if b - a > 1 {
+            for (&start, &pair) in self.pairs.range(a + 1..b) {
+                if runs[runs.len() - 1].pair != pair {
+                    runs.push(Run { start, pair });
+                }
+            }
+        }
+        runs
+    }
+}
+
+// ---------------------------------------------------------------- the rack
+
+/// One image with its books. Every call through it is checked.
+pub struct Rack {
+    pub image: Vec<u8>,
+    pub book: Book,
+    pub timeline: Timeline,
+    pub tally: Tally,
+    pub random: Xorshift,
+    /// Whether each change is also run step by step, with the pages that each step wrote.
+    pub by_step: bool,
+    /// Whether each change is followed by an audit.
+    pub audit_each: bool,
+}
+
+pub fn fresh(n: usize, kind: u32, window: u32) -> Vec<u8> {
+    let mut image = vec![0xA5; n * 512];
+    assert_eq!(format(&mut image, kind, window), 0);
+    image
+}
+
+impl Rack {
+    pub fn new(n: usize, kind: u32, window: u32, seed: u64) -> Rack {
+        let tally = Tally { formats: 1, greatest_height: 1, ..Tally::default() };
+        Rack {
+            image: fresh(n, kind, window),
+            book: Book::new(kind, window),
+            timeline: Timeline::new(kind, window),
+            tally,
+            random: Xorshift::new(seed),
+            by_step: true,
+            audit_each: true,
+        }
+    }
+
+    pub fn n(&self) -> usize {
+        self.image.len() / 512
+    }
+
+    pub fn enter(&mut self, v: i64, s: u32, e: u32) -> u32 {
+        self.change(false, v, s, e)
+    }
+
+    pub fn withdraw(&mut self, v: i64, s: u32, e: u32) -> u32 {
+        self.change(true, v, s, e)
+    }
+
+    /// A change with arguments in range, and every check that one change allows.
+    pub fn change(&mut self, withdrawal: bool, v: i64, s: u32, e: u32) -> u32 {
+        assert!(s < e && (-1_000_000..=1_000_000).contains(&v));
+        let before = self.image.clone();
+        let end = (u64::from(e) + u64::from(self.book.window)).min(u64::from(END)) as u32;
+        let expected = if withdrawal && self.book.kind != 1 {
+            22
+        } else if pages_wanted(&before, s, end) > pages_at_hand(&before) {
+            24
+        } else {
+            0
+        };
+
+        let n = self.n();
+        let length = n + self.random.below(3) as usize;
+        let mut scratch = self.random.bytes(length);
+        let beyond = scratch[n..].to_vec();
+        let told = if withdrawal {
+            withdraw_told(&mut self.image, &mut scratch, v, s, e)
+        } else {
+            enter_told(&mut self.image, &mut scratch, v, s, e)
+        };
+        assert_eq!(told.number, expected);
+        assert!(scratch[..n].iter().all(|&byte| byte == 0));
+        assert_eq!(scratch[n..], beyond[..]);
+
+        let count = if withdrawal { -1 } else { 1 };
+        let signed = if withdrawal { -v } else { v };
+        if withdrawal {
+            self.book.withdraw(v, s, e, told.number);
+        } else {
+            self.book.enter(v, s, e, told.number);
+        }
+        if told.number != 0 {
+            assert!(self.image == before, "a refused change keeps the image's bytes");
+            assert!(told.tales.is_empty());
+            self.tally.changes_refused += 1;
+            self.tally.refused_24 += u64::from(told.number == 24);
+            return told.number;
+        }
+        self.timeline.change(signed, count, s, e);
+
+        // "no byte of a page that its five steps in document 01 don't name"
+        let named = told.named_pages();
+        for page in changed_pages(&before, &self.image) {
+            assert!(named.contains(&page), "page {page} changed, named are {named:?}");
+        }
+        assert_eq!(word(&self.image, 0, CHANGES), word(&before, 0, CHANGES) + 1);
+        let taken: u64 = told.tales.iter().map(|tale| tale.taken.len() as u64).sum();
+        assert_eq!(taken, pages_wanted(&before, s, end));
+        let given_back: u64 = told.tales.iter().map(|tale| tale.given_back.len() as u64).sum();
+        assert_eq!(pages_at_hand(&self.image), pages_at_hand(&before) - taken + given_back);
+        if self.by_step {
+            let mut model = Model::of(&before);
+            model.change(Pair { sum: signed, count }, s, end);
+            model.assert_is(&self.image);
+            let effect = Effect { pair: Pair { sum: signed, count }, span: Span { start: s, end } };
+            check_by_step(&before, &effect, &told.tales, &self.image);
+        }
+
+        let from_chain = taken - u64::from(word(&self.image, 0, HIGH_MARK) - word(&before, 0, HIGH_MARK));
+        self.tally.chain_taken += from_chain;
+        self.tally.changes_accepted += 1;
+        for tale in &told.tales {
+            self.tally.add_tale(tale);
+        }
+        self.tally.greatest_height = self.tally.greatest_height.max(height(&self.image));
+        if self.audit_each {
+            self.check_audit();
+        }
+        0
+    }
+
+    pub fn check_audit(&mut self) {
+        let n = self.n();
+        let mut scratch = vec![7; n + 2];
+        assert_eq!(audit(&self.image, &mut scratch), 0);
+        assert!(scratch[..n].iter().all(|&byte| byte == 0) && scratch[n..] == [7, 7]);
+        assert!(is_sound_by_counting(&self.image));
+        self.tally.audits += 1;
+    }
+
+    pub fn check_instant_as(&mut self, t: u32, expected: Pair) {
+        let answer = instant(&self.image, t);
+        assert_eq!(answer.number, 0);
+        assert_eq!(Pair { sum: answer.sum, count: answer.count }, expected, "at {t}");
+        assert_eq!(answer.pages, height(&self.image));
+        self.tally.instants += 1;
+    }
+
+    /// One instant against the plain book.
+    pub fn check_instant(&mut self, t: u32) {
+        let expected = self.book.pair_at(t);
+        self.check_instant_as(t, expected);
+    }
+
+    /// The instants at which the book's pairs may differ, those before, and both ends.
+    pub fn interesting_instants(&self) -> BTreeSet<u32> {
+        let mut instants = BTreeSet::from([0, END - 1]);
+        for t in self.timeline.boundaries() {
+            instants.extend([t.saturating_sub(1), t.min(END - 1)]);
+        }
+        instants
+    }
+
+    /// All of them against the plain book.
+    pub fn check_instants(&mut self) {
+        for t in self.interesting_instants() {
+            self.check_instant(t);
+        }
+    }
+
+    /// A listing with an output that is long enough, checked byte for byte; then one byte too short.
+    pub fn check_listing_as(&mut self, a: u32, b: u32, runs: &[Run]) {
+        let needed = 16 * runs.len();
+        let length = needed + self.random.below(40) as usize;
+        let filled = self.random.bytes(length);
+        let mut out = filled.clone();
+        let answer = listing(&self.image, a, b, &mut out);
+        assert_eq!((answer.number, answer.runs), (0, runs.len() as u32));
+        for (i, run) in runs.iter().enumerate() {
+            assert_eq!(out[16 * i..16 * i + 16], run_bytes(run), "run {i} over [{a}, {b})");
+        }
+        assert_eq!(out[needed..], filled[needed..]);
+
+        let mut short = filled[..needed - 1].to_vec();
+        let answer = listing(&self.image, a, b, &mut short);
+        assert_eq!((answer.number, answer.runs), (15, 0));
+        assert_eq!(short[..], filled[..needed - 1]);
+        self.tally.listings += 2;
+    }
+
+    /// A listing against the plain book.
+    pub fn check_listing(&mut self, a: u32, b: u32) {
+        let runs = self.book.runs(a, b);
+        self.check_listing_as(a, b, &runs);
+    }
+
+    /// Instants and full listing against the quick book.
+    pub fn check_all_quickly(&mut self) {
+        for t in self.interesting_instants() {
+            let expected = self.timeline.pair_at(t);
+            self.check_instant_as(t, expected);
+        }
+        let runs = self.timeline.runs(0, END);
+        self.check_listing_as(0, END, &runs);
+    }
+}
+
+pub fn changed_pages(before: &[u8], after: &[u8]) -> Vec<u32> {
+    let pages = before.chunks(512).zip(after.chunks(512)).enumerate();
+    pages.filter(|(_, (old, new))| old != new).map(|(page, _)| page as u32).collect()
+}
+
+/// The five steps one by one: each writes only pages that it names, and names are what document 01's sentence says.
+fn check_by_step(before: &[u8], effect: &Effect, tales: &[StepTale], after: &[u8]) {
+    let Span { start: s, end } = effect.span;
+    let kind = word(before, 0, KIND);
+    let mut image = before.to_vec();
+    let mut tree = Node::of(before);
+    for (step, tale) in FIVE_STEPS.iter().zip(tales) {
+        let found = image.clone();
+        assert_eq!(one_step(&mut image, *step, effect).as_ref(), Ok(tale));
+        let named = tale.named_pages();
+        for page in changed_pages(&found, &image) {
+            assert!(named.contains(&page), "{step:?} wrote page {page}, it names {named:?}");
+        }
+        // The ways, by the second reader.
+        let instants = match step {
+            Step::CutAtStart | Step::HealAtStart => vec![s],
+            Step::CutAtEnd | Step::HealAtEnd => vec![end],
+            Step::Combine => vec![s, end],
+        };
+        let ways: Vec<Vec<u32>> = instants.iter().map(|t| tree.way(*t)).collect();
+        assert_eq!(tale.ways, ways);
+        // Taken: outside the tree before, in it after. Given back: the other way round.
+        let tree_after = Node::of(&image);
+        let (old, new) = (tree.pages(), tree_after.pages());
+        assert_eq!(tale.taken.iter().copied().collect::<BTreeSet<u32>>(), &new - &old);
+        assert_eq!(tale.given_back.iter().copied().collect::<BTreeSet<u32>>(), &old - &new);
+        // Neighbours turned to are those of the pages on the way, from the leaf up.
+        assert!(tree.siblings_of_way(instants[0]).starts_with(&tale.turned_to));
+        // No step but C alters what an instant gives.
+        if *step != Step::Combine {
+            for t in [s, s.saturating_sub(1), end - 1, end.min(END - 1)] {
+                assert_eq!(tree.pair_at(kind, t), tree_after.pair_at(kind, t));
+            }
+        }
+        tree = tree_after;
+    }
+    count_the_change(&mut image);
+    assert!(image == after, "the five steps one by one make the change");
+}
+
+/// Audit by the definition and by counting agree; whether the image is sound.
+pub fn audit_both_ways(image: &[u8]) -> bool {
+    let sound = is_sound(image);
+    assert_eq!(sound, is_sound_by_counting(image), "the definition and the counting shortcut agree");
+    let mut scratch = vec![1; image.len() / 512];
+    assert_eq!(audit(image, &mut scratch), if sound { 0 } else { 21 });
+    assert!(scratch.iter().all(|&byte| byte == 0));
+    sound
+}
