@@ -1,6 +1,10 @@
 // The open run of a listing: updated in place at every leaf entry. Document 01, "Span listing".
 use rule::Pair;
 
+pub mod collector;
+pub mod next;
+pub mod output;
+
 // The run that a walk is in, and how many runs it has opened so far; none at first.
 pub struct Run {
     pub start: u32,
