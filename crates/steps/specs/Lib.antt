@@ -3,3 +3,4 @@ pub mod Cut
 pub mod Spread
 pub mod Heal
 pub mod Change
+pub mod Cases
