@@ -1,0 +1,102 @@
+-- Demand 1 over the definitions: what a refused call leaves, the pages that an instant reports, and that no average is beyond. Assumes nothing.
+use Prim.Native.Nat.{ℕ, _-_, _≤_}
+use mathlib.Core.Path.{_≡_, refl, ap, _∙_}
+use mathlib.Core.Logic.{_≢_}
+use mathlib.Core.Bool.{Bool, true, false, cond, not, _&&_, _||_}
+use mathlib.Core.List.{List, [], _∷_}
+use native.Mathlib.Omega.{arith}
+use lib.IntN.{natAbs, pos}
+use lib.Signed.{leZ}
+use lib.Dec.{eqb, leb, ltb}
+use borrow.Author.Tests.{eqb-true, le-ltb, leb-true, ltb-true}
+use Rattle.rule.specs.declared.Pair.{Pair}
+use Rattle.rule.specs.declared.Average.the-variants.{Hundredths, Nothing, Beyond}
+use Rattle.rule.specs.Time.{END, span-ok, value-ok, lengthened}
+use Rattle.rule.specs.Averages.{hundredths, average, most-sum}
+use Rattle.page.specs.declared.Head.{Head}
+use Rattle.page.specs.Fit.{root-place, most-changes}
+use Rattle.image.specs.Images.{page-at, pages-in, length-ok, image-of}
+use Rattle.image.specs.Sound.{sound}
+use Rattle.image.specs.Instant.{look-up}
+use Rattle.steps.specs.Change.{lacks-pages}
+use Rattle.calls.specs.Refusals.{first, scratch-ok, cleared, scratch-after}
+use Rattle.calls.specs.Changes.{withdraws}
+use Rattle.calls.specs.Calls.{head, head-ok, format, book-early, book-number, book, instant, instant-number, average-at, listing, audit-early, audit}
+use Rattle.calls.specs.Demands.{Demand-1}
+use Rattle.audit.proofs.Fitness.{head-facts}
+use Rattle.answers.proofs.Rows.{kept, book-scratch, audit-scratch}
+use Rattle.answers.proofs.Look.{half-some, look-top, look-sum}
+use Rattle.answers.proofs.Calls.{Answered, answered, instant-pair, instant-pages, look-up-pages}
+
+-- ---- the pages that an instant reports
+
+unread : (half t : ℕ) (img : List ℕ) → instant half t img .number ≢ 0 → instant half t img .number ≢ 21 → instant half t img .pages ≡ 0
+unfolding instant instant-number first
+unread half t img n m = go (length-ok half img) (leb END t) (head-ok half img && look-up half img t .fit) refl n m
+  where
+    go : (x y z : Bool) → leb END t ≡ y → first ((16, not x) ∷ (12, y) ∷ (21, not z) ∷ []) ≢ 0 → first ((16, not x) ∷ (12, y) ∷ (21, not z) ∷ []) ≢ 21
+        → cond (x && (ltb t END && head-ok half img)) (look-up half img t .pages) 0 ≡ 0
+    go false y z e n m = refl
+    go true true z e n m = ap (λ c. cond (c && head-ok half img) (look-up half img t .pages) 0) (le-ltb t END (leb-true END t e))
+    go true false false e n m = absurd (m refl)
+    go true false true e n m = absurd (n refl)
+
+-- ---- no average is beyond
+
+average-within : (kind : ℕ) (p : Pair) → (eqb kind 1 ≡ true → natAbs (p .sum) ≤ most-sum) → average kind p ≢ Beyond
+unfolding average
+average-within kind p f = go (eqb kind 1) (leZ (p .count) (pos 0)) (ltb most-sum (natAbs (p .sum))) refl f
+  where
+    go : (x y z : Bool) → ltb most-sum (natAbs (p .sum)) ≡ z → (x ≡ true → natAbs (p .sum) ≤ most-sum)
+        → cond (not x || y) Nothing (cond z Beyond (Hundredths (hundredths (p .sum) (natAbs (p .count))))) ≢ Beyond
+    go false y z d f e = let no : _≡_ {A = ℕ} 0 1 = cc in omega arith
+    go true true z d f e = let no : _≡_ {A = ℕ} 0 1 = cc in omega arith
+    go true false true d f e = omega (arith, ltb-true most-sum (natAbs (p .sum)) d, f refl)
+    go true false false d f e = let no : _≡_ {A = ℕ} 0 1 = cc in omega arith
+
+-- kind 1: what an instant answers is at most what a fit page can show
+pub look-up-sum : (half t : ℕ) (img : List ℕ) → Answered half t img → eqb (head half img .kind) 1 ≡ true → natAbs (look-up half img t .pair .sum) ≤ most-sum
+unfolding look-up head head-ok root-place
+look-up-sum half t img f one =
+    let h : Head = head half img in
+    let k = head-facts half (pages-in half img) (page-at half img 0) (f .head-fits) in
+    let top = look-top half h img t (h .height - 1) (root-place h) (h .root) (f .look-fits) in
+    let some = half-some half h (page-at half img (h .root)) top in
+    omega (arith, look-sum half h img t some one (h .height - 1) (root-place h) (h .root) (f .look-fits), k .changes-most)
+
+never-beyond : (half t : ℕ) (img : List ℕ) → average-at half t img .average ≢ Beyond
+unfolding average-at
+never-beyond half t img = go (eqb (instant half t img .number) 0) refl
+  where
+    go : (c : Bool) → eqb (instant half t img .number) 0 ≡ c → cond c (average (head half img .kind) (instant half t img .pair)) Nothing ≢ Beyond
+    go true d e =
+        let f = answered half t img (eqb-true (instant half t img .number) 0 d) in
+        let same : natAbs (instant half t img .pair .sum) ≡ natAbs (look-up half img t .pair .sum) = ap (λ (q : Pair). natAbs (q .sum)) (instant-pair half t img f) in
+        average-within (head half img .kind) (instant half t img .pair) (λ one. omega (arith, look-up-sum half t img f one)) e
+    go false d e = let no : _≡_ {A = ℕ} 0 1 = cc in omega arith
+
+-- ---- all of it
+
+pub demand-1 : (half : ℕ) → Demand-1 half
+unfolding format book instant average-at listing audit book-early book-number audit-early scratch-after
+demand-1 half =
+    record {
+      of-format = λ kind window img n. kept _ _ img n;
+      of-booking = λ side v s e img scratch n. kept _ _ img n;
+      of-instant = λ t img n. kept _ _ _ n;
+      of-average = λ t img n. kept _ _ Nothing n;
+      of-listing = λ a b img out n. (kept _ _ out n, kept _ _ 0 n);
+      of-scratch =
+          λ side v s e img scratch. (
+            book-scratch (not (length-ok half img)) (not (scratch-ok (pages-in half img) scratch)) (not (span-ok s e)) (not (value-ok v)) (not (sound half img))
+                (withdraws side && not (eqb (head half img .kind) 1)) (eqb (head half img .changes) most-changes)
+                (lacks-pages half s (lengthened e (head half img .window)) (image-of half img)) scratch (cleared (pages-in half img) scratch),
+            audit-scratch (not (length-ok half img)) (not (scratch-ok (pages-in half img) scratch)) (not (sound half img)) scratch (cleared (pages-in half img) scratch),
+          );
+      of-pages =
+          λ t img. (
+            λ e. let f = answered half t img e in instant-pages half t img f ∙ look-up-pages half t img (f .head-fits) (f .look-fits),
+            λ n m. unread half t img n m,
+          );
+      of-beyond = λ t img. never-beyond half t img;
+    }

@@ -1,0 +1,118 @@
+-- What a call returns on an image that agrees with its book. Assumes nothing.
+use Prim.Native.Nat.{ℕ, _≤_, _<_}
+use mathlib.Core.Path.{_≡_, refl, ap, _∙_}
+use mathlib.Core.Logic.{_⊎_, inl, inr}
+use mathlib.Core.Bool.{Bool, true, false, cond, not, _&&_}
+use mathlib.Core.List.{List, [], _∷_}
+use lib.Dec.{eqb}
+use lib.IntN.{ℤ}
+use lib.ListN.{length}
+use borrow.Author.Tests.{le-leb}
+use Rattle.rule.specs.declared.Average.the-variants.{Nothing}
+use Rattle.rule.specs.Time.{END, span-ok, value-ok, lengthened}
+use Rattle.rule.specs.Pairs.{none}
+use Rattle.rule.specs.Averages.{average}
+use Rattle.page.specs.Fit.{most-changes}
+use Rattle.image.specs.Images.{pages-in, image-of}
+use Rattle.image.specs.Sound.{sound}
+use Rattle.image.specs.Instant.{look-up}
+use Rattle.steps.specs.Change.{lacks-pages}
+use Rattle.calls.specs.Changes.{Side, withdraws}
+use Rattle.calls.specs.Refusals.{first, scratch-ok}
+use Rattle.calls.specs.Calls.{head, book-early, book-number, book, instant-number, instant, average-at, audit-early, audit, listing}
+use Rattle.calls.specs.Book.{Book, book-pair, listing-of}
+use Rattle.calls.specs.Lists.{Call, booking, asking, listing-over, auditing, formatting, fixed-number, Refused-format, Refused-formats, Agrees, All-agree}
+use Rattle.answers.proofs.Demand.{demand-1}
+use Rattle.answers.proofs.Sound.{sound-number, sound-pair, sound-listing}
+use Rattle.ledger.proofs.Runs.{listing-same}
+use Rattle.demands.proofs.Rows.{first-off, first-on}
+use Rattle.demands.proofs.Booked.{Wide}
+use Rattle.demands.proofs.Kept.{Kept, kept-call}
+
+-- ---- a booking: 16 and 21 don't turn it back
+
+numbers : {b16 b21 b22 b23 : Bool} (b17 b11 b13 c22 c23 b24 : Bool) → b16 ≡ false → b21 ≡ false → b22 ≡ c22 → b23 ≡ c23
+    → let number = first ((16, b16) ∷ (17, b17) ∷ (11, b11) ∷ (13, b13) ∷ (21, b21) ∷ (22, b22) ∷ (23, b23) ∷ (24, b24) ∷ []) in
+    let fixed = first ((17, b17) ∷ (11, b11) ∷ (13, b13) ∷ (22, c22) ∷ (23, c23) ∷ []) in
+    (number ≡ fixed) ⊎ ((fixed ≡ 0) × (number ≡ 24))
+unfolding first
+numbers b17 b11 b13 c22 c23 b24 e16 e21 e22 e23 = rw (e16, e21, e22, e23) (go b17 b11 b13 c22 c23 b24)
+  where
+    number : Bool → Bool → Bool → Bool → Bool → Bool → ℕ
+    number x17 x11 x13 x22 x23 x24 = first ((17, x17) ∷ (11, x11) ∷ (13, x13) ∷ (22, x22) ∷ (23, x23) ∷ (24, x24) ∷ [])
+
+    fixed : Bool → Bool → Bool → Bool → Bool → ℕ
+    fixed x17 x11 x13 x22 x23 = first ((17, x17) ∷ (11, x11) ∷ (13, x13) ∷ (22, x22) ∷ (23, x23) ∷ [])
+
+    go : (x17 x11 x13 x22 x23 x24 : Bool)
+        → (number x17 x11 x13 x22 x23 x24 ≡ fixed x17 x11 x13 x22 x23) ⊎ ((fixed x17 x11 x13 x22 x23 ≡ 0) × (number x17 x11 x13 x22 x23 x24 ≡ 24))
+    go true x11 x13 x22 x23 x24 = inl refl
+    go false true x13 x22 x23 x24 = inl refl
+    go false false true x22 x23 x24 = inl refl
+    go false false false true x23 x24 = inl refl
+    go false false false false true x24 = inl refl
+    go false false false false false true = inr (refl, refl)
+    go false false false false false false = inl refl
+
+module _ {half : ℕ} {img : List ℕ} {B : Book} (K : Kept half img B) where
+  agrees-booking : (side : Side) (v : ℤ) (s e : ℕ) (scratch : List ℕ) → Agrees half (booking side v s e scratch) img B
+  unfolding Agrees book book-number book-early fixed-number
+  agrees-booking side v s e scratch =
+      numbers (not (scratch-ok (pages-in half img) scratch)) (not (span-ok s e)) (not (value-ok v)) (withdraws side && not (eqb (B .kind) 1))
+      (eqb (length (B .items)) most-changes) (lacks-pages half s (lengthened e (head half img .window)) (image-of half img))
+      (ap not (K .length-fits)) (ap not (K .sound)) (ap (λ k. withdraws side && not (eqb k 1)) (K .kind)) (ap (λ n. eqb n most-changes) (K .changes))
+
+  -- ---- an instant, and an average
+
+  pub instant-end : (t : ℕ) → END ≤ t → (instant half t img .number ≡ 12) × (instant half t img .pair ≡ none)
+  unfolding instant
+  instant-end t l =
+      let n : instant-number half t img ≡ 12 = unfold instant-number in first-off 16 _ (ap not (K .length-fits)) ∙ first-on 12 _ (le-leb END t l) in
+      (n, ap (λ k. cond (eqb k 0) (look-up half img t .pair) none) n)
+
+  pub instant-is : (t : ℕ) → t < END → (instant half t img .number ≡ 0) × (instant half t img .pair ≡ book-pair B t)
+  instant-is t l = (sound-number half img (K .length-fits) (K .sound) t l, sound-pair half img (K .length-fits) (K .sound) t l ∙ K .pairs t l)
+
+  pub average-is : (t : ℕ) → t < END → average-at half t img ≡ record { number = 0; average = average (B .kind) (book-pair B t) }
+  unfolding average-at
+  average-is t l =
+      let r = instant-is t l in
+      λ i.
+      record {
+        number = r .0 i;
+        average = cond (eqb (r .0 i) 0) (average (K .kind i) (r .1 i)) Nothing;
+      }
+
+  -- ---- an audit
+
+  agrees-audit : (scratch : List ℕ) → Agrees half (auditing scratch) img B
+  unfolding Agrees audit audit-early
+  agrees-audit scratch = first-off 16 _ (ap not (K .length-fits)) ∙ go (not (scratch-ok (pages-in half img) scratch))
+    where
+      go : (x : Bool) → first ((17, x) ∷ (21, not (sound half img)) ∷ []) ≡ first ((17, x) ∷ [])
+      go true = unfold first in refl
+      go false = unfold first in rw (K .sound)
+
+  -- ---- a listing
+
+  pub listing-is : (a b : ℕ) (out : List ℕ) → listing half a b img out ≡ listing-of (book-pair B) a b out
+  listing-is a b out =
+      sound-listing half img (K .length-fits) (K .sound) a b out
+      ∙ listing-same (λ t. instant half t img .pair) (book-pair B) a b out (λ t l h below. instant-is t below .1)
+
+  -- ---- any call
+
+  pub agrees : (c : Call) → Refused-format half c img → Agrees half c img B
+  unfolding Agrees Refused-format
+  agrees (booking side v s e scratch) r = agrees-booking side v s e scratch
+  agrees (asking t) r = (λ l. instant-end t l .0, λ l. instant-is t l)
+  agrees (listing-over a b out) r = listing-is a b out
+  agrees (auditing scratch) r = agrees-audit scratch
+  agrees (formatting kind window) r = demand-1 half .of-format kind window img r
+
+-- ---- every call of a list
+
+pub all-agree : {half : ℕ} → Wide half → {img : List ℕ} {B : Book} (cs : List Call) → Refused-formats half cs img → Kept half img B → All-agree half cs img B
+unfolding All-agree Refused-formats
+all-agree wide [] r K = listing-is K 0 END
+all-agree wide (c ∷ cs) r K = (agrees K c (r .0), all-agree wide cs (r .1) (kept-call wide c (r .0) K))

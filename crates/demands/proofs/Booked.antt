@@ -1,0 +1,173 @@
+-- What a change that is accepted leaves of a sound image: a sound image of the same size, with the effect in exactly the pairs of its span, and the bytes of
+-- every page that the five steps don't name. Assumes nothing.
+use Prim.Native.Nat.{ℕ, zero, suc, _*_, _≤_, _<_}
+use mathlib.Core.Path.{_≡_, refl, sym, ap, _∙_}
+use mathlib.Core.Bool.{true, cond}
+use mathlib.Core.List.{List, [], List·Memᴰ, List·Memᴰ·head}
+use native.Mathlib.Nat.{mul-le-mul-left}
+use native.Mathlib.Decide.{decLe}
+use native.Mathlib.Omega.{arith}
+use lib.Dec.{eqb}
+use lib.IntN.{ℤ}
+use lib.ListN.{length, take, drop, drop-of-length-le}
+use lib.Seq.{take-nil}
+use borrow.Author.Tests.{eqb-false}
+use Rattle.rule.specs.Time.{END, lengthened, covers}
+use Rattle.rule.specs.Pairs.{combine}
+use Rattle.fields.specs.Bytes.{part}
+use Rattle.fields.proofs.Laws.Digits.{Bytes}
+use Rattle.page.specs.declared.Head.{Head}
+use Rattle.page.specs.Layout.{page-size}
+use Rattle.page.specs.Fit.{most-changes, most-height}
+use Rattle.image.specs.Images.{Image, page-at, pages-in, length-ok, cell-bytes, image-of, image-bytes}
+use Rattle.image.specs.Sound.{sound}
+use Rattle.image.specs.Instant.{Looked, look-up}
+use Rattle.audit.proofs.Sound.{the-head}
+use Rattle.steps.specs.Change.{change, change-names}
+use Rattle.calls.specs.Changes.{Side, effect}
+use Rattle.calls.specs.Calls.{head, changed, book}
+use Rattle.calls.specs.Demands.{named}
+use Rattle.tree.specs.Tree.{pair-at}
+use Rattle.tree.specs.Cut.{State}
+use Rattle.state.specs.Good.{Good}
+use Rattle.state.proofs.From.Load.{state-in}
+use Rattle.state.proofs.From.Good.{sound-good}
+use Rattle.state.proofs.From.Canonical.{canonical}
+use Rattle.state.proofs.From.Look.{look-good}
+use Rattle.state.proofs.To.Written.{bytes-written}
+use Rattle.state.proofs.To.Sound.{length-written, pages-written, length-fits, page-written, head-read-back, good-sound, look-written}
+use Rattle.ledger.proofs.Accepted.{Passed}
+use Rattle.demands.proofs.Change.{effective, good-changed, next, next-pairs, good-change}
+
+-- What is asked of half the capacity of a page: 12 has it.
+pub record Wide (half : ℕ) : Type 0 where
+  pub two : 2 ≤ half
+  pub low : (X : Image) (Y : State) → Good half X Y → X .head .height ≤ most-height
+
+-- ---- the image that it leaves
+
+pub image-accepted : (half : ℕ) (side : Side) (v : ℤ) (s e : ℕ) (img scratch : List ℕ) → book half side v s e img scratch .number ≡ 0
+    → book half side v s e img scratch .image ≡ changed half side v s e img
+unfolding book
+image-accepted half side v s e img scratch n = ap (λ k. cond (eqb k 0) (changed half side v s e img) img) n
+
+-- ---- pages past the end
+
+beyond : (half : ℕ) (img : List ℕ) (n p : ℕ) → length img ≡ page-size half * n → n ≤ p → page-at half img p ≡ []
+unfolding page-at part
+beyond half img n p e h =
+    let o : ℕ = page-size half * p in
+    let far : length img ≤ o = omega (arith, mul-le-mul-left (page-size half) h) in
+    let none : drop o img ≡ [] = drop-of-length-le img far in
+    ap (take (page-size half)) none ∙ take-nil (page-size half)
+
+-- ---- what holds of it
+
+pub record Left-by-change (half : ℕ) (side : Side) (v : ℤ) (s e : ℕ) (img img′ : List ℕ) : Type 0 where
+  pub length-fits : length-ok half img′ ≡ true
+  pub bytes : Bytes img′
+  pub sound : sound half img′ ≡ true
+  pub pages : pages-in half img′ ≡ pages-in half img
+  pub kind : head half img′ .kind ≡ head half img .kind
+  pub window : head half img′ .window ≡ head half img .window
+  pub changes : head half img′ .changes ≡ suc (head half img .changes)
+  pub pairs : (t : ℕ) → t < END
+      → look-up half img′ t .pair
+      ≡ cond (covers s (lengthened e (head half img .window)) t) (combine (head half img .kind) (look-up half img t .pair) (effect side v)) (look-up half img t .pair)
+  pub frame : (p : ℕ) → ¬ List·Memᴰ p (named half side v s e img) → page-at half img′ p ≡ page-at half img p
+
+module _ {half : ℕ} (wide : Wide half) (side : Side) (v : ℤ) (s e : ℕ) (img : List ℕ) {scratch : List ℕ} (b : Bytes img) (a : Passed half side v s e img scratch) where
+  some : 1 ≤ half
+  some = omega (arith, wide .two)
+
+  abbrev X : Image
+  X = image-of half img
+
+  abbrev Y : State
+  Y = state-in half img
+
+  abbrev end : ℕ
+  end = lengthened e (X .head .window)
+
+  g : Good half X Y
+  g = sound-good half img some (a .long) (a .whole)
+
+  abbrev Z : Image
+  Z = change half (combine (X .head .kind)) s end (effect side v) X
+
+  g′ : Good half Z (next (wide .two) s end (effect side v) g)
+  unfolding head image-of
+  g′ =
+      good-change (wide .two) s end (effect side v) g (effective (X .head .kind) side v (a .value) (a .sided))
+      (omega (arith, eqb-false (X .head .changes) most-changes (a .few), g .ranges .changes-most)) (a .pages)
+
+  -- the bytes that it had before are those of its cells
+  was : image-bytes half X ≡ img
+  was = canonical half img some (a .long) b (a .whole)
+
+  tall : X .head .height ≤ most-height
+  tall = wide .low X Y g
+
+  tall′ : Z .head .height ≤ most-height
+  tall′ = wide .low Z (next (wide .two) s end (effect side v) g) g′
+
+  same-pages : Z .head .pages ≡ X .head .pages
+  same-pages = good-changed (wide .two) s end (effect side v) g .pages
+
+  kept-page : (p : ℕ) → 1 ≤ p → p < X .head .pages → Z .page p ≡ X .page p → page-at half (image-bytes half Z) p ≡ page-at half img p
+  kept-page p l r same =
+      page-written half Z (next (wide .two) s end (effect side v) g) some g′ tall′ p l (omega (arith, same-pages))
+      ∙ ap (cell-bytes half) same
+      ∙ sym (page-written half X Y some g tall p l r)
+      ∙ ap (λ i. page-at half i p) was
+
+  size : length img ≡ page-size half * X .head .pages
+  size = ap length (sym was) ∙ length-written half X Y some g tall
+
+  size′ : length (image-bytes half Z) ≡ page-size half * X .head .pages
+  size′ = length-written half Z (next (wide .two) s end (effect side v) g) some g′ tall′ ∙ ap (λ n. page-size half * n) same-pages
+
+  far-page : (p : ℕ) → X .head .pages ≤ p → page-at half (image-bytes half Z) p ≡ page-at half img p
+  far-page p h = beyond half (image-bytes half Z) (X .head .pages) p size′ h ∙ sym (beyond half img (X .head .pages) p size h)
+
+  framed : (p : ℕ) → ¬ List·Memᴰ p (change-names half (combine (X .head .kind)) s end (effect side v) X) → page-at half (image-bytes half Z) p ≡ page-at half img p
+  unfolding change-names
+  framed zero h = absurd (h (List·Memᴰ·head refl))
+  framed (suc p) h = go (decLe (X .head .pages) (suc p)) (good-changed (wide .two) s end (effect side v) g .frame (suc p) h)
+    where
+      go : Dec (X .head .pages ≤ suc p) → Z .page (suc p) ≡ X .page (suc p) → page-at half (image-bytes half Z) (suc p) ≡ page-at half img (suc p)
+      go (yes r) same = far-page (suc p) r
+      go (no r) same = kept-page (suc p) (omega arith) (omega arith) same
+
+  paired : (t : ℕ) → t < END
+      → look-up half (image-bytes half Z) t .pair
+      ≡ cond (covers s end t) (combine (X .head .kind) (look-up half img t .pair) (effect side v)) (look-up half img t .pair)
+  unfolding image-of
+  paired t below =
+      let U : State = next (wide .two) s end (effect side v) g in
+      let k : the-head half (image-bytes half Z) .kind ≡ X .head .kind =
+      ap (λ (h : Head). h .kind) (head-read-back half Z U some g′ tall′) ∙ good-changed (wide .two) s end (effect side v) g .kind in
+      let before : look-up half img t .pair ≡ pair-at (combine (X .head .kind)) (Y .tree) t =
+      ap (λ (r : Looked). r .pair) (look-good half img some (a .whole) Y (g .shown) t .looked) in
+      ap (λ (r : Looked). r .pair) (look-written half Z U some g′ tall′ t .looked)
+      ∙ ap (λ n. pair-at (combine n) (U .tree) t) k
+      ∙ next-pairs (wide .two) s end (effect side v) g t below
+      ∙ ap (λ q. cond (covers s end t) (combine (X .head .kind) q (effect side v)) q) (sym before)
+
+  pub change-leaves : Left-by-change half side v s e img (changed half side v s e img)
+  unfolding changed head image-of named
+  change-leaves =
+      let U : State = next (wide .two) s end (effect side v) g in
+      let c = good-changed (wide .two) s end (effect side v) g in
+      let h = head-read-back half Z U some g′ tall′ in
+      record {
+        length-fits = length-fits half Z U some g′ tall′;
+        bytes = bytes-written half Z;
+        sound = good-sound half Z U some g′ tall′;
+        pages = pages-written half Z U some g′ tall′ ∙ same-pages ∙ sym (pages-written half X Y some g tall) ∙ ap (pages-in half) was;
+        kind = ap (λ (k : Head). k .kind) h ∙ c .kind;
+        window = ap (λ (k : Head). k .window) h ∙ c .window;
+        changes = ap (λ (k : Head). k .changes) h ∙ c .changes;
+        pairs = paired;
+        frame = framed;
+      }

@@ -1,0 +1,1 @@
+// Demands 2 and 3 over the definitions of the calls: theory alone.

@@ -1,0 +1,113 @@
+-- The plain book over lists of changes: entering step by step, and its pair as a total. Assumes nothing.
+use Prim.Native.Nat.{ℕ, suc, _≤_, _<_}
+use mathlib.Core.Path.{_≡_, refl, sym, ap, _∙_}
+use mathlib.Core.Logic.{_≢_, _⊎_}
+use mathlib.Core.Bool.{Bool, true, false, cond}
+use mathlib.Core.List.{List, [], _∷_}
+use lib.Dec.{eqb}
+use lib.ListN.{length}
+use lib.IntN.{ℤ}
+use borrow.Author.Tests.{ne-eqb}
+use Rattle.rule.specs.Time.{lengthened, covers}
+use Rattle.rule.specs.Pairs.{combine}
+use Rattle.rule.proofs.Laws.{lawful}
+use Rattle.calls.specs.Changes.{Side, effect, Change}
+use Rattle.calls.specs.Book.{Book, empty-book, entered, items-pair, book-pair}
+use Rattle.calls.specs.Demands.{Reordered, Same-changes}
+use Rattle.ledger.specs.Books.{effect-of, entered-all, book-of, item-of, items-onto, items-of, Each, Sided}
+use Rattle.ledger.proofs.Spans.{covers-not}
+use Rattle.ledger.proofs.Totals.{total, total-reordered, between, unit-right, cond-unit}
+use Rattle.ledger.proofs.Struck.{same-changes-total}
+use Rattle.ledger.proofs.Shares.{share, sided-undone}
+
+-- ---- one more change
+
+module _ (side : Side) (v : ℤ) (s e : ℕ) (B : Book) where
+  pub entered-pair : (t : ℕ) → book-pair (entered 0 side v s e B) t
+      ≡ cond (covers s (lengthened e (B .window)) t) (combine (B .kind) (effect side v) (book-pair B t)) (book-pair B t)
+  unfolding entered book-pair items-pair
+  entered-pair t = refl
+
+  -- the old pair combined with the effect
+  pub entered-onto : (t : ℕ) → book-pair (entered 0 side v s e B) t
+      ≡ cond (covers s (lengthened e (B .window)) t) (combine (B .kind) (book-pair B t) (effect side v)) (book-pair B t)
+  entered-onto t =
+      entered-pair t
+      ∙ ap (λ z. cond (covers s (lengthened e (B .window)) t) z (book-pair B t)) (lawful (B .kind) .comm (effect side v) (book-pair B t))
+
+  pub entered-refused : (number : ℕ) → number ≢ 0 → entered number side v s e B ≡ B
+  unfolding entered
+  entered-refused number n = rw (ne-eqb number 0 n)
+
+  -- what an accepted change keeps of the book, a refused one keeps too
+  keeps : {A : Type 0} (f : Book → A) → f (entered 0 side v s e B) ≡ f B → (number : ℕ) → f (entered number side v s e B) ≡ f B
+  unfolding entered
+  keeps f h number = go (eqb number 0)
+    where
+      go : (x : Bool) → f (cond x (entered 0 side v s e B) B) ≡ f B
+      go true = h
+      go false = refl
+
+  pub entered-kind : (number : ℕ) → entered number side v s e B .kind ≡ B .kind
+  unfolding entered
+  entered-kind = keeps (λ C. C .kind) refl
+
+  pub entered-window : (number : ℕ) → entered number side v s e B .window ≡ B .window
+  unfolding entered
+  entered-window = keeps (λ C. C .window) refl
+
+  pub entered-length : length (entered 0 side v s e B .items) ≡ suc (length (B .items))
+  unfolding entered
+  entered-length = refl
+
+  -- "one more accepted change alters no instant's pair outside its span (lengthened by the window)"
+  pub entered-outside : (t : ℕ) → (t < s) ⊎ (lengthened e (B .window) ≤ t) → book-pair (entered 0 side v s e B) t ≡ book-pair B t
+  entered-outside t h = entered-pair t ∙ ap (λ x. cond x (combine (B .kind) (effect side v) (book-pair B t)) (book-pair B t)) (covers-not s (lengthened e (B .window)) t h)
+
+-- ---- the book of a list
+
+-- where a change counts in a book of window w
+abbrev pub within : ℕ → ℕ → ℕ → ℕ → Bool
+within w t s e = covers s (lengthened e w) t
+
+entered-all-pair : (cs : List Change) (B : Book) (t : ℕ)
+    → book-pair (entered-all cs B) t ≡ combine (B .kind) (total (combine (B .kind)) (share (within (B .window) t)) cs) (book-pair B t)
+unfolding entered-all entered total share effect-of
+entered-all-pair [] B t = sym (lawful (B .kind) .unit (book-pair B t))
+entered-all-pair (c ∷ cs) B t =
+    let L = lawful (B .kind) in
+    let test = within (B .window) t in
+    let T = total (combine (B .kind)) (share test) cs in
+    entered-all-pair cs (entered 0 (c .side) (c .v) (c .s) (c .e) B) t
+    ∙ ap (λ z. combine (B .kind) T z)
+    (entered-pair (c .side) (c .v) (c .s) (c .e) B t ∙ sym (cond-unit L (test (c .s) (c .e)) (effect-of c) (book-pair B t)))
+    ∙ between L T (share test c) (book-pair B t)
+
+module _ (kind w : ℕ) (t : ℕ) where
+  -- its pair is the total of the changes' shares
+  pub book-total : (cs : List Change) → book-pair (book-of kind w cs) t ≡ total (combine kind) (share (within w t)) cs
+  unfolding book-of empty-book book-pair items-pair
+  book-total cs = entered-all-pair cs (empty-book kind w) t ∙ unit-right (lawful kind) (total (combine kind) (share (within w t)) cs)
+
+  -- the order doesn't count
+  pub book-reordered : {xs ys : List Change} → Reordered xs ys → book-pair (book-of kind w xs) t ≡ book-pair (book-of kind w ys) t
+  book-reordered {xs} {ys} r = book-total xs ∙ total-reordered (lawful kind) (share (within w t)) r ∙ sym (book-total ys)
+
+  -- nor do entries that are struck out with their matching withdrawals
+  pub book-same-changes : {xs ys : List Change} → Same-changes xs ys → Each (Sided kind) xs → Each (Sided kind) ys
+      → book-pair (book-of kind w xs) t ≡ book-pair (book-of kind w ys) t
+  book-same-changes {xs} {ys} S h k =
+      book-total xs
+      ∙ same-changes-total (lawful kind) (share (within w t)) S (sided-undone kind (within w t) h) (sided-undone kind (within w t) k)
+      ∙ sym (book-total ys)
+
+-- ---- its items
+
+entered-all-is : (cs : List Change) (B : Book) → entered-all cs B ≡ record { kind = B .kind; window = B .window; items = items-onto (B .window) cs (B .items) }
+unfolding entered-all entered items-onto item-of effect-of
+entered-all-is [] B = refl
+entered-all-is (c ∷ cs) B = entered-all-is cs (entered 0 (c .side) (c .v) (c .s) (c .e) B)
+
+pub book-is : (kind w : ℕ) (cs : List Change) → book-of kind w cs ≡ record { kind = kind; window = w; items = items-of w cs }
+unfolding book-of empty-book items-of
+book-is kind w cs = entered-all-is cs (empty-book kind w)

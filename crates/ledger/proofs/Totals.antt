@@ -1,0 +1,54 @@
+-- The total of a list of changes under a combining rule, each change having a share: it doesn't turn on the order. Assumes nothing.
+use mathlib.Core.Path.{_≡_, refl, sym, ap, _∙_}
+use mathlib.Core.Bool.{Bool, true, false, cond}
+use mathlib.Core.List.{List, [], _∷_}
+use Rattle.rule.specs.declared.Pair.{Pair}
+use Rattle.rule.specs.Pairs.{none, Lawful}
+use Rattle.calls.specs.Changes.{Change}
+use Rattle.calls.specs.Demands.{Reordered, same, next, swap, then}
+use Rattle.ledger.specs.Books.{Each, more}
+
+unfoldable pub total : (Pair → Pair → Pair) → (Change → Pair) → List Change → Pair
+total rule share [] = none
+total rule share (c ∷ cs) = rule (share c) (total rule share cs)
+
+-- shares that agree on each change of the list
+pub total-same : (rule : Pair → Pair → Pair) (f g : Change → Pair) {cs : List Change} → Each (λ c. f c ≡ g c) cs → total rule f cs ≡ total rule g cs
+unfolding total
+total-same rule f g Each.none = refl
+total-same rule f g (more {c} {cs} e h) = rw (e, total-same rule f g h)
+
+pub each-map : {P Q : Change → Type 0} {cs : List Change} → ((c : Change) → P c → Q c) → Each P cs → Each Q cs
+each-map f Each.none = Each.none
+each-map f (more {c} p h) = more (f c p) (each-map f h)
+
+-- a list of the same changes keeps what holds of each
+pub each-reordered : {P : Change → Type 0} {xs ys : List Change} → Reordered xs ys → Each P xs → Each P ys
+each-reordered same h = h
+each-reordered (next r) (more p h) = more p (each-reordered r h)
+each-reordered swap (more p (more q h)) = more q (more p h)
+each-reordered (then r s) h = each-reordered s (each-reordered r h)
+
+module _ {_⊕_ : Pair → Pair → Pair} (L : Lawful _⊕_) where
+  infixl 60 _⊕_
+  pub unit-right : (p : Pair) → p ⊕ none ≡ p
+  unit-right p = L .comm p none ∙ L .unit p
+
+  pub left-comm : (p q r : Pair) → p ⊕ (q ⊕ r) ≡ q ⊕ (p ⊕ r)
+  left-comm p q r = sym (L .assoc p q r) ∙ ap (λ z. z ⊕ r) (L .comm p q) ∙ L .assoc q p r
+
+  pub between : (p q r : Pair) → p ⊕ (q ⊕ r) ≡ (q ⊕ p) ⊕ r
+  between p q r = left-comm p q r ∙ sym (L .assoc q p r)
+
+  -- where a share is none, it may be left out
+  pub cond-unit : (b : Bool) (p q : Pair) → cond b p none ⊕ q ≡ cond b (p ⊕ q) q
+  cond-unit true p q = refl
+  cond-unit false p q = L .unit q
+
+  module _ (share : Change → Pair) where
+    pub total-reordered : {xs ys : List Change} → Reordered xs ys → total _⊕_ share xs ≡ total _⊕_ share ys
+    unfolding total
+    total-reordered same = refl
+    total-reordered (next {x} r) = ap (λ z. share x ⊕ z) (total-reordered r)
+    total-reordered (swap {x} {y} {xs}) = left-comm (share x) (share y) (total _⊕_ share xs)
+    total-reordered (then r s) = total-reordered r ∙ total-reordered s
