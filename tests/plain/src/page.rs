@@ -24,8 +24,8 @@ const ENTRIES_AT: usize = 128;
 const START_BYTES: usize = 4;
 const ENTRY_BYTES: usize = 16;
 
-/// "Page 0, the head, u32 each: n, height, root page, first free page, free chain length, high mark, kind, window,
-/// changes. Rest FF."
+/// "Page 0, the head, u32 each: n, height (1 to 4), root page, first free page (0 none), free chain length, high mark
+/// (lowest page never used, 2 to n), kind, window, changes. Rest FF."
 const HEAD_BYTES: usize = 36;
 
 /// "Free page: level field 255, next free page (0 ends the chain), rest FF." The u32 255 (R19).

@@ -84,6 +84,7 @@ fn heights_1_to_4_up_and_down() {
     total.report("heights 1 to 4");
     assert_eq!(total.greatest_height, 4);
     assert!(total.splits > 0 && total.merges() > 0 && total.roots_gained >= 9 && total.roots_lost > 0);
+    assert!(total.inner_splits > 0 && total.inner_gives > 0 && total.inner_merges > 0);
 }
 
 #[test]
@@ -105,25 +106,17 @@ fn heights_1_to_4_of_greatest_and_least() {
             }
             rack.by_step = true;
             assert_height(&mut rack, expected);
+            // Wide ones on a copy, as kinds 2 and 3 know no withdrawal.
+            let mut aside = rack.clone();
+            aside.tally = Tally::default();
             for (v, s, e) in [(0, 0, 1_000), (-1, 2_900_000, 2_999_000), (2, 5, END)] {
-                assert_eq!(rack.enter(v, s, e), 0);
-                rack.check_all_quickly();
+                assert_eq!(aside.enter(v, s, e), 0);
+                aside.check_all_quickly();
             }
-            rack = fresh_from(rack, &live);
+            total.add(&aside.tally);
         }
         total.add(&rack.tally);
     }
     total.report("heights 1 to 4, kinds 2 and 3");
     assert_eq!(total.greatest_height, 4);
-}
-
-/// The same bookings again without the three wide ones: kinds 2 and 3 know no withdrawal.
-fn fresh_from(old: Rack, live: &[(i64, u32, u32)]) -> Rack {
-    let mut rack = Rack::new(1_024, old.book.kind, old.book.window, 33);
-    rack.by_step = false;
-    for &(v, s, e) in live {
-        assert_eq!(rack.enter(v, s, e), 0);
-    }
-    rack.tally.add(&old.tally);
-    rack
 }

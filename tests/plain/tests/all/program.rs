@@ -111,6 +111,7 @@ fn refused() {
     prints("+ 4294967297 5 6\n+ 9999999999 5 6\n+ -9999999999 5 6", &{
         format!("line 1 refused 13\nline 2 refused 13\nline 3 refused 13\n{EMPTY}")
     });
+    prints("+ -4294967297 5 6\n- -4294967295 5 6", &format!("line 1 refused 13\nline 2 refused 13\n{EMPTY}"));
     prints("+ 9999999999 6 6", &format!("line 1 refused 11\n{EMPTY}"));
     prints(
         "x\n+ 1 5 5\n+ 2 5 6\n",

@@ -37,6 +37,9 @@ pub struct Tally {
     pub merges_with_right: u64,
     pub roots_gained: u64,
     pub roots_lost: u64,
+    pub inner_splits: u64,
+    pub inner_gives: u64,
+    pub inner_merges: u64,
     pub chain_taken: u64,
     pub greatest_height: u32,
 }
@@ -70,6 +73,12 @@ impl Tally {
         self.merges_with_right += u64::from(tale.merges_with_right);
         self.roots_gained += u64::from(tale.roots_gained);
         self.roots_lost += u64::from(tale.roots_lost);
+        // The first split, give or merge of a step is that of a leaf; a give ends it.
+        let gives = tale.gives_from_left + tale.gives_from_right;
+        let merges = tale.merges_with_left + tale.merges_with_right;
+        self.inner_splits += u64::from(tale.splits.saturating_sub(1));
+        self.inner_gives += u64::from(gives > 0 && merges > 0);
+        self.inner_merges += u64::from(merges.saturating_sub(1));
     }
 
     pub fn add(&mut self, other: &Tally) {
@@ -90,6 +99,9 @@ impl Tally {
         self.merges_with_right += other.merges_with_right;
         self.roots_gained += other.roots_gained;
         self.roots_lost += other.roots_lost;
+        self.inner_splits += other.inner_splits;
+        self.inner_gives += other.inner_gives;
+        self.inner_merges += other.inner_merges;
         self.chain_taken += other.chain_taken;
         self.greatest_height = self.greatest_height.max(other.greatest_height);
     }
@@ -98,7 +110,7 @@ impl Tally {
         report(&format!(
             "{name}: {} calls ({} changes accepted, {} refused, of these {} with 24; {} instants, {} listings, {} audits); \
              {} cuts, {} heals, {} splits, gives {} left {} right, merges {} left {} right, roots +{} -{}, \
-             {} pages taken from the chain, height up to {}",
+             of inner pages {} splits {} gives {} merges, {} pages taken from the chain, height up to {}",
             self.calls(),
             self.changes_accepted,
             self.changes_refused,
@@ -115,6 +127,9 @@ impl Tally {
             self.merges_with_right,
             self.roots_gained,
             self.roots_lost,
+            self.inner_splits,
+            self.inner_gives,
+            self.inner_merges,
             self.chain_taken,
             self.greatest_height,
         ));
@@ -123,6 +138,7 @@ impl Tally {
 
 // ---------------------------------------------------------------- random numbers
 
+#[derive(Clone)]
 pub struct Xorshift(u64);
 
 impl Xorshift {
@@ -463,6 +479,7 @@ impl Timeline {
 // ---------------------------------------------------------------- the rack
 
 /// One image with its books. Every call through it is checked.
+#[derive(Clone)]
 pub struct Rack {
     pub image: Vec<u8>,
     pub book: Book,
@@ -471,7 +488,7 @@ pub struct Rack {
     pub random: Xorshift,
     /// Whether each change is also run step by step, with the pages that each step wrote.
     pub by_step: bool,
-    /// Whether each change is followed by an audit.
+    /// Whether each change is followed by an audit and compared with the model.
     pub audit_each: bool,
 }
 
@@ -512,9 +529,10 @@ impl Rack {
         assert!(s < e && (-1_000_000..=1_000_000).contains(&v));
         let before = self.image.clone();
         let end = (u64::from(e) + u64::from(self.book.window)).min(u64::from(END)) as u32;
+        let wanted = pages_wanted(&before, s, end);
         let expected = if withdrawal && self.book.kind != 1 {
             22
-        } else if pages_wanted(&before, s, end) > pages_at_hand(&before) {
+        } else if wanted > pages_at_hand(&before) {
             24
         } else {
             0
@@ -556,13 +574,15 @@ impl Rack {
         }
         assert_eq!(word(&self.image, 0, CHANGES), word(&before, 0, CHANGES) + 1);
         let taken: u64 = told.tales.iter().map(|tale| tale.taken.len() as u64).sum();
-        assert_eq!(taken, pages_wanted(&before, s, end));
+        assert_eq!(taken, wanted);
         let given_back: u64 = told.tales.iter().map(|tale| tale.given_back.len() as u64).sum();
         assert_eq!(pages_at_hand(&self.image), pages_at_hand(&before) - taken + given_back);
-        if self.by_step {
+        if self.audit_each {
             let mut model = Model::of(&before);
             model.change(Pair { sum: signed, count }, s, end);
             model.assert_is(&self.image);
+        }
+        if self.by_step {
             let effect = Effect { pair: Pair { sum: signed, count }, span: Span { start: s, end } };
             check_by_step(&before, &effect, &told.tales, &self.image);
         }
