@@ -1,17 +1,21 @@
 -- A chain that ends has no page twice: how many pages it has from a page on is fixed by that page. And a list of free pages that was not cut
 -- off is a chain that ends. Assumes nothing.
-use mathlib.Core.Path.{_≡_, refl, ap}
-use mathlib.Core.Bool.{true, cond, and-eq-true-iff}
+use mathlib.Core.Path.{_≡_, refl, sym, ap, _∙_}
+use mathlib.Core.Bool.{true, false, cond, _&&_, and-eq-true-iff, and-assoc}
 use mathlib.Core.List.{List, [], _∷_}
-use Prim.Native.Nat.{ℕ, zero, suc, _≤_, _<_}
+use Prim.Native.Nat.{ℕ, zero, suc, _-_, _≤_, _<_}
+use native.Mathlib.Numerals.{sub-one}
 use native.Mathlib.Omega.{arith}
 use native.Mathlib.Decide.{ℕ-discrete, decLe}
 use lib.ListN.{length}
+use lib.Dec.{eqb}
 use borrow.Author.Tests.{eqb-true, leb-true, ltb-true, eq-eqb, ne-eqb, le-leb, lt-ltb}
 use Rattle.page.specs.Layout.{next-of, free-ok}
 use Rattle.image.specs.Images.{page-at, pages-in, length-ok}
 use Rattle.image.specs.Sound.{chain-pages, times}
+use Rattle.fit.proofs.Tests.{fails}
 use Rattle.audit.specs.Counting.{chain-ends}
+use Rattle.audit.specs.Walks.{leads-to-free}
 use Rattle.audit.proofs.Times.{times-none, times-same, times-other, times-cons}
 use Rattle.audit.proofs.Levels.{free-in}
 
@@ -42,6 +46,25 @@ module _ (half : ℕ) (img : List ℕ) where
   none-left : (p : ℕ) → p ≡ 0 → chain-ends half img 0 p ≡ true
   unfolding chain-ends
   none-left p e = eq-eqb p 0 e
+
+  -- the same as a loop meets it: with left of the chain to go, a page p of n that leads to a free one, or not
+  pub chain-none : (left p : ℕ) → left ≤ 0 → eqb p 0 ≡ chain-ends half img left p
+  unfolding chain-ends
+  chain-none zero p l = refl
+  chain-none (suc k) p l = absurd (omega arith)
+
+  chain-more : (n left p : ℕ) → pages-in half img ≡ n → 0 < left
+      → leads-to-free half img n p && chain-ends half img (left - 1) (next-of (page-at half img p)) ≡ chain-ends half img left p
+  unfolding leads-to-free chain-ends
+  chain-more n zero p e l = absurd (omega arith)
+  chain-more n (suc k) p e l = rw (e, sub-one) (simp and-assoc)
+
+  pub chain-on : (n left p : ℕ) → pages-in half img ≡ n → 0 < left → leads-to-free half img n p ≡ true
+      → chain-ends half img left p ≡ chain-ends half img (left - 1) (next-of (page-at half img p))
+  chain-on n left p e l h = sym (chain-more n left p e l) ∙ ap (λ t. t && chain-ends half img (left - 1) (next-of (page-at half img p))) h
+
+  pub chain-stops : (n left p : ℕ) → pages-in half img ≡ n → 0 < left → leads-to-free half img n p ≡ false → false ≡ chain-ends half img left p
+  chain-stops n left p e l h = fails (chain-ends half img (left - 1) (next-of (page-at half img p))) h ∙ chain-more n left p e l
 
   pub pages-none : (most p : ℕ) → p ≡ 0 → chain-pages half img most p ≡ []
   unfolding chain-pages

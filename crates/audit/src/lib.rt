@@ -1,1 +1,12 @@
-// The audit of an image: soundness by counting.
+// The audit of an image: soundness by counting. Document 01, "The page".
+pub mod free;
+pub mod pages;
+pub mod unused;
+pub mod verdict;
+pub mod walk;
+
+// What the audit from a page down finds: how many tree pages there are, all fit, or that one is not.
+pub enum Counted {
+    Fit(u32),
+    Unfit,
+}

@@ -1,0 +1,62 @@
+-- `audit::free::chain_ends` meets its contract. The loop's invariant: the chain ends if what is left of it does. Assumes nothing.
+use mathlib.Core.Path.{_≡_, refl, sym, ap, _∙_}
+use mathlib.Core.Bool.{true}
+use Prim.Native.Nat.{_-_}
+use native.Mathlib.Omega.{arith}
+use lib.ListN.{length}
+use borrow.Author.Tests.{not-true, not-false}
+use Rattle.page.specs.Layout.{next-of}
+use Rattle.audit.specs.Counting.{chain-ends}
+use Rattle.audit.specs.Walks.{In-image, leads-to-free}
+use Rattle.audit.proofs.Bytes.{pages-are, within-length, free-within}
+use Rattle.audit.proofs.Chain.{chain-none, chain-on, chain-stops}
+use Rattle.audit.proofs.free.chain_ends.Statement.{statement}
+use Rattle.audit.proofs.free.chain_ends.Tie as tie
+
+abbrev Inv-loop : tie.InvT-loop
+Inv-loop img n k first left₀ p₀ left p = chain-ends 12 img k first ≡ chain-ends 12 img left p
+
+abbrev μ-loop : tie.MeasureT-loop
+μ-loop img n k first left₀ p₀ left p = left
+
+leads : (c : tie.Else1 Inv-loop μ-loop) → leads-to-free 12 (c .before .before .before .before .before .args .img .now) (c .before .before .before .before .before .args .n) (c .before .before .before .loop .p) ≡ true
+leads c = sym (c .before .leads-to-free .ensures) ∙ not-false _ (c .if1 .left)
+
+within : (c : tie.Else1 Inv-loop μ-loop) → In-image (c .before .before .before .before .before .args .img .now) (c .before .before .before .loop .p)
+within c = free-within _ _ _ (c .before .before .before .before .before .pre) (leads c)
+
+returns : tie.Need-returns Inv-loop μ-loop
+returns c =
+    let at = c .before .before .before in
+    let start = at .before .before in
+    let stop = sym (c .before .leads-to-free .ensures) ∙ not-true _ (c .if1 .taken) in
+    chain-stops 12 (start .args .img .now) (start .args .n) (at .loop .left) (at .loop .p) (pages-are _ _ (start .pre)) (c .before .before .loop-test .taken) stop
+    ∙ sym (at .loop .inv)
+
+loop-again : tie.Need-loop-again Inv-loop μ-loop
+loop-again c =
+    let test = c .before .before in
+    let at = test .before .before .before in
+    let start = at .before .before in
+    at .loop .inv
+    ∙ chain-on 12 (start .args .img .now) (start .args .n) (at .loop .left) (at .loop .p) (pages-are _ _ (start .pre)) (test .before .before .loop-test .taken) (leads test)
+    ∙ ap (chain-ends 12 (start .args .img .now) (at .loop .left - 1)) (sym (c .next-of .ensures ∙ ap next-of (c .before .page-at .ensures)))
+
+returns-2 : tie.Need-returns-2 Inv-loop μ-loop
+returns-2 c =
+    let at = c .before in
+    chain-none 12 (at .before .before .args .img .now) (at .loop .left) (at .loop .p) (c .loop-test .left) ∙ sym (at .loop .inv)
+
+pub chain-ends-spec : {M : Type 1} → statement M
+chain-ends-spec =
+    tie.close
+    (tie.spec Inv-loop μ-loop
+    (λ c. refl)
+    (λ c κs. c .before .before .before .pre)
+    returns
+    (λ c κs. within c)
+    (λ c κs. ap length (c .page-at .ensures) ∙ within-length (within (c .before)))
+    (λ c. omega arith)
+    (λ c. omega arith)
+    loop-again
+    returns-2)

@@ -1,0 +1,149 @@
+-- The cycle of `audit_page` and `audit_entry` meets its contracts. A page's measure is 2·level + 1, an entry's 2·level: the level falls
+-- from an entry to the page below. The loop's invariant: what was counted below the entries passed. Assumes nothing.
+use mathlib.Core.Path.{_≡_, sym, ap, _∙_}
+use mathlib.Core.Bool.{true}
+use Prim.Native.Nat.{ℕ, _+_, _*_, _-_, _<_}
+use native.Mathlib.Omega.{arith}
+use borrow.Author.Needs.{needs}
+use borrow.Author.Tests.{not-true, not-false}
+use borrow.Fn.Kinds.{In}
+use borrow.Fn.PlainCycle.{Measures, is, falls, and}
+use Rattle.page.specs.Layout.{number-of}
+use Rattle.page.specs.Fit.{page-fit}
+use Rattle.fit.specs.Places.{place-of}
+use Rattle.audit.proofs.Walks.{standing-within, standing-size, standing-bounded, entry-reads, below-level, below-counted, below-standing, page-unfit, leaf-counted, tested, Passing, passing-none, passing-inner, passing-more, passing-stops, passing-most, passing-all}
+use Rattle.audit.proofs.walk.audit_entry.Reads as audit-entry
+use Rattle.audit.proofs.walk.audit_entry.Kinds as audit-entry-kinds
+use Rattle.audit.proofs.walk.+audit_entry+audit_page.Lts-audit_entry as audit-entry-lts
+use Rattle.audit.proofs.walk.audit_page.Reads as audit-page
+use Rattle.audit.proofs.walk.audit_page.Kinds as audit-page-kinds
+use Rattle.audit.proofs.walk.+audit_entry+audit_page.Lts-audit_page as audit-page-lts
+use Rattle.audit.proofs.pages.page_at.Reads as page-at-reads
+use Rattle.fit.proofs.places.place_below.Reads as place-below-reads
+use Rattle.fit.proofs.tree_page.page_fit.Reads as page-fit-reads
+use Rattle.page.proofs.at.child_at.Reads as child-at-reads
+use Rattle.page.proofs.at.number_of.Reads as number-of-reads
+use Rattle.audit.proofs.walk.+audit_entry+audit_page.{statement}
+use Rattle.audit.proofs.walk.+audit_entry+audit_page.Tie.{close}
+
+abbrev μ-audit-entry : Measures 1 audit-entry-kinds.ps ℕ
+μ-audit-entry κs a = 2 * a .1 .1 .0 .level
+
+abbrev μ-audit-page : Measures 1 audit-page-kinds.ps ℕ
+μ-audit-page κs a = 2 * a .1 .1 .0 .level + 1
+
+-- what each is given at the measure t, and what a call of it asks below t
+abbrev audit-entry-at : ℕ → In 1 audit-entry-kinds.ps
+audit-entry-at t = and 1 audit-entry-kinds.ps (is 1 audit-entry-kinds.ps μ-audit-entry t) audit-entry.Pre
+
+abbrev audit-entry-below : ℕ → In 1 audit-entry-kinds.ps
+audit-entry-below t = and 1 audit-entry-kinds.ps (falls 1 audit-entry-kinds.ps _<_ μ-audit-entry t) audit-entry.Pre
+
+abbrev audit-page-at : ℕ → In 1 audit-page-kinds.ps
+audit-page-at t = and 1 audit-page-kinds.ps (is 1 audit-page-kinds.ps μ-audit-page t) audit-page.Pre
+
+abbrev audit-page-below : ℕ → In 1 audit-page-kinds.ps
+audit-page-below t = and 1 audit-page-kinds.ps (falls 1 audit-page-kinds.ps _<_ μ-audit-page t) audit-page.Pre
+
+abbrev Inv-loop : audit-page-lts.InvT-loop
+Inv-loop img h at p pages₀ n i₀ pages i = Passing img h (place-of at) p n pages i
+
+abbrev μ-loop : audit-page-lts.MeasureT-loop
+μ-loop img h at p pages₀ n i₀ pages i = n - i
+
+-- an entry more
+more : (t : ℕ) → audit-page-lts.Need-loop-again (
+  page-at-reads.Asked,
+  page-at-reads.Learnt,
+  page-fit-reads.Asked,
+  page-fit-reads.Learnt,
+  number-of-reads.Asked,
+  number-of-reads.Learnt,
+  audit-entry-below t,
+  audit-entry.Post,
+) (audit-page-at t) audit-page.Post Inv-loop μ-loop
+more t c =
+    let called = c .before .before .before in
+    passing-more (called .before .before .loop .inv) (c .before .below .given .0 .0) (called .before .loop-test .taken)
+    (called .audit-entry .ensures) (c .before .below .given .1)
+
+pub +audit-entry+audit-page-spec : {M : Type 1} → statement M
++audit-entry+audit-page-spec =
+    close μ-audit-entry μ-audit-page
+    (λ t.
+    audit-entry-lts.spec (
+      page-at-reads.Asked,
+      page-at-reads.Learnt,
+      place-below-reads.Asked,
+      place-below-reads.Learnt,
+      child-at-reads.Asked,
+      child-at-reads.Learnt,
+      audit-page-below t,
+      audit-page.Post,
+    ) (audit-entry-at t) audit-entry.Post
+    (λ c κs. standing-within (c .before .pre .1 .0))
+    (λ c κs.
+    let w = c .before .before .pre .1 in
+    (standing-size (w .0) (c .page-at .ensures), (entry-reads (w .0) (w .1) (c .page-at .ensures), (w .1 .level, standing-bounded (w .0)))))
+    (λ c κs.
+    let w = c .before .before .before .pre .1 in
+    (standing-size (w .0) (c .before .page-at .ensures), entry-reads (w .0) (w .1) (c .before .page-at .ensures) .0))
+    (λ c κs.
+    let start = c .before .before .before .before in
+    let w = start .pre .1 in
+    let b = c .before in
+    let d = b .before .page-at .ensures in (
+      omega (arith, start .pre .0, w .1 .level, below-level (w .0) (w .1) d (b .place-below .ensures) (c .child-at .ensures)),
+      below-standing (w .0) (w .1) d (b .place-below .ensures) (c .child-at .ensures),
+    ))
+    (λ c.
+    let b = c .before .before in
+    let w = b .before .before .before .pre .1 in
+    c .audit-page .ensures ∙ below-counted (w .0) (w .1) (b .before .page-at .ensures) (b .place-below .ensures) (c .before .child-at .ensures)))
+    (λ t.
+    audit-page-lts.spec (
+      page-at-reads.Asked,
+      page-at-reads.Learnt,
+      page-fit-reads.Asked,
+      page-fit-reads.Learnt,
+      number-of-reads.Asked,
+      number-of-reads.Learnt,
+      audit-entry-below t,
+      audit-entry.Post,
+    ) (audit-page-at t) audit-page.Post Inv-loop μ-loop
+    (λ c κs. standing-within (c .before .pre .1))
+    (λ c κs.
+    let w = c .before .before .pre .1 in
+    (standing-size w (c .page-at .ensures), standing-bounded w))
+    (λ c.
+    let fit = c .before in
+    let args = fit .before .before .before .args in
+    page-unfit 12 (args .h) (args .img .now) (place-of (args .at)) (args .p) (tested 12 _ _ _ _ (fit .before .page-at .ensures) (fit .page-fit .ensures) (not-true _ (c .if1 .taken))))
+    (λ c.
+    let fit = c .before .before .before in
+    let args = fit .before .before .before .args in
+    leaf-counted 12 (args .h) (args .img .now) (place-of (args .at)) (args .p) (c .if2 .taken)
+    (tested 12 _ _ _ _ (fit .before .page-at .ensures) (fit .page-fit .ensures) (not-false _ (c .before .before .if1 .left))))
+    (λ c κs. standing-size (c .before .before .before .before .before .before .pre .1) (c .before .before .before .before .page-at .ensures))
+    (λ c. search needs)
+    (λ c.
+    let inner = c .before in
+    let fit = inner .before .before .before in
+    let d = fit .before .page-at .ensures in
+    passing-none (fit .before .before .before .pre .1) (omega (arith, inner .if2 .left))
+    (tested 12 _ _ _ _ d (fit .page-fit .ensures) (not-false _ (inner .before .before .if1 .left)))
+    (c .number-of .ensures ∙ ap number-of d))
+    (λ c κs.
+    let inv = c .before .loop .inv in
+    let start = c .before .before .before .before .before .before .before .before .before in
+    (omega (arith, start .pre .0), (inv .standing, passing-inner inv (c .loop-test .taken))))
+    (λ c. search needs)
+    (λ c. search needs)
+    (λ c.
+    let called = c .before .before in
+    passing-stops (called .before .before .loop .inv) (called .before .loop-test .taken) (called .audit-entry .ensures) (c .enum-told .given .1))
+    (λ c. omega (arith, more t c .most, more t c .within, passing-most (more t c)))
+    (λ c. omega arith)
+    (λ c. omega arith)
+    (more t)
+    (λ c. passing-all (c .before .loop .inv) (c .loop-test .left)))

@@ -1,0 +1,62 @@
+-- Pairs combined along a way of fit pages stay within bounds, from above and from below. Assumes nothing.
+use mathlib.Core.Path.{_≡_, refl}
+use mathlib.Core.Bool.{Bool, true, false}
+use Prim.Native.Nat.{ℕ, _+_, _≤_}
+use native.Mathlib.Omega.{arith}
+use lib.Dec.{eqb}
+use lib.IntN.{natAbs}
+use borrow.Author.Tests.{eqb-true}
+use Rattle.rule.specs.declared.Pair.{Pair}
+use Rattle.rule.specs.Pairs.{none, combine}
+use Rattle.rule.specs.Bounds.{Combinable, value-or-none}
+use Rattle.rule.proofs.Laws.{combine-sum-bound, total-count-bound, combine-value-or-none, values-combinable, value-or-none-is}
+use Rattle.page.specs.declared.Head.{Head}
+use Rattle.page.specs.Fit.{Place, most-changes}
+use Rattle.fit.proofs.Laws.Pages.{Paired}
+use mathlib.Core.Logic.{inl}
+
+kind-count-bound : (kind : ℕ) (p q : Pair) → eqb kind 1 ≡ true → natAbs (combine kind p q .count) ≤ natAbs (p .count) + natAbs (q .count)
+kind-count-bound kind p q e = rw (eqb-true kind 1 e) (total-count-bound p q)
+
+-- A place under an entry with this pair: its absolute sum and count are added to those above.
+pub record Under (at : Place) (p : Pair) (below : Place) : Type 0 where
+  pub sums : below .sums ≡ at .sums + natAbs (p .sum)
+  pub counts : below .counts ≡ at .counts + natAbs (p .count)
+
+-- Pairs combined from the root down to a place: no larger than the sizes added up on the way, or a value or none.
+pub record Carried (h : Head) (at : Place) (acc : Pair) : Type 0 where
+  pub sums : eqb (h .kind) 1 ≡ true → natAbs (acc .sum) ≤ at .sums
+  pub counts : eqb (h .kind) 1 ≡ true → natAbs (acc .count) ≤ at .counts
+  pub mark : eqb (h .kind) 1 ≡ false → value-or-none acc ≡ true
+
+pub carried-none : (h : Head) (at : Place) → Carried h at none
+carried-none h at = record { sums = λ _. omega arith; counts = λ _. omega arith; mark = λ _. value-or-none-is none .1 (inl refl) }
+
+module _ {h : Head} {at below : Place} {p : Pair} (u : Under at p below) where
+  -- on the way down
+  pub carried-below : {acc : Pair} → Carried h at acc → Paired h at p → Carried h below (combine (h .kind) acc p)
+  carried-below {acc} c q =
+      record {
+        sums = λ e. omega (arith, u .sums, c .sums e, combine-sum-bound (h .kind) acc p);
+        counts = λ e. omega (arith, u .counts, c .counts e, kind-count-bound (h .kind) acc p e);
+        mark = λ e. combine-value-or-none (h .kind) acc p e (c .mark e) (q .mark e);
+      }
+
+  -- on the way back
+  pub paired-above : {q : Pair} → Paired h at p → Paired h below q → Paired h at (combine (h .kind) p q)
+  paired-above {q} a b =
+      record {
+        total = λ e. record {
+          sums = omega (arith, u .sums, b .total e .sums, combine-sum-bound (h .kind) p q);
+          counts = omega (arith, u .counts, b .total e .counts, kind-count-bound (h .kind) p q e);
+        };
+        mark = λ e. combine-value-or-none (h .kind) p q e (a .mark e) (b .mark e);
+      }
+
+-- what was combined so far can be combined with the next pair of the way
+pub carried-combinable : {h : Head} {at : Place} {acc p : Pair} → Carried h at acc → Paired h at p → h .changes ≤ most-changes → Combinable acc p
+carried-combinable {h} {at} {acc} {p} c q l = case (eqb (h .kind) 1) refl
+  where
+    case : (b : Bool) → eqb (h .kind) 1 ≡ b → Combinable acc p
+    case true e = omega (arith, c .sums e, c .counts e, q .total e .sums, q .total e .counts)
+    case false e = values-combinable acc p (c .mark e) (q .mark e)

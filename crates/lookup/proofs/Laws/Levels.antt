@@ -1,0 +1,85 @@
+-- What a page on the way to an instant answers, by its cases. Assumes nothing.
+use mathlib.Core.Path.{_≡_, refl}
+use mathlib.Core.Bool.{Bool, true, false, cond}
+use mathlib.Core.List.{List}
+use Prim.Native.Nat.{ℕ, _+_, _*_, _-_, _≤_, _<_}
+use native.Mathlib.Omega.{arith}
+use lib.ListN.{length}
+use borrow.Rule.Slice.PartMut.{midOf}
+use Rattle.rule.specs.declared.Pair.{Pair}
+use Rattle.fields.proofs.Laws.Lent.{lent-part}
+use Rattle.page.specs.declared.Head.{Head}
+use Rattle.page.specs.Entries.{place}
+use Rattle.page.specs.Layout.{number-of, pair-at, child-at, entries-of}
+use Rattle.page.specs.Fit.{Place, page-fit}
+use Rattle.fit.proofs.Laws.Pages.{PageFit, page-fit-is, entry-first}
+use Rattle.image.specs.Images.{page-at}
+use Rattle.lookup.specs.declared.Level.{Level}
+use Rattle.lookup.specs.declared.Level.the-variants.{Entry, Unfit}
+use Rattle.lookup.specs.Levels.{Searched, level-answer}
+use Rattle.lookup.proofs.Laws.Finds.{place-within}
+
+-- what is lent of an image for page p
+pub lent-page : (img : List ℕ) (p : ℕ) → midOf (512 * p) (512 * p + 512 - 512 * p) img ≡ page-at 12 img p
+unfolding page-at
+lent-page img p = lent-part img (512 * p) (512 * p + 512) 512 refl
+
+-- An entry that is a page's answer: the page is fit, and it is the last entry starting at t or before.
+pub record Found (half : ℕ) (h : Head) (at : Place) (t : ℕ) (s : List ℕ) (pair : Pair) (child i : ℕ) : Type 0 where
+  pub fit : page-fit half h at s ≡ true
+  pub here : i ≡ place t (entries-of half s)
+  pub pairs : pair ≡ pair-at half s i
+  pub children : child ≡ child-at half s i
+
+module _ {half : ℕ} {h : Head} {at : Place} {t : ℕ} {s : List ℕ} {pair : Pair} {child i : ℕ} (f : Found half h at t s pair child i) where
+  pub level-found : Entry pair child i ≡ level-answer half h at t s
+  unfolding level-answer
+  level-found = rw (f .fit, f .pairs, f .children, f .here)
+
+  pub found-fit : PageFit half h at s
+  found-fit = page-fit-is half h at s .0 (f .fit)
+
+  pub found-in : 1 ≤ half → i < number-of s
+  found-in some = rw (f .here) (place-within half s t (found-fit .most) (entry-first found-fit some))
+
+-- a page's answer, from the test and back to it
+module _ (half : ℕ) (h : Head) (at : Place) (t : ℕ) (s : List ℕ) where
+  abbrev answered : Bool → Level
+  answered b =
+      let i = place t (entries-of half s) in
+      cond b (Entry (pair-at half s i) (child-at half s i) i) Unfit
+
+  pub level-unfit : page-fit half h at s ≡ false → Unfit ≡ level-answer half h at t s
+  unfolding level-answer
+  level-unfit e = rw e
+
+  pub unfit-level : Unfit ≡ level-answer half h at t s → page-fit half h at s ≡ false
+  unfolding level-answer
+  unfit-level = go (page-fit half h at s)
+    where
+      go : (b : Bool) → Unfit ≡ answered b → b ≡ false
+      go true e =
+          let z : _≡_ {A = ℕ} 0 1 = cc in
+          absurd (omega arith)
+      go false e = refl
+
+  pub found-level : {pair : Pair} {child i : ℕ} → Entry pair child i ≡ level-answer half h at t s → Found half h at t s pair child i
+  unfolding level-answer
+  found-level {pair} {child} {i} = go (page-fit half h at s) refl
+    where
+      go : (b : Bool) → page-fit half h at s ≡ b → Entry pair child i ≡ answered b → Found half h at t s pair child i
+      go true f e =
+          let k : i ≡ place t (entries-of half s) = cc in
+          record { fit = f; here = k; pairs = rw k (cc); children = rw k (cc) }
+      go false f e =
+          let z : _≡_ {A = ℕ} 0 1 = cc in
+          absurd (omega arith)
+
+-- a fit page can be searched for an instant that isn't before it
+pub fit-searched : {h : Head} {at : Place} {s : List ℕ} {n t : ℕ} → PageFit 12 h at s → length s ≡ 512 → n ≡ number-of s → at .lo ≤ t → Searched s n t
+fit-searched {n} fit size e l =
+    record {
+      compared = record { size = size; number = e; some = omega (arith, entry-first fit (omega arith)); most = omega (arith, fit .most) };
+      rising = λ i a. fit .rising i (omega arith);
+      first = omega (arith, fit .first);
+    }

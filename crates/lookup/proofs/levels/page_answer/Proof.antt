@@ -1,0 +1,53 @@
+-- `lookup::levels::page_answer` meets its contract: behind the test the page is fit. Assumes nothing.
+use mathlib.Core.Path.{_≡_, sym, _∙_}
+use mathlib.Core.Bool.{true}
+use Prim.Native.Nat.{_<_}
+use native.Mathlib.Omega.{arith}
+use borrow.Author.Needs.{needs}
+use borrow.Author.Tests.{not-true, not-false}
+use Rattle.page.specs.Fit.{page-fit}
+use Rattle.fit.specs.Places.{place-of}
+use Rattle.fit.proofs.Laws.Pages.{PageFit, page-fit-is, entry-first}
+use Rattle.lookup.proofs.Laws.Finds.{place-within}
+use Rattle.lookup.proofs.Laws.Levels.{level-unfit, level-found, fit-searched}
+use Rattle.lookup.proofs.levels.page_answer.Statement.{statement}
+use Rattle.lookup.proofs.levels.page_answer.Tie as tie
+
+tested : (c : tie.Else1) → page-fit 12 (c .before .before .before .args .h) (place-of (c .before .before .before .args .at)) (c .before .before .before .args .s .now) ≡ true
+tested c = sym (c .before .page-fit .ensures) ∙ not-false _ (c .if1 .left)
+
+fit : (c : tie.Else1) → PageFit 12 (c .before .before .before .args .h) (place-of (c .before .before .before .args .at)) (c .before .before .before .args .s .now)
+fit c = page-fit-is _ _ _ _ .0 (tested c)
+
+-- an entry was found
+within : (c : tie.After-find) → c .find .result < 24
+within c =
+    let args = c .before .before .before .before .before .args in
+    let page = fit (c .before .before) in
+    omega (arith, c .find .ensures, place-within 12 (args .s .now) (args .t) (page .most) (entry-first page (omega arith)), page .most)
+
+returns : tie.Need-returns
+returns c = level-unfit _ _ _ _ _ (sym (c .before .page-fit .ensures) ∙ not-true _ (c .if1 .taken))
+
+find-requires : tie.Need-find-requires
+find-requires c κs =
+    let start = c .before .before .before .before in
+    fit-searched (fit (c .before)) (start .pre .0) (c .number-of .ensures) (start .pre .1 .begun)
+
+returns-2 : tie.Need-returns-2
+returns-2 c =
+    let found = c .before .before in
+    level-found (record { fit = tested (found .before .before); here = found .find .ensures; pairs = c .before .pair-at .ensures; children = c .child-at .ensures })
+
+pub page-answer-spec : {M : Type 1} → statement M
+page-answer-spec =
+    tie.close
+    (tie.spec
+    (λ c κs. search needs)
+    returns
+    (λ c κs. search needs)
+    (λ c. search needs)
+    find-requires
+    (λ c κs. (c .before .before .before .before .before .pre .0, within c))
+    (λ c κs. (c .before .before .before .before .before .before .pre .0, within (c .before)))
+    returns-2)

@@ -1,0 +1,87 @@
+-- `lookup::look_up::look_up` meets its contract. The loop's invariant is a `Walk`, its measure the level. Assumes nothing.
+use mathlib.Core.Path.{sym, ap, _∙_}
+use Prim.Native.Nat.{_+_}
+use native.Mathlib.Omega.{arith}
+use borrow.Author.Needs.{needs}
+use Rattle.page.specs.Fit.{Place, place-below}
+use Rattle.fit.specs.Places.{place-of}
+use Rattle.image.specs.Images.{page-at}
+use Rattle.lookup.specs.Answers.{looked}
+use Rattle.lookup.specs.declared.Looked.the-variants.{Answered}
+use Rattle.lookup.proofs.Laws.Levels.{Found, unfit-level, found-level}
+use Rattle.lookup.proofs.Laws.Walks.{Walk, opened-ranges, walk-root, walk-within, walk-met, walk-unfit, walk-number, walk-combinable, walk-leaf, walk-below}
+use Rattle.lookup.proofs.look_up.look_up.Statement.{statement}
+use Rattle.lookup.proofs.look_up.look_up.Tie as tie
+
+abbrev Inv-loop : tie.InvT-loop
+Inv-loop img h t at₀ p₀ so-far₀ pages₀ at p so-far pages = Walk img h t (place-of at) p so-far pages
+
+abbrev μ-loop : tie.MeasureT-loop
+μ-loop img h t at₀ p₀ so-far₀ pages₀ at p so-far pages = at .level
+
+-- the entry that the page answered with
+entry : (c : tie.After-found Inv-loop μ-loop) → Found 12 (c .before .before .before .before .before .before .args .h) (place-of (c .before .before .before .loop .at)) (c .before .before .before .before .before .before .args .t) (page-at 12 (c .before .before .before .before .before .before .args .img .now) (c .before .before .before .loop .p)) (c .found .given .0 .0) (c .found .given .0 .1 .0) (c .found .given .0 .1 .1 .0)
+entry c = found-level _ _ _ _ _ (sym (c .found .given .1) ∙ c .before .before .level-answer .ensures)
+
+loop-holds : tie.Need-loop-holds Inv-loop μ-loop
+loop-holds c = rw (c .root-place .ensures) (walk-root (c .before .before .pre) (c .before .before .args .t))
+
+level-answer-requires : tie.Need-level-answer-requires Inv-loop μ-loop
+level-answer-requires c κs =
+    let o = c .before .before .before .pre in
+    (walk-within o (c .loop .inv), walk-met o (c .loop .inv))
+
+returns : tie.Need-returns Inv-loop μ-loop
+returns c =
+    let loop = c .before .before .before in
+    let start = loop .before .before .before in
+    walk-unfit (start .pre) (loop .loop .inv)
+    (unfit-level 12 (start .args .h) (place-of (loop .loop .at)) (start .args .t) (page-at 12 (start .args .img .now) (loop .loop .p))
+    (sym (c .enum-told .given .1) ∙ c .before .before .level-answer .ensures))
+
+combine-requires : tie.Need-combine-requires Inv-loop μ-loop
+combine-requires c κs =
+    let loop = c .before .before .before .before in
+    walk-combinable (loop .before .before .before .pre) (loop .loop .inv) (entry (c .before))
+
+returns-2 : tie.Need-returns-2 Inv-loop μ-loop
+returns-2 c =
+    let found = c .before .before .before .before in
+    let loop = found .before .before .before in
+    ap (λ pair. looked (Answered pair (loop .loop .pages + 1))) (c .before .before .combine .ensures)
+    ∙ walk-leaf (loop .before .before .before .pre) (loop .loop .inv) (entry found) (c .if1 .taken)
+
+below-requires : tie.Need-below-requires Inv-loop μ-loop
+below-requires c κs =
+    let found = c .before .before .before .before in
+    let loop = found .before .before .before in
+    let o = loop .before .before .before .pre in
+    (walk-within o (loop .loop .inv), (walk-number o (loop .loop .inv) (entry found), (omega (arith, c .if1 .left), walk-met o (loop .loop .inv) .bounded)))
+
+loop-less : tie.Need-loop-less Inv-loop μ-loop
+unfolding place-below
+loop-less c = omega (arith, ap (λ (at : Place). at .level) (c .below .ensures), c .before .if1 .left)
+
+loop-again : tie.Need-loop-again Inv-loop μ-loop
+loop-again c =
+    let found = c .before .before .before .before .before in
+    let loop = found .before .before .before in
+    rw (c .below .ensures, c .before .before .before .combine .ensures)
+    (walk-below (loop .before .before .before .pre) (loop .loop .inv) (entry found) (omega (arith, c .before .if1 .left)))
+
+pub look-up-spec : {M : Type 1} → statement M
+look-up-spec =
+    tie.close
+    (tie.spec Inv-loop μ-loop
+    (λ c κs. opened-ranges (c .before .pre) .height .0)
+    loop-holds
+    level-answer-requires
+    (λ c. omega (arith, c .before .loop .inv .way .level))
+    (λ c. search needs)
+    (λ c. search needs)
+    returns
+    combine-requires
+    returns-2
+    below-requires
+    loop-less
+    loop-again)
