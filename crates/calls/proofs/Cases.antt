@@ -56,4 +56,6 @@ cases =
       give-right-1 = refl;
       join-right-3 = refl;
       join-right-1 = refl;
+      the-example = refl;
+      other-lines = refl;
     }

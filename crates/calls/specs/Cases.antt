@@ -14,6 +14,7 @@ use Rattle.page.specs.Layout.{entries-of}
 use Rattle.image.specs.Images.{page-at}
 use Rattle.calls.specs.Changes.{Side, entering, withdrawing}
 use Rattle.calls.specs.Calls.{head, format, book, instant, listing, audit, runs-over}
+use Rattle.calls.specs.Program.{program}
 use Rattle.calls.specs.Marks.{half, pair, run, formatted, number, after, pair-of, full-listing, one-booking}
 
 -- s with byte b at place o
@@ -141,3 +142,11 @@ pub record Cases : Type 0 where
   -- Two pages join in the left one.
   pub join-right-3 : entries-of 2 (page-at 2 joined-right 3) ≡ entry 0 (pair (pos 0) (pos 0)) 1 ∷ entry 10 (pair (pos 0) (pos 0)) 4 ∷ []
   pub join-right-1 : entries-of 2 (page-at 2 joined-right 1) ≡ entry 0 (pair (pos 0) (pos 0)) 0 ∷ entry 7 (pair (pos 2) (pos 2)) 0 ∷ entry 9 (pair (pos 4) (pos 3)) 0 ∷ []
+  -- The program on document 01's example, on fewer pages: "runs 6" and the six.
+  pub the-example :
+      program half 2 (43 ∷ 32 ∷ 54 ∷ 32 ∷ 49 ∷ 48 ∷ 32 ∷ 52 ∷ 48 ∷ 10 ∷ 43 ∷ 32 ∷ 51 ∷ 32 ∷ 50 ∷ 48 ∷ 32 ∷ 53 ∷ 48 ∷ 10 ∷ 43 ∷ 32 ∷ 53 ∷ 32 ∷ 50 ∷ 48 ∷ 32 ∷ 50 ∷ 53 ∷ 10 ∷ [])
+      ≡ 114 ∷ 117 ∷ 110 ∷ 115 ∷ 32 ∷ 54 ∷ 10 ∷ 48 ∷ 32 ∷ 49 ∷ 48 ∷ 32 ∷ 48 ∷ 32 ∷ 48 ∷ 32 ∷ 45 ∷ 10 ∷ 49 ∷ 48 ∷ 32 ∷ 50 ∷ 48 ∷ 32 ∷ 54 ∷ 32 ∷ 49 ∷ 32 ∷ 54 ∷ 46 ∷ 48 ∷ 48 ∷ 10 ∷ 50 ∷ 48 ∷ 32 ∷ 50 ∷ 53 ∷ 32 ∷ 49 ∷ 52 ∷ 32 ∷ 51 ∷ 32 ∷ 52 ∷ 46 ∷ 54 ∷ 55 ∷ 10 ∷ 50 ∷ 53 ∷ 32 ∷ 52 ∷ 48 ∷ 32 ∷ 57 ∷ 32 ∷ 50 ∷ 32 ∷ 52 ∷ 46 ∷ 53 ∷ 48 ∷ 10 ∷ 52 ∷ 48 ∷ 32 ∷ 53 ∷ 48 ∷ 32 ∷ 51 ∷ 32 ∷ 49 ∷ 32 ∷ 51 ∷ 46 ∷ 48 ∷ 48 ∷ 10 ∷ 53 ∷ 48 ∷ 32 ∷ 52 ∷ 50 ∷ 57 ∷ 52 ∷ 57 ∷ 54 ∷ 55 ∷ 50 ∷ 57 ∷ 53 ∷ 32 ∷ 48 ∷ 32 ∷ 48 ∷ 32 ∷ 45 ∷ 10 ∷ []
+  -- Lines that are refused and lines that are unread, and a last line without its newline.
+  pub other-lines :
+      program half 2 (43 ∷ 32 ∷ 45 ∷ 49 ∷ 32 ∷ 48 ∷ 32 ∷ 57 ∷ 10 ∷ 43 ∷ 49 ∷ 32 ∷ 48 ∷ 32 ∷ 57 ∷ 10 ∷ 10 ∷ 43 ∷ 32 ∷ 49 ∷ 32 ∷ 53 ∷ 32 ∷ 53 ∷ 10 ∷ 43 ∷ 32 ∷ 49 ∷ 48 ∷ 48 ∷ 48 ∷ 48 ∷ 48 ∷ 49 ∷ 32 ∷ 52 ∷ 32 ∷ 53 ∷ 10 ∷ 43 ∷ 32 ∷ 49 ∷ 32 ∷ 48 ∷ 32 ∷ 52 ∷ 50 ∷ 57 ∷ 52 ∷ 57 ∷ 54 ∷ 55 ∷ 50 ∷ 57 ∷ 54 ∷ 10 ∷ 45 ∷ 32 ∷ 51 ∷ 32 ∷ 57 ∷ 32 ∷ 49 ∷ 48 ∷ [])
+      ≡ 108 ∷ 105 ∷ 110 ∷ 101 ∷ 32 ∷ 50 ∷ 32 ∷ 117 ∷ 110 ∷ 114 ∷ 101 ∷ 97 ∷ 100 ∷ 10 ∷ 108 ∷ 105 ∷ 110 ∷ 101 ∷ 32 ∷ 51 ∷ 32 ∷ 117 ∷ 110 ∷ 114 ∷ 101 ∷ 97 ∷ 100 ∷ 10 ∷ 108 ∷ 105 ∷ 110 ∷ 101 ∷ 32 ∷ 52 ∷ 32 ∷ 114 ∷ 101 ∷ 102 ∷ 117 ∷ 115 ∷ 101 ∷ 100 ∷ 32 ∷ 49 ∷ 49 ∷ 10 ∷ 108 ∷ 105 ∷ 110 ∷ 101 ∷ 32 ∷ 53 ∷ 32 ∷ 114 ∷ 101 ∷ 102 ∷ 117 ∷ 115 ∷ 101 ∷ 100 ∷ 32 ∷ 49 ∷ 51 ∷ 10 ∷ 108 ∷ 105 ∷ 110 ∷ 101 ∷ 32 ∷ 54 ∷ 32 ∷ 117 ∷ 110 ∷ 114 ∷ 101 ∷ 97 ∷ 100 ∷ 10 ∷ 114 ∷ 117 ∷ 110 ∷ 115 ∷ 32 ∷ 51 ∷ 10 ∷ 48 ∷ 32 ∷ 57 ∷ 32 ∷ 45 ∷ 49 ∷ 32 ∷ 49 ∷ 32 ∷ 45 ∷ 49 ∷ 46 ∷ 48 ∷ 48 ∷ 10 ∷ 57 ∷ 32 ∷ 49 ∷ 48 ∷ 32 ∷ 45 ∷ 51 ∷ 32 ∷ 45 ∷ 49 ∷ 32 ∷ 45 ∷ 10 ∷ 49 ∷ 48 ∷ 32 ∷ 52 ∷ 50 ∷ 57 ∷ 52 ∷ 57 ∷ 54 ∷ 55 ∷ 50 ∷ 57 ∷ 53 ∷ 32 ∷ 48 ∷ 32 ∷ 48 ∷ 32 ∷ 45 ∷ 10 ∷ []

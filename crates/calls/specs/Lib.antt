@@ -5,5 +5,6 @@ pub mod Book
 pub mod Lists
 pub mod Aggregate
 pub mod Demands
+pub mod Program
 pub mod Marks
 pub mod Cases

@@ -21,6 +21,10 @@ last-append t i k n [] ys e =
     ap (λ m. last-from t m k ys) d
 last-append t i k n (x ∷ xs) ys e = last-append t (suc i) (cond (leb (x .start) t) i k) n xs ys (omega arith)
 
+picked : (b : Bool) (i k n : ℕ) → i < n → k < n → cond b i k < n
+picked true i k n l m = l
+picked false i k n l m = m
+
 -- ---- of the entries that f gives
 
 module _ (t : ℕ) (f : ℕ → Entry) where
@@ -38,16 +42,8 @@ module _ (t : ℕ) (f : ℕ → Entry) where
   found-none = refl
 
   found-within : (n : ℕ) → found (suc n) < suc n
-  found-within zero = rw (found-more, found-none) (go (leb (f 0 .start) t) 0 0 (omega arith))
-    where
-      go : (b : Bool) (n k : ℕ) → k < suc n → cond b n k < suc n
-      go true n k l = omega arith
-      go false n k l = l
-  found-within (suc n) = rw found-more (go (leb (f (suc n) .start) t) (found-within n))
-    where
-      go : (b : Bool) → found (suc n) < suc n → cond b (suc n) (found (suc n)) < suc (suc n)
-      go true l = omega arith
-      go false l = omega arith
+  found-within zero = rw (found-more, found-none) (picked (leb (f 0 .start) t) 0 0 1 (omega arith) (omega arith))
+  found-within (suc n) = rw found-more (picked (leb (f (suc n) .start) t) (suc n) (found (suc n)) (suc (suc n)) (omega arith) (omega (arith, found-within n)))
 
   found-started : f 0 .start ≤ t → (n : ℕ) → f (found n) .start ≤ t
   found-started first zero = rw found-none first

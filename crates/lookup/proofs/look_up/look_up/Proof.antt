@@ -1,9 +1,10 @@
 -- `lookup::look_up::look_up` meets its contract. The loop's invariant is a `Walk`, its measure the level. Assumes nothing.
-use mathlib.Core.Path.{sym, ap, _∙_}
+use mathlib.Core.Path.{_≡_, sym, ap, _∙_}
+use mathlib.Core.Bool.{false}
 use Prim.Native.Nat.{_+_}
 use native.Mathlib.Omega.{arith}
 use borrow.Author.Needs.{needs}
-use Rattle.page.specs.Fit.{Place, place-below}
+use Rattle.page.specs.Fit.{Place, place-below, page-fit}
 use Rattle.fit.specs.Places.{place-of}
 use Rattle.image.specs.Images.{page-at}
 use Rattle.lookup.specs.Answers.{looked}
@@ -23,6 +24,10 @@ abbrev μ-loop : tie.MeasureT-loop
 entry : (c : tie.After-found Inv-loop μ-loop) → Found 12 (c .before .before .before .before .before .before .args .h) (place-of (c .before .before .before .loop .at)) (c .before .before .before .before .before .before .args .t) (page-at 12 (c .before .before .before .before .before .before .args .img .now) (c .before .before .before .loop .p)) (c .found .given .0 .0) (c .found .given .0 .1 .0) (c .found .given .0 .1 .1 .0)
 entry c = found-level _ _ _ _ _ (sym (c .found .given .1) ∙ c .before .before .level-answer .ensures)
 
+-- or that it is unfit
+unfit : (c : tie.After-enum-told Inv-loop μ-loop) → page-fit 12 (c .before .before .before .before .before .before .args .h) (place-of (c .before .before .before .loop .at)) (page-at 12 (c .before .before .before .before .before .before .args .img .now) (c .before .before .before .loop .p)) ≡ false
+unfit c = unfit-level _ _ _ (c .before .before .before .before .before .before .args .t) _ (sym (c .enum-told .given .1) ∙ c .before .before .level-answer .ensures)
+
 loop-holds : tie.Need-loop-holds Inv-loop μ-loop
 loop-holds c = rw (c .root-place .ensures) (walk-root (c .before .before .pre) (c .before .before .args .t))
 
@@ -34,10 +39,7 @@ level-answer-requires c κs =
 returns : tie.Need-returns Inv-loop μ-loop
 returns c =
     let loop = c .before .before .before in
-    let start = loop .before .before .before in
-    walk-unfit (start .pre) (loop .loop .inv)
-    (unfit-level 12 (start .args .h) (place-of (loop .loop .at)) (start .args .t) (page-at 12 (start .args .img .now) (loop .loop .p))
-    (sym (c .enum-told .given .1) ∙ c .before .before .level-answer .ensures))
+    walk-unfit (loop .before .before .before .pre) (loop .loop .inv) (unfit c)
 
 combine-requires : tie.Need-combine-requires Inv-loop μ-loop
 combine-requires c κs =
