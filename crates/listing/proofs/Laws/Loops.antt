@@ -1,0 +1,117 @@
+-- What the code is told of a page and of an entry, and the loop over a fit page's entries. Assumes nothing.
+use mathlib.Core.Path.{_≡_, refl, sym, ap, _∙_}
+use mathlib.Core.Bool.{Bool, true, false, cond}
+use mathlib.Core.List.{List}
+use Prim.Native.Nat.{ℕ, _+_, _≤_, _<_}
+use native.Mathlib.Omega.{arith}
+use lib.ListN.{length}
+use Rattle.rule.specs.declared.Pair.{Pair}
+use Rattle.page.specs.Layout.{number-of}
+use Rattle.page.specs.Fit.{page-fit}
+use Rattle.fit.specs.Places.{place-of}
+use Rattle.fit.proofs.Laws.Pages.{page-fit-is}
+use Rattle.image.specs.Listing.{nothing, stopped, in-turn}
+use Rattle.runs.specs.declared.Run.{Run}
+use Rattle.runs.specs.Open.{stepped-all}
+use Rattle.listing.specs.declared.Task.{Task}
+use Rattle.listing.specs.declared.Spot.{Spot}
+use Rattle.listing.specs.declared.Opened.the-variants as opened
+use Rattle.listing.specs.declared.Met.{Met}
+use Rattle.listing.specs.declared.Met.the-variants.{Apart, Leaf, Inner}
+use Rattle.listing.specs.declared.Walked.the-variants.{Fit, Unfit}
+use Rattle.listing.specs.Walks.{bytes-at, page-walk, opened-at, one-run, met-at, met-walk, entry-walk, answer, Does, Room}
+use Rattle.listing.specs.Sits.{Inside}
+use Rattle.listing.proofs.Laws.Turns.{output-none, Walking, walking-none, walking-room, walking-more, walking-unfit, walking-all}
+use Rattle.listing.proofs.Laws.Pages.{page-stopped, page-in-turn}
+
+-- ---- nothing is met
+
+module _ (writing : Bool) (run : Run) (out : List ℕ) where
+  pub does-nothing : Does writing run nothing out (Fit run) out
+  unfolding answer nothing stepped-all
+  does-nothing = record { answers = refl; writes = sym (output-none writing run nothing out refl) }
+
+  pub does-stopped : Does writing run stopped out Unfit out
+  unfolding answer stopped
+  does-stopped = record { answers = refl; writes = sym (output-none writing run stopped out refl) }
+
+-- ---- an entry, by what is met in it
+
+module _ (img : List ℕ) (q : Task) (on : Spot) (i : ℕ) {m : Met} (e : m ≡ met-at q (bytes-at img on) on i) where
+  pub entry-apart : m ≡ Apart → entry-walk img q on i ≡ nothing
+  unfolding entry-walk met-walk
+  entry-apart f = ap (met-walk img q) (sym e ∙ f)
+
+  pub entry-leaf : {start : ℕ} {pair : Pair} → m ≡ Leaf start pair → entry-walk img q on i ≡ one-run start pair
+  unfolding entry-walk met-walk
+  entry-leaf f = ap (met-walk img q) (sym e ∙ f)
+
+  pub entry-inner : {below : Spot} → m ≡ Inner below → entry-walk img q on i ≡ page-walk img q below
+  unfolding entry-walk met-walk
+  entry-inner f = ap (met-walk img q) (sym e ∙ f)
+
+-- ---- a page, and its entries in turn
+
+module _ (img : List ℕ) (q : Task) (on : Spot) where
+  pub opened-unfit : opened.Unfit ≡ opened-at img q on → page-walk img q on ≡ stopped
+  unfolding opened-at
+  opened-unfit e = page-stopped img q on (go (page-fit 12 (q .head) (place-of (on .at)) (bytes-at img on)) e)
+    where
+      go : (b : Bool) → opened.Unfit ≡ cond b (opened.Entries (number-of (bytes-at img on))) opened.Unfit → b ≡ false
+      go true f = let z : _≡_ {A = ℕ} 0 1 = cc in absurd (omega arith)
+      go false f = refl
+
+  opened-fit : {n : ℕ} → opened.Entries n ≡ opened-at img q on → (page-fit 12 (q .head) (place-of (on .at)) (bytes-at img on) ≡ true) × (n ≡ number-of (bytes-at img on))
+  unfolding opened-at
+  opened-fit {n} e = go (page-fit 12 (q .head) (place-of (on .at)) (bytes-at img on)) e
+    where
+      go : (b : Bool) → opened.Entries n ≡ cond b (opened.Entries (number-of (bytes-at img on))) opened.Unfit → (b ≡ true) × (n ≡ number-of (bytes-at img on))
+      go true f = (refl, cc)
+      go false f = let z : _≡_ {A = ℕ} 0 1 = cc in absurd (omega arith)
+
+  -- The loop after i of the n entries of a fit page, from run and out on: r and left are the open run and the output.
+  pub record Turning (run : Run) (out : List ℕ) (n i : ℕ) (r : Run) (left : List ℕ) : Type 0 where
+    pub fit : page-fit 12 (q .head) (place-of (on .at)) (bytes-at img on) ≡ true
+    pub number : n ≡ number-of (bytes-at img on)
+    pub most : n ≤ 24
+    pub whole : page-walk img q on ≡ in-turn n (entry-walk img q on)
+    pub room : Room (q .writing) run (in-turn n (entry-walk img q on)) out
+    pub so-far : Walking (entry-walk img q on) (q .writing) run out n i r left
+
+  pub turning-none : {n : ℕ} {run : Run} {out : List ℕ} → opened.Entries n ≡ opened-at img q on → Room (q .writing) run (page-walk img q on) out → Turning run out n 0 run out
+  turning-none {n} {run} {out} e room =
+      let f = opened-fit e in
+      let w : page-walk img q on ≡ in-turn n (entry-walk img q on) = page-in-turn img q on (f .0) ∙ ap (λ k. in-turn k (entry-walk img q on)) (sym (f .1)) in
+      record {
+        fit = f .0;
+        number = f .1;
+        most = omega (arith, f .1, page-fit-is 12 (q .head) (place-of (on .at)) (bytes-at img on) .0 (f .0) .most);
+        whole = w;
+        room = rw w at room;
+        so-far = walking-none (entry-walk img q on) (q .writing) run out n;
+      }
+
+  module _ {run : Run} {out : List ℕ} {n i : ℕ} {r : Run} {left : List ℕ} (t : Turning run out n i r left) where
+    pub turning-inside : i < n → Inside img q on i
+    turning-inside l = record { fit = t .fit; within = omega (arith, t .number) }
+
+    pub turning-room : i < n → Room (q .writing) r (entry-walk img q on i) left
+    turning-room l = walking-room _ _ _ _ (t .so-far) (t .room) l
+
+    pub turning-more : i < n → {next : Run} {left′ : List ℕ} → Does (q .writing) r (entry-walk img q on i) left (Fit next) left′ → length left′ ≡ length left
+        → Turning run out n (i + 1) next left′
+    turning-more l d k =
+        record {
+          fit = t .fit;
+          number = t .number;
+          most = t .most;
+          whole = t .whole;
+          room = t .room;
+          so-far = walking-more _ _ _ _ (t .so-far) l d k;
+        }
+
+    pub turning-unfit : i < n → {left′ : List ℕ} → Does (q .writing) r (entry-walk img q on i) left Unfit left′ → Does (q .writing) run (page-walk img q on) out Unfit left′
+    turning-unfit l d = rw (t .whole) (walking-unfit _ _ _ _ (t .so-far) (t .room) l d)
+
+    pub turning-all : n ≤ i → Does (q .writing) run (page-walk img q on) out (Fit r) left
+    turning-all l = rw (t .whole) (walking-all _ _ _ _ (t .so-far) l)

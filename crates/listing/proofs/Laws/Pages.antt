@@ -1,0 +1,124 @@
+-- What the walk from a page on is: unfit, or its entries in turn. Assumes nothing.
+use mathlib.Core.Path.{_≡_, refl, sym, ap, ap₂, _∙_}
+use mathlib.Core.Bool.{Bool, true, false, cond}
+use mathlib.Core.List.{List, [], _∷_, map-append}
+use Prim.Native.Nat.{ℕ, zero, suc, max}
+use native.Mathlib.Omega.{arith}
+use borrow.Author.Tests.{eq-eqb, ne-eqb}
+use Rattle.rule.specs.declared.Pair.{Pair}
+use Rattle.rule.specs.Pairs.{none, combine}
+use Rattle.rule.proofs.Laws.{lawful}
+use Rattle.page.specs.Layout.{number-of, start-at, pair-at, child-at}
+use Rattle.page.specs.Fit.{place-below, end-at, page-fit}
+use Rattle.fit.specs.Places.{place-of}
+use Rattle.image.specs.Listing as image
+use Rattle.image.specs.Listing.{nothing, stopped, then, in-turn, under, leaf-run, overlaps, walk-page, walk}
+use Rattle.listing.specs.declared.Task.{Task}
+use Rattle.listing.specs.declared.Spot.{Spot}
+use Rattle.listing.specs.declared.Met.the-variants.{Apart, Leaf, Inner}
+use Rattle.listing.specs.Walks.{bytes-at, page-walk, spot-below, met-at, met-walk, entry-walk}
+
+-- ---- pairs combined into every run
+
+module _ (kind : ℕ) where
+  pub under-under : (p q : Pair) (w : image.Walked) → under (combine kind) p (under (combine kind) q w) ≡ under (combine kind) (combine kind p q) w
+  unfolding under
+  under-under p q w = ap (λ l. record { fit = w .fit; runs = l }) (go (w .runs))
+    where
+      go : (rs : List image.Run) → under (combine kind) p (under (combine kind) q (record { fit = true; runs = rs })) .runs ≡ under (combine kind) (combine kind p q) (record { fit = true; runs = rs }) .runs
+      go [] = refl
+      go (r ∷ rs) = ap₂ _∷_ (ap (λ x. record { start = r .start; pair = x }) (sym (lawful kind .assoc p q (r .pair)))) (go rs)
+
+  pub under-none : (w : image.Walked) → under (combine kind) none w ≡ w
+  unfolding under
+  under-none w = ap (λ l. record { fit = w .fit; runs = l }) (go (w .runs))
+    where
+      go : (rs : List image.Run) → under (combine kind) none (record { fit = true; runs = rs }) .runs ≡ rs
+      go [] = refl
+      go (r ∷ rs) = ap₂ _∷_ (ap (λ x. record { start = r .start; pair = x }) (lawful kind .unit (r .pair))) (go rs)
+
+pub under-turn : (comb : Pair → Pair → Pair) (p : Pair) (n : ℕ) (f : ℕ → image.Walked) → under comb p (in-turn n f) ≡ in-turn n (λ i. under comb p (f i))
+unfolding under in-turn then nothing
+under-turn comb p zero f = refl
+under-turn comb p (suc n) f =
+    ap (λ l. record { fit = then (in-turn n f) (f n) .fit; runs = l }) (map-append _ (in-turn n f .runs) (f n .runs))
+    ∙ ap (λ w. then w (under comb p (f n))) (under-turn comb p n f)
+
+-- ---- the ways out of an entry
+
+module _ (q : Task) (s : List ℕ) (on : Spot) (i : ℕ) where
+  -- the entry overlaps the span
+  abbrev pub overlapped : Bool
+  overlapped = overlaps (q .a) (q .b) (start-at s i) (end-at s (on .at .hi) i)
+
+  pub met-apart : overlapped ≡ false → Apart ≡ met-at q s on i
+  unfolding met-at
+  met-apart e = rw e
+
+  pub met-leaf : overlapped ≡ true → on .at .level ≡ 0 → Leaf (max (q .a) (start-at s i)) (spot-below q s on i .above) ≡ met-at q s on i
+  unfolding met-at
+  met-leaf e z = rw (e, eq-eqb (on .at .level) 0 z)
+
+  pub met-inner : overlapped ≡ true → (on .at .level ≡ 0 → ⊥) → Inner (spot-below q s on i) ≡ met-at q s on i
+  unfolding met-at
+  met-inner e z = rw (e, ne-eqb (on .at .level) 0 z)
+
+-- ---- a page
+
+module _ (img : List ℕ) (q : Task) (on : Spot) where
+  abbrev s : List ℕ
+  s = bytes-at img on
+
+  -- the pairs above, combined into a walk
+  abbrev total : image.Walked → image.Walked
+  total w = under (combine (q .head .kind)) (on .above) w
+
+  -- the walk from the page under the i-th entry
+  abbrev deeper : ℕ → ℕ → image.Walked
+  deeper i l = walk 12 (q .head) img (q .a) (q .b) l (place-below 12 s (place-of (on .at)) i) (child-at 12 s i)
+
+  -- what an entry gives, with the pairs above combined into it, is the walk from what is met
+  module _ (i : ℕ) where
+    leaf-met : on .at .level ≡ 0 → total (cond (overlapped q s on i) (leaf-run (q .a) (start-at s i) (pair-at 12 s i)) nothing) ≡ entry-walk img q on i
+    unfolding entry-walk met-walk met-at under leaf-run nothing
+    leaf-met e = rw (eq-eqb (on .at .level) 0 e) (go (overlapped q s on i))
+      where
+        go : (t : Bool) → total (cond t (leaf-run (q .a) (start-at s i) (pair-at 12 s i)) nothing)
+            ≡ met-walk img q (cond t (Leaf (max (q .a) (start-at s i)) (spot-below q s on i .above)) Apart)
+        go true = refl
+        go false = refl
+
+    inner-met : (l : ℕ) → on .at .level ≡ suc l → total (cond (overlapped q s on i) (under (combine (q .head .kind)) (pair-at 12 s i) (deeper i l)) nothing) ≡ entry-walk img q on i
+    unfolding entry-walk met-walk met-at page-walk under nothing place-below
+    inner-met l e = rw (ne-eqb (on .at .level) 0 (λ z. absurd (omega arith))) (go (overlapped q s on i))
+      where
+        below : Spot
+        below = spot-below q s on i
+
+        down : l ≡ below .at .level
+        down = omega arith
+
+        go : (t : Bool) → total (cond t (under (combine (q .head .kind)) (pair-at 12 s i) (deeper i l)) nothing) ≡ met-walk img q (cond t (Inner below) Apart)
+        go true =
+            under-under (q .head .kind) (on .above) (pair-at 12 s i) (deeper i l)
+            ∙ ap (λ k. under (combine (q .head .kind)) (below .above) (deeper i k)) down
+        go false = refl
+
+  pub page-stopped : page-fit 12 (q .head) (place-of (on .at)) s ≡ false → page-walk img q on ≡ stopped
+  unfolding page-walk walk walk-page under stopped
+  page-stopped e = go (on .at .level)
+    where
+      go : (l : ℕ) → total (walk 12 (q .head) img (q .a) (q .b) l (place-of (on .at)) (on .page)) ≡ stopped
+      go zero = rw e
+      go (suc l) = rw e
+
+  pub page-in-turn : page-fit 12 (q .head) (place-of (on .at)) s ≡ true → page-walk img q on ≡ in-turn (number-of s) (entry-walk img q on)
+  unfolding page-walk walk walk-page
+  page-in-turn e = go (on .at .level) refl
+    where
+      turns : (f : ℕ → image.Walked) → ((i : ℕ) → total (f i) ≡ entry-walk img q on i) → total (in-turn (number-of s) f) ≡ in-turn (number-of s) (entry-walk img q on)
+      turns f h = under-turn (combine (q .head .kind)) (on .above) (number-of s) f ∙ ap (in-turn (number-of s)) (λ j i. h i j)
+
+      go : (l : ℕ) → on .at .level ≡ l → total (walk 12 (q .head) img (q .a) (q .b) l (place-of (on .at)) (on .page)) ≡ in-turn (number-of s) (entry-walk img q on)
+      go zero d = rw e (turns _ (λ i. leaf-met i d))
+      go (suc l) d = rw e (turns _ (λ i. inner-met i l d))

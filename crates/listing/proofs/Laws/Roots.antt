@@ -1,0 +1,124 @@
+-- The walk from the root: what it is, and that its runs can be counted. Assumes nothing.
+use mathlib.Core.Path.{_≡_, refl, ap, _∙_}
+use mathlib.Core.Bool.{Bool, true, false, cond, false≢true}
+use mathlib.Core.List.{List}
+use Prim.Native.Nat.{ℕ, zero, suc, _*_, _-_, _≤_, _<_}
+use native.Mathlib.Nat.{suc-mul, mul-le-mul-right}
+use native.Mathlib.Omega.{arith}
+use lib.ListN.{length, length-append, length-map}
+use Rattle.rule.specs.declared.Pair.{Pair}
+use Rattle.page.specs.declared.Head.{Head}
+use Rattle.fields.specs.Bytes.{patch}
+use Rattle.page.specs.Layout.{number-of, start-at, child-at, head-of, joined}
+use Rattle.page.specs.Fit.{Place, root-place, end-at, place-below, page-fit}
+use Rattle.fit.proofs.Laws.Heads.{head-fit-is}
+use Rattle.fit.proofs.Laws.Pages.{page-fit-is}
+use Rattle.image.specs.Images.{page-at}
+use Rattle.image.specs.Listing as image
+use Rattle.image.specs.Listing.{nothing, stopped, then, in-turn, under, leaf-run, overlaps, walk-page, walk, walk-over, run-bytes, join}
+use Rattle.runs.specs.declared.Run.{Run}
+use Rattle.runs.specs.Open.{no-run}
+use Rattle.runs.proofs.Laws.Entries.{written-join, output-join}
+use Rattle.listing.specs.declared.Task.{Task}
+use Rattle.listing.specs.declared.Walked.the-variants.{Fit, Unfit}
+use Rattle.listing.specs.declared.Counted.the-variants as counted
+use Rattle.listing.specs.Walks.{page-walk, root-spot, answer, output, count, Room}
+use Rattle.listing.specs.Sits.{Headed}
+use Rattle.listing.proofs.Laws.Turns.{of-answer, of-unfit}
+use Rattle.listing.proofs.Laws.Pages.{under-none}
+
+-- ---- at most one run for each leaf entry
+
+unfoldable pub most-runs : ℕ → ℕ
+most-runs zero = 24
+most-runs (suc l) = 24 * most-runs l
+
+turn-few : (m n : ℕ) (f : ℕ → image.Walked) → ((i : ℕ) → length (f i .runs) ≤ m) → length (in-turn n f .runs) ≤ n * m
+unfolding in-turn then nothing
+turn-few m zero f h = omega arith
+turn-few m (suc n) f h = omega (arith, turn-few m n f h, h n, suc-mul n m, length-append (in-turn n f .runs) (f n .runs))
+
+page-few : (h : Head) (a b : ℕ) (at : Place) (s : List ℕ) (below : ℕ → image.Walked) (m : ℕ) → ((i : ℕ) → length (below i .runs) ≤ m)
+    → length (walk-page 12 h a b at s below .runs) ≤ 24 * m
+unfolding walk-page stopped nothing
+page-few h a b at s below m few = go (page-fit 12 h at s) refl
+  where
+    found : ℕ → image.Walked
+    found i = cond (overlaps a b (start-at s i) (end-at s (at .hi) i)) (below i) nothing
+
+    found-few : (i : ℕ) → length (found i .runs) ≤ m
+    found-few i = pick (overlaps a b (start-at s i) (end-at s (at .hi) i))
+      where
+        pick : (t : Bool) → length (cond t (below i) nothing .runs) ≤ m
+        pick true = few i
+        pick false = omega arith
+
+    go : (t : Bool) → page-fit 12 h at s ≡ t → length (cond t (in-turn (number-of s) found) stopped .runs) ≤ 24 * m
+    go true e = omega (arith, turn-few m (number-of s) found found-few, mul-le-mul-right m (page-fit-is 12 h at s .0 e .most))
+    go false e = omega arith
+
+length-under : (comb : Pair → Pair → Pair) (p : Pair) (w : image.Walked) → length (under comb p w .runs) ≡ length (w .runs)
+unfolding under
+length-under comb p w = length-map (w .runs) _
+
+pub walk-few : (h : Head) (img : List ℕ) (a b l : ℕ) (at : Place) (p : ℕ) → length (walk 12 h img a b l at p .runs) ≤ most-runs l
+unfolding walk most-runs leaf-run
+walk-few h img a b zero at p = page-few h a b at (page-at 12 img p) _ 1 (λ i. omega arith)
+walk-few h img a b (suc l) at p =
+    let s = page-at 12 img p in
+    page-few h a b at s _ (most-runs l)
+    (λ i. rw length-under (walk-few h img a b l (place-below 12 s at i) (child-at 12 s i)))
+
+most-few : (l : ℕ) → l < 4 → most-runs l ≤ 331776
+unfolding most-runs
+most-few zero h = omega arith
+most-few (suc zero) h = omega arith
+most-few (suc (suc zero)) h = omega arith
+most-few (suc (suc (suc zero))) h = omega arith
+most-few (suc (suc (suc (suc l)))) h = absurd (omega arith)
+
+-- ---- from the root is from the root's spot, with no pair above
+
+pub root-walk : {img : List ℕ} (q : Task) → Headed img (q .head) → page-walk img q (root-spot (q .head)) ≡ walk-over 12 img (q .a) (q .b)
+unfolding page-walk walk-over root-place
+root-walk {img} q h =
+    under-none (q .head .kind) _
+    ∙ ap (λ (k : Head). walk 12 k img (q .a) (q .b) (k .height - 1) (root-place k) (k .root)) (h .head)
+
+pub over-few : {img : List ℕ} {h : Head} (a b : ℕ) → Headed img h → length (walk-over 12 img a b .runs) ≤ 331776
+unfolding walk-over
+over-few {img} {h} a b f =
+    let s = page-at 12 img 0 in
+    let k = head-of s in
+    let r = head-fit-is 12 (h .pages) s .0 (f .fit) .ranges in
+    omega (arith, walk-few k img a b (k .height - 1) (root-place k) (k .root), most-few (k .height - 1) (omega (arith, r .height)))
+
+-- ---- the two passes
+
+module _ {img : List ℕ} {h : Head} (a b : ℕ) (out : List ℕ) (headed : Headed img h) where
+  pub room-counting : Room false no-run (walk-over 12 img a b) out
+  room-counting =
+      record { few = omega (arith, over-few a b headed); fit = λ e. absurd (false≢true e); room = λ e. absurd (false≢true e) }
+
+  pub room-writing : walk-over 12 img a b .fit ≡ true → 16 * length (join (walk-over 12 img a b .runs)) ≤ length out → Room true no-run (walk-over 12 img a b) out
+  room-writing fit room =
+      record {
+        few = omega (arith, over-few a b headed);
+        fit = λ _. fit;
+        room = λ _. omega (arith, written-join (walk-over 12 img a b .runs));
+      }
+
+module _ (w : image.Walked) where
+  pub count-unfit : Unfit ≡ answer no-run w → counted.Unfit ≡ count w
+  unfolding count
+  count-unfit e = rw (of-unfit no-run w e)
+
+  pub count-fit : {last : Run} → Fit last ≡ answer no-run w → counted.Runs (last .written) ≡ count w
+  unfolding count
+  count-fit {last} e =
+      let f = of-answer no-run w e in
+      rw (f .0) (ap counted.Runs (ap (λ (r : Run). r .written) (f .1) ∙ written-join (w .runs)))
+
+  pub output-all : (out : List ℕ) → 16 * length (join (w .runs)) ≤ length out → output true no-run w out ≡ patch out 0 (joined run-bytes (join (w .runs)))
+  unfolding output
+  output-all out room = output-join (w .runs) out room

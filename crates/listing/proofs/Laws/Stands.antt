@@ -1,0 +1,133 @@
+-- Nothing is out of bounds on the way of a walk. Assumes nothing.
+use mathlib.Core.Path.{_≡_, refl, sym, _∙_, subst, subst⁻¹}
+use mathlib.Core.Logic.{inl}
+use mathlib.Core.Bool.{Bool, true, false, cond}
+use mathlib.Core.List.{List}
+use Prim.Native.Nat.{ℕ, _+_, _*_, _≤_, _<_, max}
+use native.Mathlib.Omega.{arith}
+use lib.ListN.{length}
+use lib.Dec.{eqb}
+use lib.IntN.{natAbs}
+use borrow.Author.Tests.{eqb-true, eqb-false}
+use Rattle.rule.specs.declared.Pair.{Pair}
+use Rattle.rule.specs.Pairs.{none, combine}
+use Rattle.rule.specs.Bounds.{Combinable}
+use Rattle.rule.proofs.Laws.{combine-sum-bound, total-count-bound, combine-value-or-none, value-or-none-is, values-combinable}
+use Rattle.fields.proofs.Laws.Parts.{length-part}
+use Rattle.page.specs.declared.Head.{Head}
+use Rattle.page.specs.Layout.{number-of, start-at, pair-at}
+use Rattle.page.specs.Fit.{Place, root-place, place-below, most-changes}
+use Rattle.fit.specs.Places.{place-of, Bounded}
+use Rattle.fit.proofs.Laws.Heads.{Ranges, head-fit-is}
+use Rattle.fit.proofs.Laws.Pages.{PageFit, page-fit-is}
+use Rattle.fit.proofs.Laws.Ways.{root-way, way-bounded, below-way}
+use Rattle.image.specs.Images.{page-at}
+use Rattle.listing.specs.declared.Task.{Task}
+use Rattle.listing.specs.declared.Spot.{Spot}
+use Rattle.listing.specs.declared.Met.{Met}
+use Rattle.listing.specs.declared.Met.the-variants.{Apart, Leaf, Inner}
+use Rattle.listing.specs.Walks.{bytes-at, root-spot, spot-below, met-at}
+use Rattle.listing.specs.Sits.{Above, Sits, Inside, Headed}
+use Rattle.listing.proofs.Laws.Pages.{overlapped}
+
+-- ---- the pairs above
+
+pub above-root : (h : Head) → Above h (root-place h) none
+unfolding root-place
+above-root h = record { sum = λ _. omega arith; count = λ _. omega arith; mark = λ _. value-or-none-is none .1 (inl refl) }
+
+module _ {h : Head} {at : Place} {p : Pair} {s : List ℕ} (above : Above h at p) (fit : PageFit 12 h at s) (i : ℕ) (l : i < number-of s) where
+  pub above-below : Above h (place-below 12 s at i) (combine (h .kind) p (pair-at 12 s i))
+  unfolding place-below
+  above-below =
+      let q = fit .pairs i l in
+      record {
+        sum = λ e. omega (arith, above .sum e, combine-sum-bound (h .kind) p (pair-at 12 s i));
+        count = λ e. subst⁻¹ (λ (k : ℕ). natAbs (combine k p (pair-at 12 s i) .count) ≤ at .counts + natAbs (pair-at 12 s i .count)) (eqb-true (h .kind) 1 e)
+            (omega (arith, above .count e, total-count-bound p (pair-at 12 s i)));
+        mark = λ e. combine-value-or-none (h .kind) p (pair-at 12 s i) e (above .mark e) (q .mark e);
+      }
+
+  -- an entry's pair can be combined with those above it
+  pub combinable : h .changes ≤ most-changes → Combinable p (pair-at 12 s i)
+  combinable m = go (eqb (h .kind) 1) refl
+    where
+      go : (b : Bool) → eqb (h .kind) 1 ≡ b → Combinable p (pair-at 12 s i)
+      go true e =
+          let t = fit .pairs i l .total e in
+          record { sums = omega (arith, above .sum e); counts = omega (arith, above .count e) }
+      go false e = values-combinable p (pair-at 12 s i) (above .mark e) (fit .pairs i l .mark e)
+
+-- ---- a page where the walk stands
+
+module _ {img : List ℕ} {q : Task} {on : Spot} (sits : Sits img q on) where
+  pub page-within : 512 * on .page + 512 ≤ length img
+  page-within = omega (arith, sits .size, sits .page)
+
+  pub page-length : length (bytes-at img on) ≡ 512
+  unfolding page-at
+  page-length = length-part img (512 * on .page) 512 page-within
+
+  pub sits-bounded : Bounded (place-of (on .at))
+  sits-bounded = way-bounded (sits .way) (sits .changes)
+
+  module _ {i : ℕ} (inside : Inside img q on i) where
+    pub fit-facts : PageFit 12 (q .head) (place-of (on .at)) (bytes-at img on)
+    fit-facts = page-fit-is 12 (q .head) (place-of (on .at)) (bytes-at img on) .0 (inside .fit)
+
+    pub entry-within : (i < 24) × (number-of (bytes-at img on) ≤ 24)
+    entry-within = omega (arith, fit-facts .most, inside .within)
+
+    -- under an inner entry
+    pub sits-below : 1 ≤ on .at .level → Sits img q (spot-below q (bytes-at img on) on i)
+    sits-below v =
+        record {
+          size = sits .size;
+          changes = sits .changes;
+          page = fit-facts .children i (inside .within) .inner v .1;
+          depth = sits .depth + 1;
+          way = below-way (sits .way) fit-facts (omega arith) i (inside .within) v;
+          above = above-below (sits .above) fit-facts i (inside .within);
+        }
+
+    abbrev Down : Met → Type 0
+    Down Apart = Unit {0}
+    Down (Leaf start pair) = Unit {0}
+    Down (Inner below) = Sits img q below × (below .at .level < on .at .level)
+
+    down : Down (met-at q (bytes-at img on) on i)
+    unfolding met-at place-below
+    down = go (overlapped q (bytes-at img on) on i) (eqb (on .at .level) 0) refl
+      where
+        below : Spot
+        below = spot-below q (bytes-at img on) on i
+
+        go : (b z : Bool) → eqb (on .at .level) 0 ≡ z → Down (cond b (cond z (Leaf (max (q .a) (start-at (bytes-at img on) i)) (below .above)) (Inner below)) Apart)
+        go false z e = tt
+        go true true e = tt
+        go true false e =
+            let n = eqb-false (on .at .level) 0 e in
+            let v : 1 ≤ on .at .level = omega arith in
+            (sits-below v, omega arith)
+
+    -- where a page below is met, the walk can stand there, and the level falls
+    pub step-down : {m : Met} {below : Spot} → m ≡ met-at q (bytes-at img on) on i → m ≡ Inner below → Sits img q below × (below .at .level < on .at .level)
+    step-down e f = subst Down (sym e ∙ f) down
+
+-- ---- the root
+
+pub headed-ranges : {img : List ℕ} {h : Head} → Headed img h → Ranges (h .pages) h
+headed-ranges {img} {h} f =
+    subst⁻¹ (λ (k : Head). Ranges (h .pages) k) (f .head) (head-fit-is 12 (h .pages) (page-at 12 img 0) .0 (f .fit) .ranges)
+
+pub sits-root : {img : List ℕ} (q : Task) → Headed img (q .head) → Sits img q (root-spot (q .head))
+sits-root q h =
+    let r = headed-ranges h in
+    record {
+      size = h .size;
+      changes = r .changes;
+      page = r .root .1;
+      depth = 0;
+      way = root-way (q .head .pages) (q .head) r;
+      above = above-root (q .head);
+    }

@@ -1,0 +1,15 @@
+-- `listing::entries::leaf_entry` meets its contract: the open run is written, and then updated. Assumes nothing.
+use mathlib.Core.Path.{ap}
+use borrow.Author.Needs.{needs}
+use Rattle.runs.specs.Open.{stepped-all}
+use Rattle.listing.specs.declared.Walked.the-variants.{Fit}
+use Rattle.listing.specs.Walks.{answer}
+use Rattle.listing.proofs.entries.leaf_entry.Statement.{statement}
+use Rattle.listing.proofs.entries.leaf_entry.Tie as tie
+
+returns : tie.Need-returns
+unfolding answer stepped-all
+returns c = record { answers = ap Fit (c .collect .ensures); writes = c .before .before .before .write-new .ensures }
+
+pub leaf-entry-spec : {M : Type 1} → statement M
+leaf-entry-spec = tie.close (tie.spec (λ c κs. search needs) (λ c κs. search needs) (λ c. search needs) returns)

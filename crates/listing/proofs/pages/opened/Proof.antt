@@ -1,0 +1,26 @@
+-- `listing::pages::opened` meets its contract: the page is fit, or not. Assumes nothing.
+use mathlib.Core.Path.{_≡_, ap, _∙_}
+use lib.ListN.{length}
+use borrow.Author.Needs.{needs}
+use Rattle.listing.specs.Walks.{opened-at}
+use Rattle.listing.proofs.Laws.Stands.{page-length, sits-bounded}
+use Rattle.listing.proofs.pages.opened.Statement.{statement}
+use Rattle.listing.proofs.pages.opened.Tie as tie
+
+size : (c : tie.After-page-at) → length (c .page-at .result .now) ≡ 512
+size c = ap length (c .page-at .ensures) ∙ page-length (c .before .before .pre)
+
+returns : tie.Need-returns
+unfolding opened-at
+returns c =
+    let t = c .before .before in
+    rw (← (t .before .page-at .ensures), ← (t .page-fit .ensures), c .before .if1 .taken, c .number-of .ensures)
+
+returns-2 : tie.Need-returns-2
+unfolding opened-at
+returns-2 c = rw (← (c .before .before .page-at .ensures), ← (c .before .page-fit .ensures), c .if1 .left)
+
+pub opened-spec : {M : Type 1} → statement M
+opened-spec =
+    tie.close
+    (tie.spec (λ c κs. search needs) (λ c κs. (size c, sits-bounded (c .before .before .pre))) (λ c κs. size (c .before .before)) (λ c. search needs) returns returns-2)

@@ -1,0 +1,45 @@
+-- Where a walk stands, so that nothing is out of bounds. Assumes nothing.
+use mathlib.Core.Path.{_≡_}
+use Prim.Native.Nat.{ℕ, _*_, _≤_, _<_}
+use mathlib.Core.Bool.{true, false}
+use mathlib.Core.List.{List}
+use lib.ListN.{length}
+use lib.Dec.{eqb}
+use lib.IntN.{natAbs}
+use Rattle.rule.specs.declared.Pair.{Pair}
+use Rattle.rule.specs.Bounds.{value-or-none}
+use Rattle.page.specs.declared.Head.{Head}
+use Rattle.page.specs.Layout.{number-of, head-of}
+use Rattle.page.specs.Fit.{Place, most-changes, page-fit, head-fit}
+use Rattle.fit.specs.Places.{place-of}
+use Rattle.fit.proofs.Laws.Ways.{Way}
+use Rattle.image.specs.Images.{page-at}
+use Rattle.listing.specs.declared.Task.{Task}
+use Rattle.listing.specs.declared.Spot.{Spot}
+use Rattle.listing.specs.Walks.{bytes-at}
+
+-- What the pairs above a place are combined to: no more than they add to, or a value.
+pub record Above (h : Head) (at : Place) (p : Pair) : Type 0 where
+  pub sum : eqb (h .kind) 1 ≡ true → natAbs (p .sum) ≤ at .sums
+  pub count : eqb (h .kind) 1 ≡ true → natAbs (p .count) ≤ at .counts
+  pub mark : eqb (h .kind) 1 ≡ false → value-or-none p ≡ true
+
+-- The page is one of the image's, and its place is under fit entries.
+pub record Sits (img : List ℕ) (q : Task) (on : Spot) : Type 0 where
+  pub size : length img ≡ 512 * q .head .pages
+  pub changes : q .head .changes ≤ most-changes
+  pub page : on .page < q .head .pages
+  pub depth : ℕ
+  pub way : Way (q .head) depth (place-of (on .at))
+  pub above : Above (q .head) (place-of (on .at)) (on .above)
+
+-- The page is fit, and the i-th is one of its entries.
+pub record Inside (img : List ℕ) (q : Task) (on : Spot) (i : ℕ) : Type 0 where
+  pub fit : page-fit 12 (q .head) (place-of (on .at)) (bytes-at img on) ≡ true
+  pub within : i < number-of (bytes-at img on)
+
+-- The image has as many pages as its head says, and the head is fit.
+pub record Headed (img : List ℕ) (h : Head) : Type 0 where
+  pub size : length img ≡ 512 * h .pages
+  pub head : h ≡ head-of (page-at 12 img 0)
+  pub fit : head-fit 12 (h .pages) (page-at 12 img 0) ≡ true

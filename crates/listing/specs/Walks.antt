@@ -1,0 +1,121 @@
+-- What the walk of a span listing does, as the code has it: over the definitions of `image`, with the pairs of the entries above
+-- combined into each run, from the open run on. Assumes nothing.
+use mathlib.Core.Path.{_≡_}
+use Prim.Native.Nat.{ℕ, _+_, _*_, _≤_, max}
+use mathlib.Core.Bool.{Bool, true, cond}
+use mathlib.Core.List.{List, [], _∷_}
+use lib.ListN.{length}
+use lib.Dec.{eqb}
+use Rattle.rule.specs.declared.Pair.{Pair}
+use Rattle.rule.specs.Pairs.{none, combine}
+use Rattle.page.specs.declared.Head.{Head}
+use Rattle.page.specs.Layout.{number-of, start-at, pair-at, child-at}
+use Rattle.page.specs.Fit as page
+use Rattle.page.specs.Fit.{end-at, root-place, place-below, page-fit}
+use Rattle.fit.specs.declared.Place.{Place}
+use Rattle.fit.specs.Places.{place-of}
+use Rattle.image.specs.Images.{page-at}
+use Rattle.image.specs.Listing as image
+use Rattle.image.specs.Listing.{nothing, under, overlaps, walk, join}
+use Rattle.runs.specs.declared.Run.{Run}
+use Rattle.runs.specs.Open.{stepped-all, output-after-all}
+use Rattle.listing.specs.declared.Task.{Task}
+use Rattle.listing.specs.declared.Spot.{Spot}
+use Rattle.listing.specs.declared.Opened.{Opened}
+use Rattle.listing.specs.declared.Opened.the-variants as opened
+use Rattle.listing.specs.declared.Met.{Met}
+use Rattle.listing.specs.declared.Met.the-variants.{Apart, Leaf, Inner}
+use Rattle.listing.specs.declared.Walked.{Walked}
+use Rattle.listing.specs.declared.Walked.the-variants as walked
+use Rattle.listing.specs.declared.Counted.{Counted}
+use Rattle.listing.specs.declared.Counted.the-variants as counted
+
+-- ---- the answers
+
+-- the open run after a walk, if every page that it met is fit
+unfoldable pub answer : Run → image.Walked → Walked
+answer run w = cond (w .fit) (walked.Fit (stepped-all run (w .runs))) walked.Unfit
+
+-- the output after a walk that writes, or only counts
+unfoldable pub output : Bool → Run → image.Walked → List ℕ → List ℕ
+output writing run w out = cond writing (output-after-all run (w .runs) out) out
+
+-- What a walk w does from the open run on: its answer, and what it leaves of the output.
+pub record Does (writing : Bool) (run : Run) (w : image.Walked) (out : List ℕ) (r : Walked) (left : List ℕ) : Type 0 where
+  pub answers : r ≡ answer run w
+  pub writes : left ≡ output writing run w out
+
+-- What it may count on: the runs can be counted, and where they are written, all pages are fit and the output has room.
+pub record Room (writing : Bool) (run : Run) (w : image.Walked) (out : List ℕ) : Type 0 where
+  pub few : run .written + length (w .runs) ≤ 4294967295
+  pub fit : writing ≡ true → w .fit ≡ true
+  pub room : writing ≡ true → 16 * stepped-all run (w .runs) .written ≤ length out
+
+-- the number of runs
+unfoldable pub count : image.Walked → Counted
+count w = cond (w .fit) (counted.Runs (length (join (w .runs)))) counted.Unfit
+
+-- ---- a page
+
+abbrev pub bytes-at : List ℕ → Spot → List ℕ
+bytes-at img on = page-at 12 img (on .page)
+
+-- the walk from a page on
+unfoldable pub page-walk : List ℕ → Task → Spot → image.Walked
+page-walk img q on =
+    under (combine (q .head .kind)) (on .above)
+    (walk 12 (q .head) img (q .a) (q .b) (on .at .level) (place-of (on .at)) (on .page))
+
+-- its number of entries, if it is fit
+unfoldable pub opened-at : List ℕ → Task → Spot → Opened
+opened-at img q on =
+    let s = bytes-at img on in
+    cond (page-fit 12 (q .head) (place-of (on .at)) s) (opened.Entries (number-of s)) opened.Unfit
+
+-- ---- an entry
+
+-- field by field
+abbrev pub place-from : page.Place → Place
+place-from at =
+    record {
+      level = at .level;
+      «is_root» = at .is-root;
+      lo = at .lo;
+      hi = at .hi;
+      sums = at .sums;
+      counts = at .counts;
+    }
+
+-- the root's spot: no entry is above it
+abbrev pub root-spot : Head → Spot
+root-spot h = record { at = place-from (root-place h); page = h .root; above = none }
+
+-- the spot of the page below the i-th entry
+abbrev pub spot-below : Task → List ℕ → Spot → ℕ → Spot
+spot-below q s on i =
+    record {
+      at = place-from (place-below 12 s (place-of (on .at)) i);
+      page = child-at 12 s i;
+      above = combine (q .head .kind) (on .above) (pair-at 12 s i);
+    }
+
+-- what the walk meets in the i-th entry: nothing of the span, a leaf entry's run, or the page below
+unfoldable pub met-at : Task → List ℕ → Spot → ℕ → Met
+met-at q s on i =
+    let below = spot-below q s on i in
+    cond (overlaps (q .a) (q .b) (start-at s i) (end-at s (on .at .hi) i))
+    (cond (eqb (on .at .level) 0) (Leaf (max (q .a) (start-at s i)) (below .above)) (Inner below))
+    Apart
+
+-- the walk of one leaf entry
+abbrev pub one-run : ℕ → Pair → image.Walked
+one-run start pair = record { fit = true; runs = record { start = start; pair = pair } ∷ [] }
+
+-- the walk from what is met
+unfoldable pub met-walk : List ℕ → Task → Met → image.Walked
+met-walk img q Apart = nothing
+met-walk img q (Leaf start pair) = one-run start pair
+met-walk img q (Inner below) = page-walk img q below
+
+unfoldable pub entry-walk : List ℕ → Task → Spot → ℕ → image.Walked
+entry-walk img q on i = met-walk img q (met-at q (bytes-at img on) on i)

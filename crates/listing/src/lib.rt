@@ -1,0 +1,50 @@
+// The walk of a span listing. Document 01, "Span listing".
+use fit::Place;
+use page::Head;
+use rule::Pair;
+use runs::Run;
+
+pub mod entries;
+pub mod pages;
+pub mod passes;
+pub mod walks;
+
+// What is listed: the span [a, b) of an image with this head; and whether runs are written or only counted.
+pub struct Task {
+    pub head: Head,
+    pub a: u32,
+    pub b: u32,
+    pub writing: bool,
+}
+
+// Where the walk stands: a page, its place, and the pair that the entries above it combine to.
+pub struct Spot {
+    pub at: Place,
+    pub page: u32,
+    pub above: Pair,
+}
+
+// A page's number of entries, or that it is unfit.
+pub enum Opened {
+    Entries(usize),
+    Unfit,
+}
+
+// What the walk meets in an entry: nothing of the span, a leaf entry's run, or the page below.
+pub enum Met {
+    Apart,
+    Leaf(u32, Pair),
+    Inner(Spot),
+}
+
+// The open run after a walk, or that a page was unfit.
+pub enum Walked {
+    Fit(Run),
+    Unfit,
+}
+
+// The number of runs, or that a page was unfit.
+pub enum Counted {
+    Runs(u32),
+    Unfit,
+}
