@@ -84,10 +84,10 @@ pub +audit-entry+audit-page-spec : {M : Type 1} → statement M
     (λ c κs. standing-within (c .before .pre .1 .0))
     (λ c κs.
     let w = c .before .before .pre .1 in
-    (standing-size (w .0) (c .page-at .ensures), (entry-reads (w .0) (w .1) (c .page-at .ensures), (w .1 .level, standing-bounded (w .0)))))
+    (standing-size (w .0) (c .page-at .ensures), (omega (arith, entry-reads (w .0) (w .1) (c .page-at .ensures)), (w .1 .level, standing-bounded (w .0)))))
     (λ c κs.
     let w = c .before .before .before .pre .1 in
-    (standing-size (w .0) (c .before .page-at .ensures), entry-reads (w .0) (w .1) (c .before .page-at .ensures) .0))
+    (standing-size (w .0) (c .before .page-at .ensures), omega (arith, entry-reads (w .0) (w .1) (c .before .page-at .ensures))))
     (λ c κs.
     let start = c .before .before .before .before in
     let w = start .pre .1 in
