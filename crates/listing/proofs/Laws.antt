@@ -1,7 +1,8 @@
--- `Turns`: one walk after another. `Leaves`: one leaf entry. `Stands`: nothing is out of bounds on the way. `Pages`: what a page's walk is. `Loops`: the loop over its entries. `Roots`: the walk from the root.
+-- `Turns`: one walk after another. `Leaves`: one leaf entry. `Pages`: what the walk from a page on is.
+-- `Stands`: nothing is out of bounds on the way. `Loops`: the loop over a page's entries. `Roots`: the walk from the root, and the two passes.
 pub mod Turns
 pub mod Leaves
-pub mod Stands
 pub mod Pages
+pub mod Stands
 pub mod Loops
 pub mod Roots

@@ -46,14 +46,15 @@ pub fn met(img: &[u8], q: Task, on: Spot, i: usize) -> Met
     if !overlaps(q.a, q.b, start, end_at(s, at.hi, i)) {
         return Met::Apart;
     }
-    let above = combine(q.head.kind, on.above, pair_at(s, i));
+    let above = on.above;
+    let pair = combine(q.head.kind, above, pair_at(s, i));
     if at.level == 0 {
-        return Met::Leaf(later(q.a, start), above);
+        return Met::Leaf(later(q.a, start), pair);
     }
     Met::Inner(Spot {
         at: place_below(s, at, i),
         page: child_at(s, i),
-        above,
+        above: pair,
     })
 }
 
