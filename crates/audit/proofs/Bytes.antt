@@ -2,25 +2,22 @@
 use mathlib.Core.Path.{_≡_, refl, sym, ap, ap₂, _∙_}
 use mathlib.Core.Bool.{true, _&&_, and-eq-true-iff}
 use mathlib.Core.List.{List}
-use Prim.Native.Nat.{ℕ, zero, suc, _+_, _*_}
+use Prim.Native.Nat.{ℕ, zero, suc, _+_, _*_, _<_}
 use native.Mathlib.Nat.{mul-zero, mul-suc, mul-add}
 use native.Mathlib.Omega.{arith}
 use lib.ListN.{length}
 use borrow.Author.Tests.{ltb-true}
 use Rattle.fields.specs.Bytes.{part, all-are, every}
-use Rattle.fields.proofs.Laws.Parts.{length-part, part-add}
+use Rattle.fields.proofs.Laws.Parts.{part-add}
 use Rattle.fields.proofs.Laws.Tests.{all-are-none, all-are-append}
 use Rattle.page.specs.Layout.{page-size, never-used-ok}
 use Rattle.image.specs.Images.{page-at, pages-in}
-use Rattle.audit.specs.Walks.{In-image, leads-to-free}
+use Rattle.lent.specs.Opened.{Within}
+use Rattle.audit.specs.Walks.{leads-to-free}
 
 pub pages-are : (img : List ℕ) (n : ℕ) → length img ≡ 512 * n → pages-in 12 img ≡ n
 unfolding pages-in
 pages-are img n e = omega arith
-
-pub within-length : {img : List ℕ} {p : ℕ} → In-image img p → length (page-at 12 img p) ≡ 512
-unfolding page-at
-within-length {img} {p} w = length-part img (512 * p) 512 (omega arith)
 
 -- parts one after the other are one part
 all-parts : (b : ℕ) (s : List ℕ) (z o m : ℕ) → every m (λ i. all-are b (part s (z * (o + i)) z)) ≡ all-are b (part s (z * o) (z * m))
@@ -38,8 +35,9 @@ unfolding never-used-ok page-at
 never-parts half img mark m = all-parts 255 img (page-size half) mark m
 
 -- a page that is free lies in the image
-pub free-within : (img : List ℕ) (n p : ℕ) → length img ≡ 512 * n → leads-to-free 12 img n p ≡ true → In-image img p
+pub free-within : (img : List ℕ) (n p : ℕ) → length img ≡ 512 * n → leads-to-free 12 img n p ≡ true → Within img p
 unfolding leads-to-free
 free-within img n p e h =
     let parts = simp and-eq-true-iff at h in
-    record { pages = n; size = e; below = ltb-true _ _ (parts .1 .0) }
+    let below : p < n = ltb-true p n (parts .1 .0) in
+    omega arith

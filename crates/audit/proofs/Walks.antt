@@ -18,8 +18,9 @@ use Rattle.fit.proofs.Laws.Pages.{PageFit, page-fit-is}
 use Rattle.fit.proofs.Laws.Ways.{way-bounded, below-way}
 use Rattle.audit.specs.declared.Counted.{Counted}
 use Rattle.audit.specs.declared.Counted.the-variants.{Fit, Unfit}
-use Rattle.audit.specs.Walks.{In-image, Standing, Inner, counted, counted-below}
-use Rattle.audit.proofs.Bytes.{within-length}
+use Rattle.lent.specs.Opened.{Within}
+use Rattle.lent.proofs.Laws.{page-length}
+use Rattle.audit.specs.Walks.{Standing, Inner, counted, counted-below}
 use Rattle.audit.proofs.Sums.{total}
 use Rattle.audit.proofs.Tree.{tree-parts, tree-length, tree-short}
 
@@ -85,11 +86,11 @@ module _ (half : ℕ) (h : Head) (img : List ℕ) (at : Place) (p : ℕ) where
 
 -- ---- where the walk may go
 
-pub standing-within : {img : List ℕ} {h : Head} {at : Place} {p : ℕ} → Standing img h at p → In-image img p
-standing-within {h = h} w = record { pages = h .pages; size = w .size; below = w .below }
+pub standing-within : {img : List ℕ} {h : Head} {at : Place} {p : ℕ} → Standing img h at p → Within img p
+standing-within w = omega (arith, w .size, w .below)
 
 pub standing-size : {img : List ℕ} {h : Head} {at : Place} {p : ℕ} {s : List ℕ} → Standing img h at p → s ≡ page-at 12 img p → length s ≡ 512
-standing-size w d = ap length d ∙ within-length (standing-within w)
+standing-size w d = ap length d ∙ page-length _ _ (standing-within w)
 
 pub standing-bounded : {img : List ℕ} {h : Head} {at : Place} {p : ℕ} → Standing img h at p → Bounded at
 standing-bounded w = way-bounded (w .way) (w .changes)

@@ -28,12 +28,6 @@ counted-below half h img at p i =
 unfoldable pub leads-to-free : ℕ → List ℕ → ℕ → ℕ → Bool
 leads-to-free half img n p = leb 1 p && (ltb p n && free-ok half (page-at half img p))
 
--- page p lies in the image
-pub record In-image (img : List ℕ) (p : ℕ) : Type 0 where
-  pub pages : ℕ
-  pub size : length img ≡ 512 * pages
-  pub below : p < pages
-
 -- a walk down from a fit head has come to page p and its place
 pub record Standing (img : List ℕ) (h : Head) (at : Place) (p : ℕ) : Type 0 where
   pub size : length img ≡ 512 * h .pages

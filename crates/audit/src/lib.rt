@@ -1,6 +1,5 @@
 // The audit of an image: soundness by counting. Document 01, "The page".
 pub mod free;
-pub mod pages;
 pub mod unused;
 pub mod verdict;
 pub mod walk;

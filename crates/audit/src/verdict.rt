@@ -1,13 +1,11 @@
 // Is an image sound?
 use super::Counted;
 use super::free::chain_ends;
-use super::pages::page_at;
 use super::unused::never_used;
 use super::walk::audit_page;
-use fit::head::head_fit;
 use fit::places::root_place;
-use page::Head;
-use page::heads::read_head;
+use lent::Opening;
+use lent::heads::open_head;
 ghost use mathlib.Core.Path.{_≡_};
 ghost use mathlib.Core.Bool.{true};
 ghost use Prim.Native.Nat.{_+_, _*_, _-_, _≤_};
@@ -29,17 +27,14 @@ pub fn sound(img: &[u8]) -> bool
     requires { ⌜ length-ok 12 (now img) ≡ true ⌝ }
     ensures { λ r. ⌜ r ≡ sound 12 (now (img .entry)) ⌝ }
 {
-    let n = (img.len() / 512) as u32;
-    let s = page_at(img, 0);
-    if !head_fit(s, n) {
+    let Opening::Fit(h) = open_head(img) else {
         return false;
-    }
-    let h = read_head(s);
+    };
     let Counted::Fit(tree) = audit_page(img, h, root_place(h), h.root) else {
         return false;
     };
     if !adds_up(tree, h.chain, h.mark) {
         return false;
     }
-    chain_ends(img, n, h.chain, h.free) & never_used(img, n, h.mark)
+    chain_ends(img, h.pages, h.chain, h.free) & never_used(img, h.pages, h.mark)
 }

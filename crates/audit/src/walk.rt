@@ -1,9 +1,9 @@
 // "Audit goes by page and entry in turn: a page is checked by its entries, and an inner entry by its page below."
 use super::Counted;
-use super::pages::page_at;
 use fit::Place;
 use fit::places::place_below;
 use fit::tree_page::page_fit;
+use lent::pages::page_at;
 use page::Head;
 use page::at::child_at;
 use page::at::number_of;

@@ -9,11 +9,10 @@ use lib.IntN.{natAbs}
 use Rattle.rule.specs.declared.Pair.{Pair}
 use Rattle.rule.specs.Bounds.{value-or-none}
 use Rattle.page.specs.declared.Head.{Head}
-use Rattle.page.specs.Layout.{number-of, head-of}
-use Rattle.page.specs.Fit.{Place, most-changes, page-fit, head-fit}
+use Rattle.page.specs.Layout.{number-of}
+use Rattle.page.specs.Fit.{Place, most-changes, page-fit}
 use Rattle.fit.specs.Places.{place-of}
 use Rattle.fit.proofs.Laws.Ways.{Way}
-use Rattle.image.specs.Images.{page-at}
 use Rattle.listing.specs.declared.Task.{Task}
 use Rattle.listing.specs.declared.Spot.{Spot}
 use Rattle.listing.specs.Walks.{bytes-at}
@@ -37,9 +36,3 @@ pub record Sits (img : List ℕ) (q : Task) (on : Spot) : Type 0 where
 pub record Inside (img : List ℕ) (q : Task) (on : Spot) (i : ℕ) : Type 0 where
   pub fit : page-fit 12 (q .head) (place-of (on .at)) (bytes-at img on) ≡ true
   pub within : i < number-of (bytes-at img on)
-
--- The image has as many pages as its head says, and the head is fit.
-pub record Headed (img : List ℕ) (h : Head) : Type 0 where
-  pub size : length img ≡ 512 * h .pages
-  pub head : h ≡ head-of (page-at 12 img 0)
-  pub fit : head-fit 12 (h .pages) (page-at 12 img 0) ≡ true

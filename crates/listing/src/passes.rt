@@ -16,12 +16,12 @@ ghost use Rattle.fields.specs.Bytes.{patch};
 ghost use Rattle.page.specs.Layout.{joined};
 ghost use Rattle.image.specs.Listing.{walk-over, join, run-bytes};
 ghost use Rattle.runs.specs.Open.{no-run};
-ghost use Rattle.listing.specs.Sits.{Headed};
+ghost use Rattle.lent.specs.Opened.{Opened};
 ghost use Rattle.listing.specs.Walks.{count, Room, Does};
 
 // The walk from the root, before any run.
 fn walk_root(img: &[u8], out: &mut [u8], q: Task) -> Walked
-    requires { ⌜ Headed (now img) (q .head) ⌝ }
+    requires { ⌜ Opened (now img) (q .head) ⌝ }
     requires { ⌜ Room (q .writing) no-run (walk-over 12 (now img) (q .a) (q .b)) (now out) ⌝ }
     ensures { λ r. ⌜ Does (q .writing) no-run (walk-over 12 (now (img .entry)) (q .a) (q .b)) (now (out .entry)) r (now (out .exit)) ⌝ }
 {
@@ -41,7 +41,7 @@ fn walk_root(img: &[u8], out: &mut [u8], q: Task) -> Walked
 
 // The first pass: the number of runs over [a, b), unless a page that the walk meets is unfit.
 pub fn count_runs(img: &[u8], h: Head, a: u32, b: u32) -> Counted
-    requires { ⌜ Headed (now img) h ⌝ }
+    requires { ⌜ Opened (now img) h ⌝ }
     ensures { λ r. ⌜ r ≡ count (walk-over 12 (now (img .entry)) a b) ⌝ }
 {
     let mut unwritten = [0u8; 1];
@@ -59,7 +59,7 @@ pub fn count_runs(img: &[u8], h: Head, a: u32, b: u32) -> Counted
 
 // The second pass: the runs over [a, b) are written from the output's first byte on.
 pub fn write_runs(img: &[u8], h: Head, a: u32, b: u32, out: &mut [u8])
-    requires { ⌜ Headed (now img) h ⌝ }
+    requires { ⌜ Opened (now img) h ⌝ }
     requires { ⌜ walk-over 12 (now img) a b .fit ≡ true ⌝ }
     requires { ⌜ 16 * length (join (walk-over 12 (now img) a b .runs)) ≤ length (now out) ⌝ }
     ensures { λ _. ⌜ now (out .exit) ≡ patch (now (out .entry)) 0 (joined run-bytes (join (walk-over 12 (now (img .entry)) a b .runs))) ⌝ }

@@ -1,8 +1,7 @@
 -- A page on the way to an instant: what it answers, and what its reader is given. Assumes nothing.
-use Prim.Native.Nat.{ℕ, suc, _+_, _*_, _-_, _≤_, _<_}
+use Prim.Native.Nat.{ℕ, suc, _-_, _≤_, _<_}
 use mathlib.Core.Bool.{cond}
 use mathlib.Core.List.{List}
-use lib.ListN.{length}
 use Rattle.page.specs.declared.Head.{Head}
 use Rattle.page.specs.Entries.{place}
 use Rattle.page.specs.Layout.{start-at, pair-at, child-at, entries-of}
@@ -16,10 +15,6 @@ pub record Searched (s : List ℕ) (n t : ℕ) : Type 0 where
   pub compared : Compared s n
   pub rising : (i : ℕ) → i < n - 1 → start-at s i < start-at s (suc i)
   pub first : start-at s 0 ≤ t
-
--- page p lies in the image
-abbrev pub Within : List ℕ → ℕ → Type 0
-Within img p = 512 * p + 512 ≤ length img
 
 -- A place on the way to t: its entry isn't past t, and nothing adds up to more than 64 bits there.
 pub record Met (at : Place) (t : ℕ) : Type 0 where

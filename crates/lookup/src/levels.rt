@@ -4,6 +4,7 @@ use super::find::find;
 use fit::Place;
 use fit::places::place_below;
 use fit::tree_page::page_fit;
+use lent::pages::page_at;
 use page::Head;
 use page::at::child_at;
 use page::at::number_of;
@@ -15,7 +16,8 @@ ghost use Rattle.page.specs.Fit.{place-below};
 ghost use Rattle.page.specs.Layout.{number-of};
 ghost use Rattle.fit.specs.Places.{place-of, Bounded};
 ghost use Rattle.image.specs.Images.{page-at};
-ghost use Rattle.lookup.specs.Levels.{Within, Met, level-answer};
+ghost use Rattle.lent.specs.Opened.{Within};
+ghost use Rattle.lookup.specs.Levels.{Met, level-answer};
 
 // The answer of a page at its place: the page may be worn, so nothing in it is used before it is found fit.
 fn page_answer(s: &[u8], h: Head, at: Place, t: u32) -> Level
@@ -36,9 +38,7 @@ pub fn level_answer(img: &[u8], p: u32, h: Head, at: Place, t: u32) -> Level
     requires { ⌜ Met (place-of at) t ⌝ }
     ensures { λ r. ⌜ r ≡ level-answer 12 h (place-of at) t (page-at 12 (now (img .entry)) p) ⌝ }
 {
-    let a = 512 * (p as usize);
-    let e = a + 512;
-    page_answer(&img[a..e], h, at, t)
+    page_answer(page_at(img, p), h, at, t)
 }
 
 // The place under the i-th entry of page p, which has been found fit.
@@ -48,7 +48,5 @@ pub fn below(img: &[u8], p: u32, at: Place, i: usize) -> Place
     requires { ⌜ (1 ≤ at .level) × Bounded (place-of at) ⌝ }
     ensures { λ r. ⌜ place-of r ≡ place-below 12 (page-at 12 (now (img .entry)) p) (place-of at) i ⌝ }
 {
-    let a = 512 * (p as usize);
-    let e = a + 512;
-    place_below(&img[a..e], at, i)
+    place_below(page_at(img, p), at, i)
 }

@@ -9,7 +9,8 @@ use rule::Pair;
 use rule::combine::combine;
 ghost use mathlib.Core.Path.{_≡_};
 ghost use Rattle.image.specs.Instant.{look-up};
-ghost use Rattle.lookup.specs.Answers.{Opened, looked};
+ghost use Rattle.lent.specs.Opened.{Opened};
+ghost use Rattle.lookup.specs.Answers.{looked};
 
 // The answer at t of an image whose head is fit. The pairs are combined on the way down, one page a turn: the combining rule
 // is associative, so the answer is that of combining them on the way back up.

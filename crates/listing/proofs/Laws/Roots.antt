@@ -13,7 +13,7 @@ use Rattle.page.specs.Layout.{number-of, start-at, child-at, head-of, joined}
 use Rattle.page.specs.Fit.{Place, root-place, end-at, place-below, page-fit}
 use Rattle.fit.proofs.Laws.Heads.{head-fit-is}
 use Rattle.fit.proofs.Laws.Pages.{page-fit-is}
-use Rattle.image.specs.Images.{page-at}
+use Rattle.image.specs.Images.{page-at, pages-in}
 use Rattle.image.specs.Listing as image
 use Rattle.image.specs.Listing.{nothing, stopped, then, in-turn, under, leaf-run, overlaps, walk-page, walk, walk-over, run-bytes, join}
 use Rattle.runs.specs.declared.Run.{Run}
@@ -23,7 +23,7 @@ use Rattle.listing.specs.declared.Task.{Task}
 use Rattle.listing.specs.declared.Walked.the-variants.{Fit, Unfit}
 use Rattle.listing.specs.declared.Counted.the-variants as counted
 use Rattle.listing.specs.Walks.{page-walk, root-spot, answer, output, count, Room}
-use Rattle.listing.specs.Sits.{Headed}
+use Rattle.lent.specs.Opened.{Opened}
 use Rattle.listing.proofs.Laws.Turns.{of-answer, of-unfit}
 use Rattle.listing.proofs.Laws.Pages.{under-none}
 
@@ -79,23 +79,22 @@ most-few (suc (suc (suc (suc l)))) h = absurd (omega arith)
 
 -- ---- from the root is from the root's spot, with no pair above
 
-pub root-walk : {img : List ℕ} (q : Task) → Headed img (q .head) → page-walk img q (root-spot (q .head)) ≡ walk-over 12 img (q .a) (q .b)
+pub root-walk : {img : List ℕ} (q : Task) → Opened img (q .head) → page-walk img q (root-spot (q .head)) ≡ walk-over 12 img (q .a) (q .b)
 unfolding page-walk walk-over root-place
 root-walk {img} q h =
     under-none (q .head .kind) _
-    ∙ ap (λ (k : Head). walk 12 k img (q .a) (q .b) (k .height - 1) (root-place k) (k .root)) (h .head)
+    ∙ ap (λ (k : Head). walk 12 k img (q .a) (q .b) (k .height - 1) (root-place k) (k .root)) (h .shown)
 
-pub over-few : {img : List ℕ} {h : Head} (a b : ℕ) → Headed img h → length (walk-over 12 img a b .runs) ≤ 331776
+pub over-few : {img : List ℕ} {h : Head} (a b : ℕ) → Opened img h → length (walk-over 12 img a b .runs) ≤ 331776
 unfolding walk-over
-over-few {img} {h} a b f =
-    let s = page-at 12 img 0 in
-    let k = head-of s in
-    let r = head-fit-is 12 (h .pages) s .0 (f .fit) .ranges in
+over-few {img} {h} a b o =
+    let k = head-of (page-at 12 img 0) in
+    let r = head-fit-is 12 (pages-in 12 img) (page-at 12 img 0) .0 (o .fit) .ranges in
     omega (arith, walk-few k img a b (k .height - 1) (root-place k) (k .root), most-few (k .height - 1) (omega (arith, r .height)))
 
 -- ---- the two passes
 
-module _ {img : List ℕ} {h : Head} (a b : ℕ) (out : List ℕ) (headed : Headed img h) where
+module _ {img : List ℕ} {h : Head} (a b : ℕ) (out : List ℕ) (headed : Opened img h) where
   pub room-counting : Room false no-run (walk-over 12 img a b) out
   room-counting =
       record { few = omega (arith, over-few a b headed); fit = λ e. absurd (false≢true e); room = λ e. absurd (false≢true e) }

@@ -21,13 +21,15 @@ use Rattle.fit.specs.Places.{place-of, Bounded}
 use Rattle.fit.proofs.Laws.Heads.{Ranges, head-fit-is}
 use Rattle.fit.proofs.Laws.Pages.{PageFit, page-fit-is}
 use Rattle.fit.proofs.Laws.Ways.{root-way, way-bounded, below-way}
-use Rattle.image.specs.Images.{page-at}
+use Rattle.image.specs.Images.{page-at, pages-in}
 use Rattle.listing.specs.declared.Task.{Task}
 use Rattle.listing.specs.declared.Spot.{Spot}
 use Rattle.listing.specs.declared.Met.{Met}
 use Rattle.listing.specs.declared.Met.the-variants.{Apart, Leaf, Inner}
 use Rattle.listing.specs.Walks.{bytes-at, root-spot, spot-below, met-at}
-use Rattle.listing.specs.Sits.{Above, Sits, Inside, Headed}
+use Rattle.lent.specs.Opened.{Opened}
+use Rattle.lent.proofs.Laws.{opened-ranges, opened-size}
+use Rattle.listing.specs.Sits.{Above, Sits, Inside}
 use Rattle.listing.proofs.Laws.Pages.{overlapped}
 
 -- ---- the pairs above
@@ -116,18 +118,14 @@ module _ {img : List ℕ} {q : Task} {on : Spot} (sits : Sits img q on) where
 
 -- ---- the root
 
-pub headed-ranges : {img : List ℕ} {h : Head} → Headed img h → Ranges (h .pages) h
-headed-ranges {img} {h} f =
-    subst⁻¹ (λ (k : Head). Ranges (h .pages) k) (f .head) (head-fit-is 12 (h .pages) (page-at 12 img 0) .0 (f .fit) .ranges)
-
-pub sits-root : {img : List ℕ} (q : Task) → Headed img (q .head) → Sits img q (root-spot (q .head))
-sits-root q h =
-    let r = headed-ranges h in
+pub sits-root : {img : List ℕ} (q : Task) → Opened img (q .head) → Sits img q (root-spot (q .head))
+sits-root {img} q o =
+    let r = opened-ranges o in
     record {
-      size = h .size;
+      size = opened-size o;
       changes = r .changes;
-      page = r .root .1;
+      page = omega (arith, r .root .1, r .pages);
       depth = 0;
-      way = root-way (q .head .pages) (q .head) r;
+      way = root-way (pages-in 12 img) (q .head) r;
       above = above-root (q .head);
     }

@@ -2,27 +2,19 @@
 use mathlib.Core.Path.{_≡_, refl}
 use mathlib.Core.Bool.{Bool, true, false, cond}
 use mathlib.Core.List.{List}
-use Prim.Native.Nat.{ℕ, _+_, _*_, _-_, _≤_, _<_}
+use Prim.Native.Nat.{ℕ, _≤_, _<_}
 use native.Mathlib.Omega.{arith}
 use lib.ListN.{length}
-use borrow.Rule.Slice.PartMut.{midOf}
 use Rattle.rule.specs.declared.Pair.{Pair}
-use Rattle.fields.proofs.Laws.Lent.{lent-part}
 use Rattle.page.specs.declared.Head.{Head}
 use Rattle.page.specs.Entries.{place}
 use Rattle.page.specs.Layout.{number-of, pair-at, child-at, entries-of}
 use Rattle.page.specs.Fit.{Place, page-fit}
 use Rattle.fit.proofs.Laws.Pages.{PageFit, page-fit-is, entry-first}
-use Rattle.image.specs.Images.{page-at}
 use Rattle.lookup.specs.declared.Level.{Level}
 use Rattle.lookup.specs.declared.Level.the-variants.{Entry, Unfit}
 use Rattle.lookup.specs.Levels.{Searched, level-answer}
 use Rattle.lookup.proofs.Laws.Finds.{place-within}
-
--- what is lent of an image for page p
-pub lent-page : (img : List ℕ) (p : ℕ) → midOf (512 * p) (512 * p + 512 - 512 * p) img ≡ page-at 12 img p
-unfolding page-at
-lent-page img p = lent-part img (512 * p) (512 * p + 512) 512 refl
 
 -- An entry that is a page's answer: the page is fit, and it is the last entry starting at t or before.
 pub record Found (half : ℕ) (h : Head) (at : Place) (t : ℕ) (s : List ℕ) (pair : Pair) (child i : ℕ) : Type 0 where

@@ -1,47 +1,30 @@
 -- A walk down combines the pairs as it goes, and its answer is that of the definition, which combines them on the way back. Assumes nothing.
 use mathlib.Core.Path.{_≡_, refl, sym, ap, _∙_}
-use mathlib.Core.Bool.{Bool, true, false, cond, _&&_}
+use mathlib.Core.Bool.{Bool, true, false, cond}
 use mathlib.Core.List.{List}
 use Prim.Native.Nat.{ℕ, suc, _+_, _*_, _-_, _≤_, _<_}
 use native.Mathlib.Omega.{arith}
-use lib.ListN.{length}
-use lib.Dec.{eqb, leb}
 use Rattle.rule.specs.declared.Pair.{Pair}
 use Rattle.rule.specs.Pairs.{none, combine, Lawful}
 use Rattle.rule.specs.Bounds.{Combinable}
-use Rattle.rule.proofs.Tests.{both}
 use Rattle.rule.proofs.Laws.{lawful}
 use Rattle.page.specs.declared.Head.{Head}
 use Rattle.page.specs.Layout.{number-of}
 use Rattle.page.specs.Fit.{Place, root-place, place-below, page-fit}
-use Rattle.fit.proofs.Tests.{eq-is}
-use Rattle.fit.proofs.Laws.Heads.{Ranges, head-fit-is}
 use Rattle.fit.proofs.Laws.Ways.{Way, root-way, way-bounded, below-way}
-use Rattle.image.specs.Images.{page-at, pages-in, length-ok}
+use Rattle.image.specs.Images.{page-at, pages-in}
 use Rattle.image.specs.Instant as image
 use Rattle.image.specs.Instant.{stopped, leaf-answer, above, look, look-up}
 use Rattle.lookup.specs.declared.Looked.{Looked}
 use Rattle.lookup.specs.declared.Looked.the-variants.{Answered, Unfit}
-use Rattle.lookup.specs.Levels.{Within, Met}
-use Rattle.lookup.specs.Answers.{Opened, looked}
+use Rattle.lent.specs.Opened.{Within, Opened}
+use Rattle.lent.proofs.Laws.{opened-ranges, opened-within}
+use Rattle.lookup.specs.Levels.{Met}
+use Rattle.lookup.specs.Answers.{looked}
 use Rattle.lookup.proofs.Laws.Finds.{place-started}
 use Rattle.lookup.proofs.Laws.Levels.{Found, found-fit, found-in}
 use Rattle.lookup.proofs.Laws.Bounds.{Carried, carried-none, carried-below, carried-combinable}
 use Rattle.lookup.proofs.Laws.Looks.{Told, look-unfit, look-leaf, look-inner, look-told, under-below}
-
--- ---- an image whose head is fit
-
-module _ {img : List ℕ} {h : Head} (o : Opened img h) where
-  pub opened-ranges : Ranges (pages-in 12 img) h
-  opened-ranges = rw (o .shown) (head-fit-is 12 (pages-in 12 img) (page-at 12 img 0) .0 (o .fit) .ranges)
-
-  -- every page that its head counts lies in it
-  pub opened-within : (p : ℕ) → p < h .pages → Within img p
-  unfolding length-ok
-  opened-within p l =
-      let n = pages-in 12 img in
-      let e : length img ≡ 512 * n = eq-is _ _ .0 (both (eqb (length img) (512 * n)) (leb 2 n && leb n 1024) (λ a. a, λ a. a) (λ a. a, λ a. a) .0 (o .whole) .0) in
-      omega (arith, opened-ranges .pages)
 
 -- ---- the answer below, seen from the root
 

@@ -7,8 +7,10 @@ use lib.ListN.{length}
 use borrow.Author.Tests.{not-true, not-false}
 use Rattle.page.specs.Layout.{next-of}
 use Rattle.audit.specs.Counting.{chain-ends}
-use Rattle.audit.specs.Walks.{In-image, leads-to-free}
-use Rattle.audit.proofs.Bytes.{pages-are, within-length, free-within}
+use Rattle.lent.specs.Opened.{Within}
+use Rattle.lent.proofs.Laws.{page-length}
+use Rattle.audit.specs.Walks.{leads-to-free}
+use Rattle.audit.proofs.Bytes.{pages-are, free-within}
 use Rattle.audit.proofs.Chain.{chain-none, chain-on, chain-stops}
 use Rattle.audit.proofs.free.chain_ends.Statement.{statement}
 use Rattle.audit.proofs.free.chain_ends.Tie as tie
@@ -22,7 +24,7 @@ abbrev μ-loop : tie.MeasureT-loop
 leads : (c : tie.Else1 Inv-loop μ-loop) → leads-to-free 12 (c .before .before .before .before .before .args .img .now) (c .before .before .before .before .before .args .n) (c .before .before .before .loop .p) ≡ true
 leads c = sym (c .before .leads-to-free .ensures) ∙ not-false _ (c .if1 .left)
 
-within : (c : tie.Else1 Inv-loop μ-loop) → In-image (c .before .before .before .before .before .args .img .now) (c .before .before .before .loop .p)
+within : (c : tie.Else1 Inv-loop μ-loop) → Within (c .before .before .before .before .before .args .img .now) (c .before .before .before .loop .p)
 within c = free-within _ _ _ (c .before .before .before .before .before .pre) (leads c)
 
 returns : tie.Need-returns Inv-loop μ-loop
@@ -55,7 +57,7 @@ chain-ends-spec =
     (λ c κs. c .before .before .before .pre)
     returns
     (λ c κs. within c)
-    (λ c κs. ap length (c .page-at .ensures) ∙ within-length (within (c .before)))
+    (λ c κs. ap length (c .page-at .ensures) ∙ page-length _ _ (within (c .before)))
     (λ c. omega arith)
     (λ c. omega arith)
     loop-again

@@ -5,12 +5,13 @@ use borrow.Author.Tests.{le-leb, lt-leb, lt-ltb, le-ltb}
 use lib.ListN.{length}
 use Rattle.page.specs.Layout.{free-ok}
 use Rattle.fit.proofs.Tests.{passes, fails}
-use Rattle.audit.specs.Walks.{In-image, leads-to-free}
-use Rattle.audit.proofs.Bytes.{within-length}
+use Rattle.lent.specs.Opened.{Within}
+use Rattle.lent.proofs.Laws.{page-length}
+use Rattle.audit.specs.Walks.{leads-to-free}
 use Rattle.audit.proofs.free.leads_to_free.Statement.{statement}
 use Rattle.audit.proofs.free.leads_to_free.Tie as tie
 
-within : (c : tie.Else2) → In-image (c .before .before .before .args .img .now) (c .before .before .before .args .p)
+within : (c : tie.Else2) → Within (c .before .before .before .args .img .now) (c .before .before .before .args .p)
 within c = search needs
 
 returns : tie.Need-returns
@@ -29,4 +30,4 @@ returns-3 c =
 
 pub leads-to-free-spec : {M : Type 1} → statement M
 leads-to-free-spec =
-    tie.close (tie.spec returns returns-2 (λ c κs. within c) (λ c κs. ap length (c .page-at .ensures) ∙ within-length (within (c .before))) returns-3)
+    tie.close (tie.spec returns returns-2 (λ c κs. within c) (λ c κs. ap length (c .page-at .ensures) ∙ page-length _ _ (within (c .before))) returns-3)

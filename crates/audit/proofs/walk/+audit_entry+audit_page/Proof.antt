@@ -18,7 +18,7 @@ use Rattle.audit.proofs.walk.+audit_entry+audit_page.Lts-audit_entry as
 use Rattle.audit.proofs.walk.audit_page.Reads as audit-page
 use Rattle.audit.proofs.walk.audit_page.Kinds as audit-page-kinds
 use Rattle.audit.proofs.walk.+audit_entry+audit_page.Lts-audit_page as audit-page-lts
-use Rattle.audit.proofs.pages.page_at.Reads as page-at-reads
+use Rattle.lent.proofs.pages.page_at.Reads as page-at-reads
 use Rattle.fit.proofs.places.place_below.Reads as place-below-reads
 use Rattle.fit.proofs.tree_page.page_fit.Reads as page-fit-reads
 use Rattle.page.proofs.at.child_at.Reads as child-at-reads

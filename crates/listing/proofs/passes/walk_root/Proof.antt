@@ -3,7 +3,8 @@ use mathlib.Core.Path.{_≡_, ap}
 use borrow.Author.Needs.{needs}
 use Rattle.page.specs.Fit.{root-place}
 use Rattle.listing.specs.Walks.{place-from}
-use Rattle.listing.proofs.Laws.Stands.{headed-ranges, sits-root}
+use Rattle.lent.proofs.Laws.{opened-ranges}
+use Rattle.listing.proofs.Laws.Stands.{sits-root}
 use Rattle.listing.proofs.Laws.Roots.{root-walk}
 use Rattle.listing.proofs.passes.walk_root.Statement.{statement}
 use Rattle.listing.proofs.passes.walk_root.Tie as tie
@@ -26,4 +27,4 @@ returns c =
 pub walk-root-spec : {M : Type 1} → statement M
 walk-root-spec =
     tie.close
-    (tie.spec (λ c κs. headed-ranges (c .before .before .pre .0) .height .0) walk-page-requires (λ c. search needs) returns)
+    (tie.spec (λ c κs. opened-ranges (c .before .before .pre .0) .height .0) walk-page-requires (λ c. search needs) returns)

@@ -10,7 +10,8 @@ use Rattle.image.specs.Images.{page-at}
 use Rattle.lookup.specs.Answers.{looked}
 use Rattle.lookup.specs.declared.Looked.the-variants.{Answered}
 use Rattle.lookup.proofs.Laws.Levels.{Found, unfit-level, found-level}
-use Rattle.lookup.proofs.Laws.Walks.{Walk, opened-ranges, walk-root, walk-within, walk-met, walk-unfit, walk-number, walk-combinable, walk-leaf, walk-below}
+use Rattle.lent.proofs.Laws.{opened-ranges}
+use Rattle.lookup.proofs.Laws.Walks.{Walk, walk-root, walk-within, walk-met, walk-unfit, walk-number, walk-combinable, walk-leaf, walk-below}
 use Rattle.lookup.proofs.look_up.look_up.Statement.{statement}
 use Rattle.lookup.proofs.look_up.look_up.Tie as tie
 

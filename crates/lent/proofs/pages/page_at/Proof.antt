@@ -1,11 +1,11 @@
--- `audit::pages::page_at` meets its contract: the part lent is the page. Assumes nothing.
+-- `lent::pages::page_at` meets its contract: the part lent is the page. Assumes nothing.
 use mathlib.Core.Path.{refl}
 use Prim.Native.Nat.{_+_, _*_}
 use native.Mathlib.Omega.{arith}
 use Rattle.fields.proofs.Laws.Lent.{lent-part}
 use Rattle.image.specs.Images.{page-at}
-use Rattle.audit.proofs.pages.page_at.Statement.{statement}
-use Rattle.audit.proofs.pages.page_at.Tie as tie
+use Rattle.lent.proofs.pages.page_at.Statement.{statement}
+use Rattle.lent.proofs.pages.page_at.Tie as tie
 
 returns : tie.Need-returns
 unfolding page-at

@@ -1,0 +1,80 @@
+-- What a fit length and a fit head give. Assumes nothing.
+use Prim.Native.Nat.{ℕ, _+_, _*_, _≤_, _<_}
+use mathlib.Core.Path.{_≡_, refl, sym, ap, _∙_}
+use mathlib.Core.Bool.{Bool, true, false, cond, and-eq-true-iff}
+use mathlib.Core.List.{List}
+use native.Mathlib.Omega.{arith}
+use lib.ListN.{length}
+use borrow.Author.Tests.{eqb-true, leb-true}
+use Rattle.fields.proofs.Laws.Parts.{length-part}
+use Rattle.page.specs.declared.Head.{Head}
+use Rattle.page.specs.Layout.{head-of}
+use Rattle.page.specs.Fit.{head-fit}
+use Rattle.fit.proofs.Laws.Heads.{Ranges, head-fit-is}
+use Rattle.image.specs.Images.{page-at, pages-in, length-ok}
+use Rattle.lent.specs.declared.Opening.{Opening}
+use Rattle.lent.specs.declared.Opening.the-variants.{Fit, Unfit}
+use Rattle.lent.specs.Opened.{Within, Opened, opening}
+
+-- the image's length is that of n pages, n in range
+pub record Sized (img : List ℕ) : Type 0 where
+  pub ok : length-ok 12 img ≡ true
+  pub size : length img ≡ 512 * pages-in 12 img
+  pub least : 2 ≤ pages-in 12 img
+  pub most : pages-in 12 img ≤ 1024
+
+pub sized : (img : List ℕ) → length-ok 12 img ≡ true → Sized img
+unfolding length-ok
+sized img ok =
+    let k = simp and-eq-true-iff at ok in
+    record { ok = ok; size = eqb-true _ _ (k .0); least = leb-true _ _ (k .1 .0); most = leb-true _ _ (k .1 .1) }
+
+-- a page that lies in the image has its 512 bytes
+pub page-length : (img : List ℕ) (p : ℕ) → Within img p → length (page-at 12 img p) ≡ 512
+unfolding page-at
+page-length img p l = length-part img (512 * p) 512 (omega arith)
+
+module _ (img : List ℕ) where
+  pub opening-fit : {h : Head} → head-fit 12 (pages-in 12 img) (page-at 12 img 0) ≡ true → h ≡ head-of (page-at 12 img 0)
+      → Fit h ≡ opening img
+  unfolding opening
+  opening-fit e s = rw (e, s) refl
+
+  pub opening-unfit : head-fit 12 (pages-in 12 img) (page-at 12 img 0) ≡ false → Unfit ≡ opening img
+  unfolding opening
+  opening-unfit e = rw e refl
+
+  fits : (b : Bool) {h : Head} → Fit h ≡ cond b (Fit (head-of (page-at 12 img 0))) Unfit → (b ≡ true) × (h ≡ head-of (page-at 12 img 0))
+  fits true e = (refl, cc)
+  fits false e =
+      let z : _≡_ {A = ℕ} 0 1 = cc in
+      absurd (omega arith)
+
+  unfits : (b : Bool) → Unfit ≡ cond b (Fit (head-of (page-at 12 img 0))) Unfit → b ≡ false
+  unfits true e =
+      let z : _≡_ {A = ℕ} 0 1 = cc in
+      absurd (omega arith)
+  unfits false e = refl
+
+  -- an image that was opened, and one whose head is unfit
+  pub opened : {h : Head} → length-ok 12 img ≡ true → Fit h ≡ opening img → Opened img h
+  unfolding opening
+  opened ok e =
+      let k = fits _ e in
+      record { whole = ok; shown = k .1; fit = k .0 }
+
+  pub shut : Unfit ≡ opening img → head-fit 12 (pages-in 12 img) (page-at 12 img 0) ≡ false
+  unfolding opening
+  shut e = unfits _ e
+
+-- what is known of an image that was opened
+module _ {img : List ℕ} {h : Head} (o : Opened img h) where
+  pub opened-ranges : Ranges (pages-in 12 img) h
+  opened-ranges = rw (o .shown) (head-fit-is 12 (pages-in 12 img) (page-at 12 img 0) .0 (o .fit) .ranges)
+
+  pub opened-size : length img ≡ 512 * h .pages
+  opened-size = omega (arith, sized img (o .whole) .size, opened-ranges .pages)
+
+  -- every page that its head counts lies in it
+  pub opened-within : (p : ℕ) → p < h .pages → Within img p
+  opened-within p l = omega (arith, opened-size)
