@@ -1,0 +1,2 @@
+-- `Fresh` has the bytes of a fresh image, piece by piece.
+pub mod Fresh

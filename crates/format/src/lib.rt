@@ -1,0 +1,2 @@
+// The fresh image that a format leaves. Document 01, "The page".
+pub mod fresh;
