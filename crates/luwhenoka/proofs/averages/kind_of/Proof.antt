@@ -1,0 +1,28 @@
+-- `luwhenoka::averages::kind_of` meets its contract: what is read is the image's first page. Assumes nothing.
+use mathlib.Core.Path.{_≡_, ap, _∙_}
+use native.Mathlib.Omega.{arith}
+use lib.ListN.{length}
+use Rattle.page.specs.declared.Head.{Head}
+use Rattle.page.specs.Layout.{head-of}
+use Rattle.calls.specs.Calls.{head}
+use Rattle.lent.specs.Opened.{Within}
+use Rattle.lent.proofs.Laws.{sized, page-length}
+use Rattle.luwhenoka.proofs.averages.kind_of.Statement.{statement}
+use Rattle.luwhenoka.proofs.averages.kind_of.Tie as tie
+
+within : (c : tie.After-shared-slice-known) → Within (c .before .args .img .now) 0
+within c =
+    let z = sized _ (c .before .pre) in
+    omega (arith, z .size, z .least)
+
+returns : tie.Need-returns
+unfolding head
+returns c = ap (λ (h : Head). h .kind) (c .read-head .ensures ∙ ap head-of (c .before .page-at .ensures))
+
+pub kind-of-spec : {M : Type 1} → statement M
+kind-of-spec =
+    tie.close
+    (tie.spec
+    (λ c κs. within c)
+    (λ c κs. omega (arith, ap length (c .page-at .ensures) ∙ page-length _ 0 (within (c .before))))
+    returns)

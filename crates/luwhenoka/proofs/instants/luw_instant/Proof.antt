@@ -1,0 +1,91 @@
+-- `luwhenoka::instants::luw_instant` meets its contract: a law for each way out. Assumes nothing.
+use mathlib.Core.Path.{_≡_, sym, ap, _∙_}
+use mathlib.Core.Bool.{true}
+use Prim.Native.Nat.{_<_}
+use native.Mathlib.Omega.{arith}
+use borrow.Author.Needs.{needs}
+use borrow.Author.Tests.{not-true, not-false}
+use Rattle.rule.specs.Time.{END}
+use Rattle.image.specs.Images.{length-ok}
+use Rattle.calls.specs.Calls.{head-ok}
+use Rattle.lent.specs.Opened.{Opened}
+use Rattle.lent.proofs.Laws.{opened, shut}
+use Rattle.lookup.specs.Answers.{looked}
+use Rattle.luwhenoka.specs.Answers.{instant-answer}
+use Rattle.luwhenoka.proofs.Laws.Instants.{instant-16, instant-12, instant-head, instant-21, instant-0}
+use Rattle.luwhenoka.proofs.instants.luw_instant.Statement.{statement}
+use Rattle.luwhenoka.proofs.instants.luw_instant.Tie as tie
+
+fits : (c : tie.Else1) → length-ok 12 (c .before .before .before .args .img .now) ≡ true
+fits c = sym (c .before .length-fits .ensures) ∙ not-false _ (c .if1 .left)
+
+before-end : (c : tie.Else2) → c .before .before .before .before .args .t < END
+before-end c = omega (arith, c .if2 .left)
+
+headed : (c : tie.After-h) → Opened (c .before .before .before .before .before .before .before .args .img .now) (c .h .given .0 .0)
+headed c =
+    let read = c .before .before in
+    opened _ (fits (read .before .before)) (sym (c .h .given .1) ∙ read .open-head .ensures)
+
+head-fits : (c : tie.After-h) → head-ok 12 (c .before .before .before .before .before .before .before .args .img .now) ≡ true
+unfolding head-ok
+head-fits c = headed c .fit
+
+returns : tie.Need-returns
+returns c =
+    c .refused .ensures ∙ ap instant-answer (instant-16 _ _ (sym (c .before .before .length-fits .ensures) ∙ not-true _ (c .before .if1 .taken)))
+
+returns-2 : tie.Need-returns-2
+returns-2 c = c .refused2 .ensures ∙ ap instant-answer (instant-12 _ _ (fits (c .before .before)) (omega (arith, c .before .if2 .taken)))
+
+returns-3 : tie.Need-returns-3
+unfolding head-ok
+returns-3 c =
+    let told = c .before in
+    let read = told .before .before in
+    c .refused3 .ensures
+    ∙ ap instant-answer (instant-head _ _ (fits (read .before .before)) (before-end (read .before)) (shut _ (sym (told .enum-told .given .1) ∙ read .open-head .ensures)))
+
+returns-4 : tie.Need-returns-4
+unfolding looked
+returns-4 c =
+    let found = c .before .before in
+    let look = found .before .before in
+    let head = look .before .before in
+    let end = head .before .before .before in
+    c .accepted .ensures
+    ∙ ap instant-answer
+    (instant-0 _ _ (fits (end .before)) (before-end end) (head-fits head) (ap looked (sym (found .pair .given .1)) ∙ look .look-up .ensures))
+
+returns-5 : tie.Need-returns-5
+unfolding looked
+returns-5 c =
+    let found = c .before .before in
+    let look = found .before .before in
+    let head = look .before .before in
+    let end = head .before .before .before in
+    c .refused4 .ensures
+    ∙ ap instant-answer
+    (instant-21 _ _ (fits (end .before)) (before-end end) (head-fits head) (ap looked (sym (found .pages .given .1)) ∙ look .look-up .ensures))
+
+pub luw-instant-spec : {M : Type 1} → statement M
+luw-instant-spec =
+    tie.close
+    (tie.spec
+    (λ c κs. search needs)
+    (λ c κs. search needs)
+    returns
+    (λ c κs. search needs)
+    returns-2
+    (λ c κs. fits (c .before))
+    (λ c. search needs)
+    (λ c. search needs)
+    (λ c κs. search needs)
+    returns-3
+    (λ c κs. headed (c .before))
+    (λ c. search needs)
+    (λ c κs. search needs)
+    (λ c. search needs)
+    (λ c κs. search needs)
+    returns-4
+    returns-5)

@@ -1,0 +1,28 @@
+-- The answers as C gets them, in the words of the calls' definitions. Assumes nothing.
+use Prim.Native.Nat.{ℕ}
+use mathlib.Core.Path.{_≡_}
+use mathlib.Core.List.{List}
+use lib.IntN.{ℤ, pos}
+use Rattle.rule.specs.declared.Average.{Average}
+use Rattle.rule.specs.declared.Average.the-variants.{Hundredths, Nothing, Beyond}
+use Rattle.calls.specs.Calls.{Instant, Averaged, Listed}
+use Rattle.luwhenoka.specs.declared.InstantAnswer.{InstantAnswer}
+use Rattle.luwhenoka.specs.declared.AverageAnswer.{AverageAnswer}
+use Rattle.luwhenoka.specs.declared.ListingAnswer.{ListingAnswer}
+
+-- the numbers of an instant call's answer
+unfoldable pub instant-answer : Instant → InstantAnswer
+instant-answer r = record { number = r .number; pages = r .pages; sum = r .pair .sum; count = r .pair .count }
+
+-- case by case: no average, one in hundredths, a sum that no fit page can show
+unfoldable pub average-answer : ℕ → Average → AverageAnswer
+average-answer number Nothing = record { number = number; answer = 0; hundredths = pos 0 }
+average-answer number (Hundredths x) = record { number = number; answer = 1; hundredths = x }
+average-answer number Beyond = record { number = number; answer = 2; hundredths = pos 0 }
+
+unfoldable pub averaged-answer : Averaged → AverageAnswer
+averaged-answer r = average-answer (r .number) (r .average)
+
+-- What a listing leaves: the number, the number of runs, and the output's bytes.
+unfoldable pub listed : ListingAnswer → List ℕ → Listed
+listed r out = record { number = r .number; runs = r .runs; output = out }

@@ -1,0 +1,75 @@
+// "The average, kind 1 only, is in hundredths".
+use crate::AverageAnswer;
+use crate::instants::luw_instant;
+use lent::pages::page_at;
+use page::heads::read_head;
+use rule::Average;
+use rule::Pair;
+use rule::averages::average;
+ghost use mathlib.Core.Path.{_≡_};
+ghost use mathlib.Core.Bool.{true};
+ghost use Rattle.rule.specs.Averages.{average};
+ghost use Rattle.image.specs.Images.{length-ok};
+ghost use Rattle.calls.specs.Calls.{head, average-at};
+ghost use Rattle.luwhenoka.specs.Answers.{average-answer, averaged-answer};
+
+// The cases of an average as numbers.
+fn in_numbers(a: Average) -> AverageAnswer
+    ensures { λ r. ⌜ r ≡ average-answer 0 a ⌝ }
+{
+    match a {
+        Average::Nothing => AverageAnswer {
+            number: 0,
+            answer: 0,
+            hundredths: 0,
+        },
+        Average::Hundredths(x) => AverageAnswer {
+            number: 0,
+            answer: 1,
+            hundredths: x,
+        },
+        Average::Beyond => AverageAnswer {
+            number: 0,
+            answer: 2,
+            hundredths: 0,
+        },
+    }
+}
+
+// The average of a kind's sum and count: as the program prints it for each run of a listing.
+#[no_mangle]
+pub extern "C" fn luw_average_of(kind: u32, sum: i64, count: i32) -> AverageAnswer
+    ensures { λ r. ⌜ r ≡ average-answer 0 (average kind (record { sum = sum; count = count })) ⌝ }
+{
+    in_numbers(average(
+        kind,
+        Pair {
+            sum: sum,
+            count: count,
+        },
+    ))
+}
+
+// The kind that the head names.
+fn kind_of(img: &[u8]) -> u32
+    requires { ⌜ length-ok 12 (now img) ≡ true ⌝ }
+    ensures { λ r. ⌜ r ≡ head 12 (now (img .entry)) .kind ⌝ }
+{
+    read_head(page_at(img, 0)).kind
+}
+
+// "The average's pair is taken by an instant call": its refusals are that call's, and none is an average.
+#[no_mangle]
+pub extern "C" fn luw_average(img: &[u8], t: u32) -> AverageAnswer
+    ensures { λ r. ⌜ r ≡ averaged-answer (average-at 12 t (now (img .entry))) ⌝ }
+{
+    let r = luw_instant(img, t);
+    if r.number == 0 {
+        return luw_average_of(kind_of(img), r.sum, r.count);
+    }
+    AverageAnswer {
+        number: r.number,
+        answer: 0,
+        hundredths: 0,
+    }
+}

@@ -1,0 +1,59 @@
+// "An instant's answer combines the pairs on its way from root to leaf."
+use crate::InstantAnswer;
+use lent::Opening;
+use lent::heads::open_head;
+use lent::lengths::length_fits;
+use lookup::Looked;
+use lookup::look_up::look_up;
+use rule::Pair;
+ghost use mathlib.Core.Path.{_≡_};
+ghost use mathlib.Core.Bool.{true};
+ghost use Prim.Native.Nat.{_<_};
+ghost use Rattle.rule.specs.Time.{END};
+ghost use Rattle.rule.specs.Pairs.{none};
+ghost use Rattle.image.specs.Images.{length-ok};
+ghost use Rattle.calls.specs.Calls.{instant};
+ghost use Rattle.luwhenoka.specs.Answers.{instant-answer};
+
+// "A refusal returns its number and zeros (instant: the pages read too)."
+fn refused(number: u32, pages: u32) -> InstantAnswer
+    ensures { λ r. ⌜ r ≡ instant-answer (record { number = number; pair = none; pages = pages }) ⌝ }
+{
+    InstantAnswer {
+        number: number,
+        pages: pages,
+        sum: 0,
+        count: 0,
+    }
+}
+
+fn accepted(pair: Pair, pages: u32) -> InstantAnswer
+    ensures { λ r. ⌜ r ≡ instant-answer (record { number = 0; pair = pair; pages = pages }) ⌝ }
+{
+    InstantAnswer {
+        number: 0,
+        pages: pages,
+        sum: pair.sum,
+        count: pair.count,
+    }
+}
+
+// The pair at t, and how many tree pages were read. The order is 16, 12, 21.
+#[no_mangle]
+pub extern "C" fn luw_instant(img: &[u8], t: u32) -> InstantAnswer
+    ensures { λ r. ⌜ r ≡ instant-answer (instant 12 t (now (img .entry))) ⌝ }
+{
+    if !length_fits(img) {
+        return refused(16, 0);
+    }
+    if t == 4294967295 {
+        return refused(12, 0);
+    }
+    let Opening::Fit(h) = open_head(img) else {
+        return refused(21, 0);
+    };
+    match look_up(img, h, t) {
+        Looked::Answered(pair, pages) => accepted(pair, pages),
+        Looked::Unfit(pages) => refused(21, pages),
+    }
+}
