@@ -34,7 +34,7 @@ use Rattle.state.proofs.From.Load.{state-in}
 use Rattle.state.proofs.From.Good.{sound-good}
 use Rattle.state.proofs.From.Canonical.{canonical}
 use Rattle.state.proofs.From.Look.{look-good}
-use Rattle.state.proofs.To.Written.{bytes-written}
+use Rattle.image.proofs.Written.{bytes-written}
 use Rattle.state.proofs.To.Sound.{length-written, pages-written, length-fits, page-written, head-read-back, good-sound, look-written}
 use Rattle.ledger.proofs.Accepted.{Passed}
 use Rattle.demands.proofs.Change.{effective, good-changed, next, next-pairs, good-change}

@@ -25,7 +25,7 @@ use Rattle.tree.specs.Held.{all-none, all-more, Within, times-below, times-spar
 use Rattle.view.proofs.Fresh.{fresh-state, fresh-shown}
 use Rattle.state.specs.Good.{Bounds, Good}
 use Rattle.state.proofs.From.Good.{pages-range}
-use Rattle.state.proofs.To.Written.{bytes-written}
+use Rattle.image.proofs.Written.{bytes-written}
 use Rattle.state.proofs.To.Sound.{length-fits, head-read-back, good-sound, look-written}
 use Rattle.demands.proofs.Rows.{first-none}
 use Rattle.demands.proofs.Kept.{Kept}

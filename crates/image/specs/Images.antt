@@ -1,6 +1,7 @@
 -- Document 01, "The page": "The image is n pages of 512 bytes, n from 2 to 1,024." The image as bytes, and as the pages that
 -- the steps of a change work on. Assumes nothing.
 use Prim.Native.Nat.{ℕ, zero, suc, _+_, _*_, _-_, _/_, pred}
+use mathlib.Core.Path.{_≡_}
 use mathlib.Core.Bool.{Bool, cond, _&&_}
 use mathlib.Core.List.{List, [], _∷_, _++_}
 use lib.ListN.{length}
@@ -70,6 +71,11 @@ image-of half img = record { head = head-of (page-at half img 0); page = λ p. c
 unfoldable pub image-bytes : ℕ → Image → List ℕ
 image-bytes half X =
     head-bytes half (X .head) ++ joined (λ p. cell-bytes half (X .page (suc p))) (listed (X .head .pages - 1) (λ p. p))
+
+-- A cell whose bytes are those of a page and are read back.
+pub record Kept (half : ℕ) (c : Cell) : Type 0 where
+  pub sized : length (cell-bytes half c) ≡ page-size half
+  pub again : cell-of half (cell-bytes half c) ≡ c
 
 -- "Format leaves height 1, changes 0, high mark 2, no chain and root 1, a leaf with entry 0, (0, 0)."
 unfoldable pub fresh-page : ℕ → Cell

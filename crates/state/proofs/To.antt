@@ -1,14 +1,11 @@
--- From a tree and a supply to a sound image. `Rows` has pages one behind another, `Places` spans by the places of their entries. `Weights` and `Ready` have
--- what is asked of an entry and of all below it, and `Kept` the cells that are read back. `Known` has what a good state says of single pages, `Written` the
--- bytes and what is read from them, `Fit` that the tree's pages pass their tests, `Again` that the image shows the same state, `Height` that a tree of pages of
--- 24 entries is no higher than 4, and `Sound` the theorems.
-pub mod Rows
+-- From a tree and a supply to a sound image. `Places` has spans by the places of their entries. `Weights` and `Ready` have what is asked of an entry and of all
+-- below it, and `Kept` that a tree's pages are read back. `Known` has what a good state says of single pages, `Fit` that the tree's pages pass their tests,
+-- `Again` that the image shows the same state, `Height` that a tree of pages of 24 entries is no higher than 4, and `Sound` the theorems.
 pub mod Places
 pub mod Weights
 pub mod Ready
 pub mod Kept
 pub mod Known
-pub mod Written
 pub mod Fit
 pub mod Again
 pub mod Height

@@ -22,6 +22,7 @@ use Rattle.page.proofs.Laws.Frees.{length-free, free-again, unused-again}
 use Rattle.page.proofs.Laws.Heads.{head-again}
 use Rattle.image.specs.Images.{page-at, pages-in, length-ok, never-used-level, cell-of, cell-bytes, image-of, image-bytes}
 use Rattle.image.specs.Sound.{tree-fit, tree-pages, times, sound}
+use Rattle.image.proofs.Cells.{cell-tree, cell-free, cell-never, never-level}
 use Rattle.view.proofs.Lists.{cond-one}
 use Rattle.audit.proofs.Sums.{total-some, miss}
 use Rattle.audit.proofs.Times.{times-none, times-other}
@@ -30,8 +31,7 @@ use Rattle.audit.proofs.Levels.{length-is, page-length, free-level-is}
 use Rattle.audit.proofs.Tree.{tree-parts, tree-times}
 use Rattle.audit.proofs.Sound.{the-head, the-tree, Sound-facts, sound-facts}
 use Rattle.audit.proofs.Used.{tree-level}
-use Rattle.state.proofs.From.Cells.{cell-tree, cell-free, cell-never, tree-top}
-use Rattle.state.proofs.From.Chain.{never-level}
+use Rattle.state.proofs.From.Cells.{tree-top}
 use Rattle.state.proofs.From.Good.{pages-range}
 
 -- ---- a page of the tree is fit at some place

@@ -1,43 +1,22 @@
--- What the page of a tree, of the chain and from the high mark on holds as a cell; and that the pages of an image show the tree that is loaded. Assumes nothing.
+-- The pages of an image show the tree that is loaded. Assumes nothing.
 use Prim.Native.Nat.{ℕ, zero, suc, _-_, _<_}
 use mathlib.Core.Path.{_≡_, sym, ap, _∙_}
-use mathlib.Core.Bool.{Bool, true, cond}
+use mathlib.Core.Bool.{true}
 use mathlib.Core.List.{List}
 use native.Mathlib.Omega.{arith}
-use lib.Dec.{eqb}
-use borrow.Author.Tests.{eq-eqb, ne-eqb}
 use Rattle.page.specs.declared.Entry.{Entry}
 use Rattle.page.specs.declared.Head.{Head}
-use Rattle.page.specs.Layout.{level-of, number-of, entry-at, entries-of, next-of, free-level}
+use Rattle.page.specs.Layout.{level-of, number-of, entry-at, free-level}
 use Rattle.page.specs.Fit.{Place, place-below}
-use Rattle.image.specs.Images.{Cell, tree, free, never-used, never-used-level, page-at, cell-of, image-of}
+use Rattle.image.specs.Images.{tree, page-at, image-of}
 use Rattle.image.specs.Sound.{tree-fit}
+use Rattle.image.proofs.Cells.{cell-tree}
 use Rattle.tree.specs.Tree.{bare}
 use Rattle.view.specs.View.{Shows}
 use Rattle.audit.proofs.Fitness.{Fit-facts, fit-facts}
 use Rattle.audit.proofs.Tree.{tree-parts}
 use Rattle.state.proofs.From.Listed.{all-listed}
 use Rattle.state.proofs.From.Load.{loaded, load, load-listed, bare-load}
-
--- ---- one page
-
-module _ (half : ℕ) (s : List ℕ) where
-  choice : Bool → Bool → Cell
-  choice f n = cond f (free (next-of s)) (cond n never-used (tree (level-of s) (entries-of half s)))
-
-  pub cell-free : level-of s ≡ free-level → cell-of half s ≡ free (next-of s)
-  unfolding cell-of choice
-  cell-free e = ap (λ t. choice t (eqb (level-of s) never-used-level)) (eq-eqb (level-of s) free-level e)
-
-  pub cell-never : level-of s ≡ never-used-level → cell-of half s ≡ never-used
-  unfolding cell-of choice
-  cell-never e = λ j. choice (ne-eqb (level-of s) free-level (λ z. omega arith) j) (eq-eqb (level-of s) never-used-level e j)
-
-  pub cell-tree : level-of s < free-level → cell-of half s ≡ tree (level-of s) (entries-of half s)
-  unfolding cell-of choice
-  cell-tree e = λ j. choice (ne-eqb (level-of s) free-level (λ z. omega arith) j) (ne-eqb (level-of s) never-used-level (λ z. omega arith) j)
-
--- ---- the tree
 
 module _ (half : ℕ) (h : Head) (img : List ℕ) where
   -- every page is fit at its place, down to a leaf

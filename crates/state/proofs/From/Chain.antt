@@ -1,18 +1,14 @@
 -- The supply of a sound image: its chain leads from page to page, and from the high mark on no page was used. Assumes nothing.
 use Prim.Native.Nat.{ℕ, zero, suc, _-_, _≤_, _<_}
-use mathlib.Core.Path.{_≡_, refl, sym, ap, _∙_}
+use mathlib.Core.Path.{_≡_, refl, sym}
 use mathlib.Core.Bool.{true}
 use mathlib.Core.List.{List}
 use native.Mathlib.Omega.{arith}
-use lib.ListN.{length}
 use borrow.Author.Tests.{eqb-true}
-use Rattle.fields.specs.Bytes.{unused}
-use Rattle.fields.specs.Numbers.{num, u32-at}
-use Rattle.fields.proofs.Laws.Tests.{part-unused}
-use Rattle.page.specs.Layout.{page-size, level-of, next-of, never-used-ok}
-use Rattle.page.proofs.Laws.Frees.{unused-again}
-use Rattle.image.specs.Images.{page-at, pages-in, length-ok, image-of, never-used-level}
+use Rattle.page.specs.Layout.{page-size, next-of}
+use Rattle.image.specs.Images.{page-at, pages-in, length-ok, image-of}
 use Rattle.image.specs.Sound.{chain-pages}
+use Rattle.image.proofs.Cells.{cell-free, cell-never, never-level}
 use Rattle.view.specs.View.{Linked, ends, leads, Supplied}
 use Rattle.audit.specs.Counting.{chain-ends}
 use Rattle.audit.proofs.Levels.{free-level-is, page-length}
@@ -20,7 +16,6 @@ use Rattle.audit.proofs.Chain.{Link, link, pages-none, pages-more}
 use Rattle.audit.proofs.Sound.{the-head, Sound-facts}
 use Rattle.audit.proofs.Counting.{Counted, sound-counted}
 use Rattle.state.proofs.From.Load.{state-in}
-use Rattle.state.proofs.From.Cells.{cell-free, cell-never}
 
 -- ---- the chain
 
@@ -40,16 +35,7 @@ chain-linked half img (suc most) (suc k) p l e =
     rw (pages-more half img most p (r .least))
     (leads (cell-free half s (free-level-is half s (r .free))) (chain-linked half img most k (next-of s) (omega arith) (r .next)))
 
--- ---- from the high mark on
-
-level-unused : (n : ℕ) → 4 ≤ n → level-of (unused n) ≡ never-used-level
-unfolding level-of u32-at num unused
-level-unused n l = ap num (part-unused n 0 4 l)
-
-pub never-level : (n : ℕ) (s : List ℕ) → 4 ≤ n → length s ≡ n → never-used-ok s ≡ true → level-of s ≡ never-used-level
-never-level n s l e ok = ap level-of (unused-again n s e ok) ∙ level-unused n l
-
--- ---- both
+-- ---- and from the high mark on
 
 pub sound-supplied : (half : ℕ) (img : List ℕ) → length-ok half img ≡ true → Sound-facts half img → Supplied (image-of half img) (state-in half img .supply)
 unfolding image-of

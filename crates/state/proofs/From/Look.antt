@@ -15,6 +15,7 @@ use Rattle.page.specs.Fit.{Place, root-place, place-below, fewest, page-fit, he
 use Rattle.page.proofs.Laws.Trees.{length-entries-of, at-entries-of}
 use Rattle.image.specs.Images.{entries-in, page-at, pages-in, image-of}
 use Rattle.image.specs.Sound.{tree-fit, sound}
+use Rattle.image.proofs.Cells.{cell-tree}
 use Rattle.image.specs.Instant.{Looked, stopped, leaf-answer, above, look, look-up}
 use Rattle.tree.specs.Tree.{Ent, Kid, Ents, no-ent, bare, ent-of, pair-under, pair-in}
 use Rattle.tree.specs.Cut.{State, root-ent}
@@ -24,7 +25,7 @@ use Rattle.view.proofs.Ways.{at-bare}
 use Rattle.audit.proofs.Fitness.{Fit-facts}
 use Rattle.audit.proofs.Tree.{tree-parts}
 use Rattle.audit.proofs.Sound.{the-head, Sound-facts, sound-facts}
-use Rattle.state.proofs.From.Cells.{cell-tree, tree-top}
+use Rattle.state.proofs.From.Cells.{tree-top}
 use Rattle.state.proofs.From.Shape.{root-fewest, least-one}
 
 -- an answer: all pages fit, the pair, and so many pages read

@@ -1,68 +1,21 @@
--- Cells whose bytes are those of a page and are read back: every page of a good image holds one. Assumes nothing.
-use Prim.Native.Nat.{ℕ, zero, suc, _+_, _≤_, _<_, _^_}
-use mathlib.Core.Path.{_≡_, ap, _∙_}
-use mathlib.Core.List.{List}
+-- The cells of a tree's pages are kept: their bytes are those of a page and are read back. Assumes nothing.
+use Prim.Native.Nat.{ℕ, zero, suc, _+_, _≤_, _<_}
+use mathlib.Core.Path.{_≡_}
 use native.Mathlib.Omega.{arith}
 use native.Mathlib.Decide.{decLe}
 use lib.ListN.{length, length-map}
 use Rattle.rule.specs.Time.{END}
-use Rattle.fields.specs.Bytes.{unused}
-use Rattle.fields.proofs.Laws.Digits.{Bytes, bytes-unused}
-use Rattle.fields.proofs.Laws.Tests.{length-unused}
-use Rattle.page.specs.declared.Entry.{Entry}
 use Rattle.page.specs.declared.Head.{Head}
-use Rattle.page.specs.Layout.{capacity, page-size, tree-bytes, free-bytes, level-of, free-level}
-use Rattle.page.specs.Widths.{Entries-fit}
-use Rattle.page.proofs.Laws.Trees.{bytes-tree, length-tree, level-of-tree, entries-of-tree}
-use Rattle.page.proofs.Laws.Frees.{bytes-free, length-free, level-of-free, next-of-free, never-used-ok-unused}
-use Rattle.image.specs.Images.{Cell, tree, free, never-used, cell-of, cell-bytes}
+use Rattle.page.specs.Layout.{free-level}
+use Rattle.image.specs.Images.{Cell, Kept}
 use Rattle.image.specs.Sound.{times}
+use Rattle.image.proofs.Cells.{kept-tree}
 use Rattle.tree.specs.Tree.{Ent, Kid, Ents, bare, pages-under}
 use Rattle.tree.specs.Shape.{Asked, Seg, done, more}
 use Rattle.tree.specs.Held.{times-below}
 use Rattle.view.proofs.Lists.{hit, hit-is, under-zero, under-suc, below-none, below-cons}
 use Rattle.state.specs.Good.{Ranges}
-use Rattle.state.proofs.From.Cells.{cell-free, cell-never, cell-tree}
-use Rattle.state.proofs.From.Chain.{never-level}
 use Rattle.state.proofs.To.Ready.{seg-length, Paged, Ready, entries-fit}
-
-pub record Kept (half : ℕ) (c : Cell) : Type 0 where
-  pub sized : length (cell-bytes half c) ≡ page-size half
-  pub again : cell-of half (cell-bytes half c) ≡ c
-
-pub bytes-cell : (half : ℕ) (c : Cell) → Bytes (cell-bytes half c)
-unfolding cell-bytes
-bytes-cell half (tree level es) = bytes-tree half level es
-bytes-cell half (free next) = bytes-free half next
-bytes-cell half never-used = bytes-unused (page-size half)
-
--- ---- the three cells
-
-kept-tree : (half level : ℕ) (es : List Entry) → length es ≤ capacity half → length es < 2 ^ 32 → level < free-level → Entries-fit es → Kept half (tree level es)
-unfolding cell-bytes
-kept-tree half level es within narrow low fits =
-    let s : List ℕ = tree-bytes half level es in
-    let v : level-of s ≡ level = level-of-tree half level es within (omega arith) in
-    record {
-      sized = length-tree half level es within;
-      again = cell-tree half s (omega arith) ∙ (λ j. tree (v j) (entries-of-tree half level es within narrow fits j));
-    }
-
-pub kept-free : (half next : ℕ) → next < 2 ^ 32 → Kept half (free next)
-unfolding cell-bytes
-kept-free half next narrow =
-    record { sized = length-free half next; again = cell-free half (free-bytes half next) (level-of-free half next) ∙ ap free (next-of-free half next narrow) }
-
-pub kept-never : (half : ℕ) → Kept half never-used
-unfolding cell-bytes
-kept-never half =
-    let n : ℕ = page-size half in
-    record {
-      sized = length-unused n;
-      again = cell-never half (unused n) (never-level n (unused n) (omega arith) (length-unused n) (never-used-ok-unused n));
-    }
-
--- ---- the pages of a tree
 
 -- what follows from the one entry that a page is below
 seg-below : (l : ℕ) {Q : Asked (Kid l)} {lo hi : ℕ} {es : Ents l} (p : ℕ) {G : Type 0}

@@ -12,8 +12,9 @@ use Rattle.rule.specs.Time.{END, kind-ok, window-ok}
 use Rattle.page.specs.declared.Head.{Head}
 use Rattle.page.specs.Fit.{most-height}
 use Rattle.page.specs.Widths.{Head-fits}
-use Rattle.image.specs.Images.{Image, Cell, free}
+use Rattle.image.specs.Images.{Image, Cell, free, Kept}
 use Rattle.image.specs.Sound.{times}
+use Rattle.image.proofs.Cells.{kept-free, kept-never}
 use Rattle.tree.specs.Tree.{over, pages-under}
 use Rattle.tree.specs.Cut.{State, root-ent}
 use Rattle.tree.specs.Held.{times-below, times-spare, held}
@@ -23,7 +24,7 @@ use Rattle.audit.proofs.Times.{times-none, times-same, times-other, times-cons,
 use Rattle.state.specs.Good.{Good}
 use Rattle.state.proofs.To.Weights.{Weighed, weighed-all}
 use Rattle.state.proofs.To.Ready.{Paged, Ready, ready, seg-ready}
-use Rattle.state.proofs.To.Kept.{Kept, kept-free, kept-never, kept-page, kept-under}
+use Rattle.state.proofs.To.Kept.{kept-page, kept-under}
 
 -- ---- the chain
 

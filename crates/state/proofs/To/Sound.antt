@@ -13,8 +13,9 @@ use Rattle.page.specs.Layout.{page-size, free-ok, never-used-ok, head-bytes}
 use Rattle.page.specs.Fit.{root-place, fewest, most-height, ranges-ok, head-fit}
 use Rattle.page.proofs.Laws.Heads.{head-of-head, head-rest}
 use Rattle.page.proofs.Laws.Frees.{free-ok-free, never-used-ok-unused}
-use Rattle.image.specs.Images.{Image, page-at, pages-in, length-ok, cell-bytes, image-of, image-bytes}
+use Rattle.image.specs.Images.{Image, page-at, pages-in, length-ok, cell-bytes, image-of, image-bytes, Kept}
 use Rattle.image.specs.Sound.{tree-fit, tree-pages, chain-pages, times, sound}
+use Rattle.image.proofs.Written.{length-of-written, pages-of-written, length-of-fits, head-written, page-of-written, page-of-read, head-of-read}
 use Rattle.tree.specs.Shape.{root-least}
 use Rattle.tree.specs.Cut.{State, root-ent}
 use Rattle.view.specs.View.{Shows, Shown}
@@ -23,9 +24,7 @@ use Rattle.audit.proofs.Sound.{the-head, the-tree, the-chain, head-test, tree-t
 use Rattle.state.specs.Good.{Good}
 use Rattle.state.proofs.From.Shape.{root-fewest, least-one}
 use Rattle.state.proofs.From.Look.{Answered, look-good}
-use Rattle.state.proofs.To.Kept.{Kept}
 use Rattle.state.proofs.To.Known.{Freed, held-is, chain-inside, root-inside, free-inside, chain-short, tree-list, times-tree, tree-ready, page-free, head-fits, page-kept}
-use Rattle.state.proofs.To.Written.{length-of-written, pages-of-written, length-of-fits, head-written, page-of-written, page-of-read, head-of-read}
 use Rattle.state.proofs.To.Fit.{Stands, fit-tree, pages-are}
 use Rattle.state.proofs.To.Again.{all-again, linked-again, chain-is}
 

@@ -14,9 +14,9 @@ use Rattle.page.specs.Layout.{page-size, head-of, head-bytes, listed}
 use Rattle.page.specs.Widths.{Head-fits}
 use Rattle.page.proofs.Laws.Heads.{bytes-head, length-head, head-of-head}
 use Rattle.page.proofs.Laws.Joined.{bytes-joined}
-use Rattle.image.specs.Images.{Image, page-at, pages-in, length-ok, cell-of, cell-bytes, image-of, image-bytes}
-use Rattle.state.proofs.To.Rows.{rows, length-rows, part-rows}
-use Rattle.state.proofs.To.Kept.{Kept, bytes-cell}
+use Rattle.image.specs.Images.{Image, page-at, pages-in, length-ok, cell-of, cell-bytes, image-of, image-bytes, Kept}
+use Rattle.image.proofs.Cells.{bytes-cell}
+use Rattle.image.proofs.Rows.{rows, length-rows, part-rows}
 
 pub bytes-written : (half : ℕ) (X : Image) → Bytes (image-bytes half X)
 unfolding image-bytes

@@ -1,0 +1,6 @@
+-- `Cells` has what a page's bytes are as a cell and which cells are kept, `Rows` pieces of one size one behind another, `Written` the bytes of an image whose pages
+-- are kept, and `Puts` those of an image in which one page or the head changed.
+pub mod Cells
+pub mod Rows
+pub mod Written
+pub mod Puts
