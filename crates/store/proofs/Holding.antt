@@ -1,0 +1,114 @@
+-- Bytes that hold an image: how many they are, what is read from them, and what they hold once a page or the head is written. Assumes nothing.
+use Prim.Native.Nat.{ℕ, zero, suc, _+_, _*_, _≤_, _<_, min}
+use mathlib.Core.Path.{_≡_, refl, sym, ap, _∙_}
+use mathlib.Core.Bool.{Bool, true, false, cond}
+use mathlib.Core.List.{List}
+use native.Mathlib.Omega.{arith}
+use lib.Dec.{eqb}
+use lib.ListN.{length}
+use borrow.Author.Tests.{eq-eqb, ne-eqb}
+use Rattle.fields.specs.Bytes.{part, patch}
+use Rattle.page.specs.declared.Entry.{Entry}
+use Rattle.page.specs.declared.Head.{Head}
+use Rattle.page.specs.declared.Page.{Page}
+use Rattle.page.specs.Layout.{level-of, number-of, entries-of, next-of, head-of, head-bytes, tree-bytes}
+use Rattle.page.specs.Decoded.{Read}
+use Rattle.page.specs.Widths.{Head-fits}
+use Rattle.page.proofs.Laws.Heads.{head-of-head}
+use Rattle.page.proofs.Laws.Trees.{length-entries-of, number-of-tree}
+use Rattle.image.specs.Images.{Image, Cell, tree, free, page-at, cell-of, cell-bytes, image-bytes, Kept}
+use Rattle.image.proofs.Cells.{tree-cell, free-cell}
+use Rattle.image.proofs.Written.{length-of-written, head-written, page-of-written}
+use Rattle.image.proofs.Puts.{put-page, put-head}
+use Rattle.steps.specs.Supply.{put}
+use Rattle.edit.specs.Shows.{Shows}
+use Rattle.store.specs.Holding.{Holds, Some, Within, Loaded, Same-pages, with-head}
+
+-- ---- what the bytes are
+
+tree-written : {c : Cell} {l : ℕ} {es : List Entry} → c ≡ tree l es → cell-bytes 12 c ≡ tree-bytes 12 l es
+unfolding cell-bytes
+tree-written e = ap (cell-bytes 12) e
+
+module _ {img : List ℕ} {X : Image} (h : Holds img X) where
+  pub holds-length : length img ≡ 512 * X .head .pages
+  holds-length = ap length (h .bytes) ∙ length-of-written 12 X (omega arith) (omega arith) (h .sized-kept)
+
+  pub holds-head : head-of (part img 0 512) ≡ X .head
+  unfolding page-at
+  holds-head =
+      ap (λ s. head-of (part s 0 512)) (h .bytes) ∙ ap head-of (head-written 12 X (omega arith) (omega arith) (h .sized-kept)) ∙ head-of-head 12 (X .head) (h .head-fits)
+
+  module _ {p : ℕ} (w : Within p X) where
+    pub holds-page : part img (512 * p) 512 ≡ cell-bytes 12 (X .page p)
+    unfolding page-at
+    holds-page = ap (λ s. part s (512 * p) 512) (h .bytes) ∙ page-of-written 12 X (omega arith) (omega arith) (h .sized-kept) p (w .least) (w .below)
+
+    holds-cell : cell-of 12 (part img (512 * p) 512) ≡ X .page p
+    holds-cell = ap (cell-of 12) holds-page ∙ h .sized-kept p (w .least) (w .below) .again
+
+    pub holds-next : {next : ℕ} → X .page p ≡ free next → next-of (part img (512 * p) 512) ≡ next
+    holds-next e = free-cell 12 (part img (512 * p) 512) (holds-cell ∙ e)
+
+    pub holds-tree : {l : ℕ} {es : List Entry} {r : Page} → X .page p ≡ tree l es → Read r (part img (512 * p) 512) → Loaded l es r
+    holds-tree {l} {es} {r} e read =
+        let s : List ℕ = part img (512 * p) 512 in
+        let c : (level-of s ≡ l) × (entries-of 12 s ≡ es) = tree-cell 12 s (holds-cell ∙ e) in
+        let size : length es ≡ min (number-of s) 24 = ap length (sym (c .1)) ∙ length-entries-of 12 s in
+        let n : number-of s ≡ length es = ap number-of (holds-page ∙ tree-written e) ∙ number-of-tree 12 l es (omega arith) (omega arith) in
+        record {
+          shows = record { level = read .level ∙ c .0; entries = read .entries (omega arith) ∙ c .1 };
+          few = omega (arith, read .number);
+        }
+
+pub some-long : {img : List ℕ} {p : ℕ} → Some img (Within p) → 512 * p + 512 ≤ length img
+some-long s = omega (arith, holds-length (s .holds), s .ready .below)
+
+-- ---- what they hold then
+
+put-kept : (X : Image) (p : ℕ) (c : Cell) → Kept 12 c → (q : ℕ) → Kept 12 (X .page q) → Kept 12 (put p c X .page q)
+unfolding put
+put-kept X p c k q old = pick (eqb q p)
+  where
+    pick : (b : Bool) → Kept 12 (cond b c (X .page q))
+    pick true = k
+    pick false = old
+
+put-here : (p : ℕ) (c : Cell) (X : Image) → put p c X .page p ≡ c
+unfolding put
+put-here p c X = ap (λ b. cond b c (X .page p)) (eq-eqb p p refl)
+
+put-there : (p : ℕ) (c : Cell) (X : Image) (q : ℕ) → (q ≡ p → ⊥) → X .page q ≡ put p c X .page q
+unfolding put
+put-there p c X q d = sym (ap (λ b. cond b c (X .page q)) (ne-eqb q p d))
+
+put-head-same : (p : ℕ) (c : Cell) (X : Image) → X .head ≡ put p c X .head
+unfolding put
+put-head-same p c X = refl
+
+module _ {img : List ℕ} {X : Image} (h : Holds img X) where
+  pub holds-put : {p : ℕ} {after : List ℕ} (c : Cell) → Within p X → Kept 12 c → after ≡ patch img (512 * p) (cell-bytes 12 c) → Holds after (put p c X)
+  unfolding put
+  holds-put {p} c w k e =
+      let here : put p c X .page p ≡ c = put-here p c X in
+      let sized : length (cell-bytes 12 (put p c X .page p)) ≡ 512 = ap (λ d. length (cell-bytes 12 d)) here ∙ k .sized in
+      record {
+        bytes =
+            e
+            ∙ (λ j. patch (h .bytes j) (512 * p) (cell-bytes 12 (sym here j)))
+            ∙ put-page 12 (omega arith) X (put p c X) p (put-head-same p c X) (put-there p c X) (h .sized-kept) sized (w .least) (w .below);
+        sized-kept = λ q l b. put-kept X p c k q (h .sized-kept q l b);
+        head-fits = h .head-fits;
+        pages-least = h .pages-least;
+        pages-most = h .pages-most;
+      }
+
+  pub holds-with-head : {after : List ℕ} (head : Head) → Same-pages head X → Head-fits head → after ≡ patch img 0 (head-bytes 12 head) → Holds after (with-head head X)
+  holds-with-head head s fits e =
+      record {
+        bytes = e ∙ ap (λ l. patch l 0 (head-bytes 12 head)) (h .bytes) ∙ put-head 12 (omega arith) X head (s .pages);
+        sized-kept = λ q l b. h .sized-kept q l (omega (arith, s .pages));
+        head-fits = fits;
+        pages-least = omega (arith, s .pages, h .pages-least);
+        pages-most = omega (arith, s .pages, h .pages-most);
+      }

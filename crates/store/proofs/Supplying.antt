@@ -1,0 +1,83 @@
+-- What a head that was read says of the image, and what taking a page, giving one back and counting a change leave. Assumes nothing.
+use Prim.Native.Nat.{ℕ, suc, _+_, _-_, _≤_}
+use mathlib.Core.Path.{_≡_, sym, ap, _∙_, subst}
+use mathlib.Core.Bool.{Bool, true, false, cond}
+use mathlib.Core.List.{List}
+use native.Mathlib.Numerals.{add-one}
+use native.Mathlib.Omega.{arith}
+use lib.Dec.{eqb}
+use borrow.Author.Tests.{eq-eqb, ne-eqb}
+use Rattle.page.specs.declared.Head.{Head}
+use Rattle.image.specs.Images.{Image, Cell, free, next-in}
+use Rattle.steps.specs.Supply.{put, with-supply, spare, taken, given-back, counted}
+use Rattle.store.specs.Holding.{Holds, Some, Each, Any, with-head}
+use Rattle.store.specs.Supplying.{Free}
+
+-- ---- a head that was read
+
+-- An image's head may be replaced by what was read of it.
+pub by-head : {X : Image} {h : Head} (P : Image → Type 0) → h ≡ X .head → P (with-head h X) → P X
+by-head {X} P e t = subst (λ k. P (with-head k X)) e t
+
+-- some image with the head that was read
+pub record Headed (img : List ℕ) (h : Head) (Ready : Image → Type 0) : Type 0 where
+  pub image : Image
+  pub holds : Holds img (with-head h image)
+  pub ready : Ready (with-head h image)
+
+pub some-headed : {img : List ℕ} {h : Head} {Ready : Image → Type 0} → Some img Ready → Each img Any (λ X. h ≡ X .head) → Headed img h Ready
+some-headed {img} {h} {Ready} s e =
+    let X : Image = s .image in
+    let q : X .head ≡ h = sym (e X (s .holds) tt) in
+    record { image = X; holds = subst (λ k. Holds img (with-head k X)) q (s .holds); ready = subst (λ k. Ready (with-head k X)) q (s .ready) }
+
+-- ---- taking a page
+
+module _ (X : Image) (e : X .head .chain ≡ 0) where
+  pub spare-marked : X .head .mark ≡ spare X
+  unfolding spare
+  spare-marked = ap (λ b. cond b (X .head .mark) (X .head .free)) (sym (eq-eqb (X .head .chain) 0 e))
+
+  pub taken-marked : with-head (with-supply (X .head .free) (X .head .chain) (X .head .mark + 1) (X .head)) X ≡ taken X
+  unfolding taken
+  taken-marked =
+      let h : Head = X .head in
+      λ j. with-head (cond (sym (eq-eqb (h .chain) 0 e) j) (with-supply (h .free) (h .chain) (add-one (h .mark) j) h) (with-supply (next-in (X .page (h .free))) (h .chain - 1) (h .mark) h)) X
+
+module _ (X : Image) (e : X .head .chain ≡ 0 → ⊥) where
+  pub spare-chained : X .head .free ≡ spare X
+  unfolding spare
+  spare-chained = ap (λ b. cond b (X .head .mark) (X .head .free)) (sym (ne-eqb (X .head .chain) 0 e))
+
+  pub taken-chained : {next : ℕ} (f : Free (X .page (X .head .free))) → next ≡ f .next
+      → with-head (with-supply next (X .head .chain - 1) (X .head .mark) (X .head)) X ≡ taken X
+  unfolding taken next-in
+  taken-chained {next} f n =
+      let h : Head = X .head in
+      let q : next ≡ next-in (X .page (h .free)) = n ∙ ap next-in (sym (f .is)) in
+      λ j. with-head (cond (sym (ne-eqb (h .chain) 0 e) j) (with-supply (h .free) (h .chain) (suc (h .mark)) h) (with-supply (q j) (h .chain - 1) (h .mark) h)) X
+
+-- ---- giving one back, and counting
+
+pub given-back-is : (p : ℕ) (X : Image) → put p (free (X .head .free)) (with-head (with-supply p (X .head .chain + 1) (X .head .mark) (X .head)) X) ≡ given-back p X
+unfolding given-back
+given-back-is p X = ap (λ k. put p (free (X .head .free)) (with-head (with-supply p k (X .head .mark) (X .head)) X)) (add-one (X .head .chain))
+
+-- the head with that many changes
+abbrev with-changes : ℕ → Head → Head
+with-changes changes h =
+    record {
+      pages = h .pages;
+      height = h .height;
+      root = h .root;
+      free = h .free;
+      chain = h .chain;
+      mark = h .mark;
+      kind = h .kind;
+      window = h .window;
+      changes = changes;
+    }
+
+pub counted-is : (X : Image) → with-head (with-changes (X .head .changes + 1) (X .head)) X ≡ counted X
+unfolding counted
+counted-is X = ap (λ k. with-head (with-changes k (X .head)) X) (add-one (X .head .changes))

@@ -1,0 +1,51 @@
+-- Bytes that hold an image. A change in code works on bytes, its definitions on an `Image`; page 0 and the pages past the last are in no
+-- byte, so contracts speak of every image that the bytes hold, and a caller carries one along. Assumes nothing.
+use Prim.Native.Nat.{ℕ, _≤_, _<_}
+use mathlib.Core.Path.{_≡_}
+use mathlib.Core.List.{List}
+use Rattle.page.specs.declared.Entry.{Entry}
+use Rattle.page.specs.declared.Head.{Head}
+use Rattle.page.specs.declared.Page.{Page}
+use Rattle.page.specs.Widths.{Head-fits}
+use Rattle.image.specs.Images.{Image, Kept, image-bytes}
+use Rattle.edit.specs.Shows.{Shows}
+
+-- the bytes are those of this image
+pub record Holds (img : List ℕ) (X : Image) : Type 0 where
+  pub bytes : img ≡ image-bytes 12 X
+  pub sized-kept : (p : ℕ) → 1 ≤ p → p < X .head .pages → Kept 12 (X .page p)
+  pub head-fits : Head-fits (X .head)
+  pub pages-least : 2 ≤ X .head .pages
+  pub pages-most : X .head .pages ≤ 1024
+
+-- What a function asks: the bytes hold some image that is ready for it.
+pub record Some (img : List ℕ) (Ready : Image → Type 0) : Type 0 where
+  pub image : Image
+  pub holds : Holds img image
+  pub ready : Ready image
+
+-- What it promises: so it goes for every image that the bytes hold and that is ready.
+abbrev pub Each : List ℕ → (Image → Type 0) → (Image → Type 0) → Type 0
+Each img Ready Goes = (X : Image) → Holds img X → Ready X → Goes X
+
+-- nothing more is asked of the image
+abbrev pub Any : Image → Type 0
+Any X = Unit {0}
+
+-- page p is one of the image's but the head
+pub record Within (p : ℕ) (X : Image) : Type 0 where
+  pub least : 1 ≤ p
+  pub below : p < X .head .pages
+
+-- the decoded page has this level and these entries, as many as a written page can have
+pub record Loaded (l : ℕ) (es : List Entry) (r : Page) : Type 0 where
+  pub shows : Shows l es r
+  pub few : r .number ≤ 24
+
+-- a head for the same number of pages
+pub record Same-pages (h : Head) (X : Image) : Type 0 where
+  pub pages : h .pages ≡ X .head .pages
+
+-- the image with that head and the same pages
+abbrev pub with-head : Head → Image → Image
+with-head h X = record { head = h; page = X .page }

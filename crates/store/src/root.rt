@@ -1,0 +1,27 @@
+// The head's numbers on the tree, and the count of changes.
+use super::heads::head_of;
+use super::heads::set_head;
+ghost use Rattle.steps.specs.Supply.{with-root, counted};
+ghost use Rattle.store.specs.Holding.{Holds, Some, Each, Any};
+ghost use Rattle.store.specs.Supplying.{Countable};
+
+// The root is page p now, at that height.
+pub fn set_root(img: &mut [u8], height: u32, p: u32)
+    requires { ⌜ Some (now img) Any ⌝ }
+    ensures { λ _. ⌜ Each (now (img .entry)) Any (λ X. Holds (now (img .exit)) (with-root height p X)) ⌝ }
+{
+    let mut h = head_of(img);
+    h.height = height;
+    h.root = p;
+    set_head(img, h);
+}
+
+// "Then changes rises by 1."
+pub fn count_change(img: &mut [u8])
+    requires { ⌜ Some (now img) Countable ⌝ }
+    ensures { λ _. ⌜ Each (now (img .entry)) Countable (λ X. Holds (now (img .exit)) (counted X)) ⌝ }
+{
+    let mut h = head_of(img);
+    h.changes = h.changes + 1;
+    set_head(img, h);
+}

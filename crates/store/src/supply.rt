@@ -1,0 +1,41 @@
+// "Pages are taken from the chain's front, else at the high mark; given back to the front."
+use super::heads::head_of;
+use super::heads::set_head;
+use super::pages::next_free;
+use super::pages::set_free;
+ghost use mathlib.Core.Path.{_≡_};
+ghost use Rattle.steps.specs.Supply.{spare, taken, given-back};
+ghost use Rattle.store.specs.Holding.{Holds, Some, Each};
+ghost use Rattle.store.specs.Supplying.{Takable, Givable};
+
+// Takes a page. Its bytes stay: whoever takes it writes it.
+pub fn take(img: &mut [u8]) -> u32
+    requires { ⌜ Some (now img) Takable ⌝ }
+    ensures { λ r. ⌜ Each (now (img .entry)) Takable (λ X. (r ≡ spare X) × Holds (now (img .exit)) (taken X)) ⌝ }
+{
+    let mut h = head_of(img);
+    if h.chain == 0 {
+        let p = h.mark;
+        h.mark = p + 1;
+        set_head(img, h);
+        return p;
+    }
+    let p = h.free;
+    h.free = next_free(img, p);
+    h.chain = h.chain - 1;
+    set_head(img, h);
+    p
+}
+
+// Gives page p back: it is the chain's first now, and leads to the one that was.
+pub fn give_back(img: &mut [u8], p: u32)
+    requires { ⌜ Some (now img) (Givable p) ⌝ }
+    ensures { λ _. ⌜ Each (now (img .entry)) (Givable p) (λ X. Holds (now (img .exit)) (given-back p X)) ⌝ }
+{
+    let mut h = head_of(img);
+    let first = h.free;
+    h.free = p;
+    h.chain = h.chain + 1;
+    set_head(img, h);
+    set_free(img, p, first);
+}
