@@ -1,17 +1,17 @@
--- Bytes that hold an image: how many they are, what is read from them, and what they hold once a page or the head is written. Assumes nothing.
+-- Bytes that hold an image: how many they are, what is read from them, and what they hold once a page or the head is written.
+-- Assumes nothing.
 use Prim.Native.Nat.{ℕ, zero, suc, _+_, _*_, _≤_, _<_, min}
-use mathlib.Core.Path.{_≡_, refl, sym, ap, _∙_}
+use mathlib.Core.Path.{_≡_, sym, ap, _∙_}
 use mathlib.Core.Bool.{Bool, true, false, cond}
 use mathlib.Core.List.{List}
 use native.Mathlib.Omega.{arith}
 use lib.Dec.{eqb}
 use lib.ListN.{length}
-use borrow.Author.Tests.{eq-eqb, ne-eqb}
 use Rattle.fields.specs.Bytes.{part, patch}
 use Rattle.page.specs.declared.Entry.{Entry}
 use Rattle.page.specs.declared.Head.{Head}
 use Rattle.page.specs.declared.Page.{Page}
-use Rattle.page.specs.Layout.{level-of, number-of, entries-of, next-of, head-of, head-bytes, tree-bytes}
+use Rattle.page.specs.Layout.{page-size, level-of, number-of, entries-of, next-of, head-of, head-bytes, tree-bytes}
 use Rattle.page.specs.Decoded.{Read}
 use Rattle.page.specs.Widths.{Head-fits}
 use Rattle.page.proofs.Laws.Heads.{head-of-head}
@@ -19,8 +19,9 @@ use Rattle.page.proofs.Laws.Trees.{length-entries-of, number-of-tree}
 use Rattle.image.specs.Images.{Image, Cell, tree, free, page-at, cell-of, cell-bytes, image-bytes, Kept}
 use Rattle.image.proofs.Cells.{tree-cell, free-cell}
 use Rattle.image.proofs.Written.{length-of-written, head-written, page-of-written}
-use Rattle.image.proofs.Puts.{put-page, put-head}
+use Rattle.image.proofs.Puts.{put-page, put-head as put-head-bytes}
 use Rattle.steps.specs.Supply.{put}
+use Rattle.steps.proofs.Supply.{put-at, put-other, put-head}
 use Rattle.edit.specs.Shows.{Shows}
 use Rattle.store.specs.Holding.{Holds, Some, Within, Loaded, Same-pages, with-head}
 
@@ -37,12 +38,16 @@ module _ {img : List ℕ} {X : Image} (h : Holds img X) where
   pub holds-head : head-of (part img 0 512) ≡ X .head
   unfolding page-at
   holds-head =
-      ap (λ s. head-of (part s 0 512)) (h .bytes) ∙ ap head-of (head-written 12 X (omega arith) (omega arith) (h .sized-kept)) ∙ head-of-head 12 (X .head) (h .head-fits)
+      ap (λ s. head-of (part s 0 512)) (h .bytes)
+      ∙ ap head-of (head-written 12 X (omega arith) (omega arith) (h .sized-kept))
+      ∙ head-of-head 12 (X .head) (h .head-fits)
 
   module _ {p : ℕ} (w : Within p X) where
     pub holds-page : part img (512 * p) 512 ≡ cell-bytes 12 (X .page p)
     unfolding page-at
-    holds-page = ap (λ s. part s (512 * p) 512) (h .bytes) ∙ page-of-written 12 X (omega arith) (omega arith) (h .sized-kept) p (w .least) (w .below)
+    holds-page =
+        ap (λ s. part s (512 * p) 512) (h .bytes)
+        ∙ page-of-written 12 X (omega arith) (omega arith) (h .sized-kept) p (w .least) (w .below)
 
     holds-cell : cell-of 12 (part img (512 * p) 512) ≡ X .page p
     holds-cell = ap (cell-of 12) holds-page ∙ h .sized-kept p (w .least) (w .below) .again
@@ -74,39 +79,35 @@ put-kept X p c k q old = pick (eqb q p)
     pick true = k
     pick false = old
 
-put-here : (p : ℕ) (c : Cell) (X : Image) → put p c X .page p ≡ c
-unfolding put
-put-here p c X = ap (λ b. cond b c (X .page p)) (eq-eqb p p refl)
-
-put-there : (p : ℕ) (c : Cell) (X : Image) (q : ℕ) → (q ≡ p → ⊥) → X .page q ≡ put p c X .page q
-unfolding put
-put-there p c X q d = sym (ap (λ b. cond b c (X .page q)) (ne-eqb q p d))
-
-put-head-same : (p : ℕ) (c : Cell) (X : Image) → X .head ≡ put p c X .head
-unfolding put
-put-head-same p c X = refl
+pub put-bytes : (half : ℕ) → 1 ≤ half → (X : Image) (p : ℕ) (c : Cell) → ((q : ℕ) → 1 ≤ q → q < X .head .pages → Kept half (X .page q))
+    → length (cell-bytes half c) ≡ page-size half → 1 ≤ p → p < X .head .pages
+    → patch (image-bytes half X) (page-size half * p) (cell-bytes half c) ≡ image-bytes half (put p c X)
+put-bytes half some X p c kept sized l b =
+    let here : put p c X .page p ≡ c = put-at p c X in
+    ap (λ d. patch (image-bytes half X) (page-size half * p) (cell-bytes half d)) (sym here)
+    ∙ put-page half some X (put p c X) p (sym (put-head p c X)) (λ q d. sym (put-other p c X q d)) kept (ap (λ d. length (cell-bytes half d)) here ∙ sized) l b
 
 module _ {img : List ℕ} {X : Image} (h : Holds img X) where
-  pub holds-put : {p : ℕ} {after : List ℕ} (c : Cell) → Within p X → Kept 12 c → after ≡ patch img (512 * p) (cell-bytes 12 c) → Holds after (put p c X)
+  pub holds-put : {p : ℕ} {after : List ℕ} (c : Cell) → Within p X → Kept 12 c → after ≡ patch img (512 * p) (cell-bytes 12 c)
+      → Holds after (put p c X)
   unfolding put
   holds-put {p} c w k e =
-      let here : put p c X .page p ≡ c = put-here p c X in
-      let sized : length (cell-bytes 12 (put p c X .page p)) ≡ 512 = ap (λ d. length (cell-bytes 12 d)) here ∙ k .sized in
       record {
         bytes =
             e
-            ∙ (λ j. patch (h .bytes j) (512 * p) (cell-bytes 12 (sym here j)))
-            ∙ put-page 12 (omega arith) X (put p c X) p (put-head-same p c X) (put-there p c X) (h .sized-kept) sized (w .least) (w .below);
+            ∙ ap (λ l. patch l (512 * p) (cell-bytes 12 c)) (h .bytes)
+            ∙ put-bytes 12 (omega arith) X p c (h .sized-kept) (k .sized) (w .least) (w .below);
         sized-kept = λ q l b. put-kept X p c k q (h .sized-kept q l b);
         head-fits = h .head-fits;
         pages-least = h .pages-least;
         pages-most = h .pages-most;
       }
 
-  pub holds-with-head : {after : List ℕ} (head : Head) → Same-pages head X → Head-fits head → after ≡ patch img 0 (head-bytes 12 head) → Holds after (with-head head X)
+  pub holds-with-head : {after : List ℕ} (head : Head) → Same-pages head X → Head-fits head → after ≡ patch img 0 (head-bytes 12 head)
+      → Holds after (with-head head X)
   holds-with-head head s fits e =
       record {
-        bytes = e ∙ ap (λ l. patch l 0 (head-bytes 12 head)) (h .bytes) ∙ put-head 12 (omega arith) X head (s .pages);
+        bytes = e ∙ ap (λ l. patch l 0 (head-bytes 12 head)) (h .bytes) ∙ put-head-bytes 12 (omega arith) X head (s .pages);
         sized-kept = λ q l b. h .sized-kept q l (omega (arith, s .pages));
         head-fits = fits;
         pages-least = omega (arith, s .pages, h .pages-least);

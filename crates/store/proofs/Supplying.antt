@@ -1,5 +1,5 @@
 -- What a head that was read says of the image, and what taking a page, giving one back and counting a change leave. Assumes nothing.
-use Prim.Native.Nat.{ℕ, suc, _+_, _-_, _≤_}
+use Prim.Native.Nat.{ℕ, suc, _+_, _-_, _<_}
 use mathlib.Core.Path.{_≡_, sym, ap, _∙_, subst}
 use mathlib.Core.Bool.{Bool, true, false, cond}
 use mathlib.Core.List.{List}
@@ -9,9 +9,9 @@ use lib.Dec.{eqb}
 use borrow.Author.Tests.{eq-eqb, ne-eqb}
 use Rattle.page.specs.declared.Head.{Head}
 use Rattle.image.specs.Images.{Image, Cell, free, next-in}
-use Rattle.steps.specs.Supply.{put, with-supply, spare, taken, given-back, counted}
-use Rattle.store.specs.Holding.{Holds, Some, Each, Any, with-head}
-use Rattle.store.specs.Supplying.{Free}
+use Rattle.steps.specs.Supply.{put, with-supply, spare, taken, given-back, with-root, counted}
+use Rattle.store.specs.Holding.{Holds, Some, Each, Any, Within, with-head}
+use Rattle.store.specs.Supplying.{Free, Takable}
 
 -- ---- a head that was read
 
@@ -56,6 +56,36 @@ module _ (X : Image) (e : X .head .chain ≡ 0 → ⊥) where
       let h : Head = X .head in
       let q : next ≡ next-in (X .page (h .free)) = n ∙ ap next-in (sym (f .is)) in
       λ j. with-head (cond (sym (ne-eqb (h .chain) 0 e) j) (with-supply (h .free) (h .chain) (suc (h .mark)) h) (with-supply (q j) (h .chain - 1) (h .mark) h)) X
+
+-- the page taken is one of the image's
+pub marked-below : {X : Image} → X .head .chain ≡ 0 → Takable X → X .head .mark < X .head .pages
+marked-below {X} e t = omega (arith, spare-marked X e, t .within .below)
+
+pub chained-within : {X : Image} → (X .head .chain ≡ 0 → ⊥) → Takable X → Within (X .head .free) X
+chained-within {X} e t = subst (λ p. Within p X) (sym (spare-chained X e)) (t .within)
+
+-- ---- the image keeps its pages' number
+
+module _ {q : ℕ} {X : Image} (w : Within q X) where
+  pub within-put : (p : ℕ) (c : Cell) → Within q (put p c X)
+  unfolding put
+  within-put p c = record { least = w .least; below = w .below }
+
+  pub within-taken : Within q (taken X)
+  unfolding taken with-supply
+  within-taken = pick (eqb (X .head .chain) 0)
+    where
+      pick : (b : Bool) → Within q (with-head (cond b (with-supply (X .head .free) (X .head .chain) (suc (X .head .mark)) (X .head)) (with-supply (next-in (X .page (X .head .free))) (X .head .chain - 1) (X .head .mark) (X .head))) X)
+      pick true = record { least = w .least; below = w .below }
+      pick false = record { least = w .least; below = w .below }
+
+  pub within-given : (p : ℕ) → Within q (given-back p X)
+  unfolding given-back put with-supply
+  within-given p = record { least = w .least; below = w .below }
+
+  pub within-rooted : (height p : ℕ) → Within q (with-root height p X)
+  unfolding with-root
+  within-rooted height p = record { least = w .least; below = w .below }
 
 -- ---- giving one back, and counting
 

@@ -2,6 +2,7 @@
 use Prim.Native.Nat.{ℕ, suc, _≤_, _<_, _^_}
 use mathlib.Core.Path.{_≡_}
 use Rattle.image.specs.Images.{Image, Cell, free}
+use Rattle.steps.specs.Supply.{spare}
 use Rattle.store.specs.Holding.{Within}
 
 -- a free page
@@ -9,10 +10,10 @@ pub record Free (c : Cell) : Type 0 where
   pub next : ℕ
   pub is : c ≡ free next
 
--- "Pages are taken from the chain's front, else at the high mark": there is one
+-- "Pages are taken from the chain's front, else at the high mark": the page that is taken next is one of the image's, and the chain's
+-- first is free
 pub record Takable (X : Image) : Type 0 where
-  pub marked : X .head .chain ≡ 0 → X .head .mark < X .head .pages
-  pub chained : 1 ≤ X .head .chain → Within (X .head .free) X
+  pub within : Within (spare X) X
   pub front : 1 ≤ X .head .chain → Free (X .page (X .head .free))
 
 -- "given back to the front": page p can be

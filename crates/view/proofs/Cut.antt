@@ -19,13 +19,14 @@ use Rattle.image.specs.Sound.{times}
 use Rattle.steps.specs.Supply.{put, taken, spares, pages-taken, with-supply, with-root}
 use Rattle.steps.specs.Cut.{Cutting as CuttingX, cut-leaf-entry, settled as settled-x, cut-entry, root-entry, raised, grown as grown-x, cut as cut-x}
 use Rattle.steps.specs.Change.{way, cut-names}
+use Rattle.steps.proofs.Supply.{put-head, rooted-page, rooted-height, rooted-root, taken-page}
 use Rattle.tree.specs.Tree.{Ent, Kid, Ents, bare, pages-under}
 use Rattle.tree.specs.Supply.{Supply, next-page, without-next}
 use Rattle.tree.specs.Cut.{Cutting, cut-leaf, kept, settled, cut-ent, State, root-ent, grown, cut}
 use Rattle.tree.specs.Held.{times-below, times-spare, All, all-none, all-more, held}
 use Rattle.view.specs.View.{Shows, Supplied, Shown, Once, Stocked, Full}
 use Rattle.view.proofs.Lists.{below-leaf, cond-both, map-splice, all-at, hit, hit-self, times-cons, times-append, under-zero, under-suc, below-one, below-at, below-splice}
-use Rattle.view.proofs.Moves.{leaves-shown, Frame, put-else, put-head, rooted-supplied, rooted-page, rooted-height, rooted-root, put-shows, splice-shown, lasting, put-supplied, spare-next, spare-is, taken-supplied, taken-page, taken-lasting}
+use Rattle.view.proofs.Moves.{leaves-shown, Frame, put-else, rooted-supplied, put-shows, splice-shown, lasting, put-supplied, spare-next, spare-is, taken-supplied, taken-lasting}
 use Rattle.view.proofs.Taking.{firsts, later, firsts-none, firsts-more, later-more, later-held, later-add, firsts-add, spares-are, taken-is}
 use Rattle.view.proofs.Settle.{Grew, settles}
 use Rattle.view.proofs.Stepped.{state, Steady, Stepped, steady-of, steady-then, held-is, once-is}

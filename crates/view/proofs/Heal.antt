@@ -16,6 +16,7 @@ use Rattle.image.specs.Sound.{times}
 use Rattle.steps.specs.Supply.{put, with-supply}
 use Rattle.steps.specs.Heal.{heals, short, neighbour, left-of, shrunk as shrunk-x, turn as turn-x, heal-page, heal as heal-x}
 use Rattle.steps.specs.Change.{way, turned-to, heal-names}
+use Rattle.steps.proofs.Supply.{put-head}
 use Rattle.tree.specs.Tree.{Ent, Kid, Ents, bare, pages-under}
 use Rattle.tree.specs.Supply.{Supply}
 use Rattle.tree.specs.Cut.{State, root-ent}
@@ -24,7 +25,7 @@ use Rattle.tree.specs.Heal.{Healing, turn, heal-ents, shrunk, heal}
 use Rattle.tree.specs.Held.{times-below, times-spare, all-none, all-more, held}
 use Rattle.view.specs.View.{Shows, Supplied, Shown, Once, Stocked, Full}
 use Rattle.view.proofs.Lists.{below-leaf, ent-at, cond-both, cond-one, map-splice, hit, hit-self, times-cons, times-none, times-append, under-suc, below-one, below-at, below-two, below-splice}
-use Rattle.view.proofs.Moves.{leaves-shown, put-else, put-head, put-shows, splice-shown, lasting, put-supplied}
+use Rattle.view.proofs.Moves.{leaves-shown, put-else, put-shows, splice-shown, lasting, put-supplied}
 use Rattle.view.proofs.Ways.{bare-same, from-root, entries-are, at-bare, there, has-place, stocked-on, shows-on, way-in, way-top}
 use Rattle.view.proofs.Stepped.{state, Stepped, steady-of, steady-then, held-is, once-is}
 use Rattle.view.proofs.Shrink.{Shrunk, shrinks}

@@ -13,6 +13,7 @@ use Rattle.page.specs.Entries.{splice}
 use Rattle.image.specs.Images.{Image, Cell, tree, free, next-in}
 use Rattle.image.specs.Sound.{times}
 use Rattle.steps.specs.Supply.{put, with-supply, spare, taken, given-back, with-root}
+use Rattle.steps.proofs.Supply.{put-at, put-head}
 use Rattle.tree.specs.Tree.{Ent, Kid, Ents, bare, over, pages-under}
 use Rattle.tree.specs.Supply.{Supply, next-page, without-next, with-page}
 use Rattle.tree.specs.Held.{times-below, times-spare, All, all-none, all-more}
@@ -25,17 +26,9 @@ use Rattle.view.proofs.Lists.{cond-one, all-append, all-take, all-drop,
 abbrev pub Frame : (ℕ → Cell) → (ℕ → Cell) → (ℕ → ℕ) → Type 0
 Frame pages pages′ W = (q : ℕ) → W q ≡ 0 → pages′ q ≡ pages q
 
-pub put-at : (p : ℕ) (c : Cell) (X : Image) → put p c X .page p ≡ c
-unfolding put
-put-at p c X = rw (eq-eqb p p refl)
-
 pub put-else : (p : ℕ) (c : Cell) (X : Image) → Frame (X .page) (put p c X .page) (λ q. hit q p)
 unfolding put
 put-else p c X q h = rw (hit-not q p h)
-
-pub put-head : (p : ℕ) (c : Cell) (X : Image) → put p c X .head ≡ X .head
-unfolding put
-put-head p c X = refl
 
 -- ---- what is below an entry
 
@@ -211,10 +204,6 @@ taken-supplied {X} {S} s = go (S .chain) (S .mark) s
         rw (ne-eqb (X .head .chain) 0 (λ e. omega (arith, s .length-true)))
         (record { length-true = omega (arith, s .length-true); linked = linked-next (s .linked); mark = s .mark; unused = s .unused })
 
-pub taken-page : (X : Image) → taken X .page ≡ X .page
-unfolding taken
-taken-page X = refl
-
 pub taken-lasting : (X : Image) → lasting (taken X .head) ≡ lasting (X .head)
 unfolding taken lasting with-supply
 taken-lasting X = cond-one (λ (h : Head). lasting h ≡ lasting (X .head)) (eqb (X .head .chain) 0) (λ e. refl) (λ e. refl)
@@ -246,16 +235,3 @@ given-else p X q h = put-else p (free (X .head .free)) (record { head = with-sup
 pub rooted-supplied : {X : Image} {S : Supply} (h p : ℕ) → Supplied X S → Supplied (with-root h p X) S
 unfolding with-root
 rooted-supplied h p s = record { length-true = s .length-true; linked = s .linked; mark = s .mark; unused = s .unused }
-
-module _ (h p : ℕ) (X : Image) where
-  pub rooted-page : with-root h p X .page ≡ X .page
-  unfolding with-root
-  rooted-page = refl
-
-  pub rooted-height : with-root h p X .head .height ≡ h
-  unfolding with-root
-  rooted-height = refl
-
-  pub rooted-root : with-root h p X .head .root ≡ p
-  unfolding with-root
-  rooted-root = refl

@@ -13,6 +13,7 @@ use Rattle.image.specs.Images.{Image, tree}
 use Rattle.image.specs.Sound.{times}
 use Rattle.steps.specs.Supply.{entries, put, given-back, with-root}
 use Rattle.steps.specs.Heal.{pushed as pushed-x, lowered, shrunk as shrunk-x}
+use Rattle.steps.proofs.Supply.{put-head}
 use Rattle.tree.specs.Tree.{Ent, Kid, Ents, no-ent, bare, pages-under}
 use Rattle.tree.specs.Supply.{Supply, with-page}
 use Rattle.tree.specs.Cut.{State, root-ent}
@@ -20,7 +21,7 @@ use Rattle.tree.specs.Heal.{pushed, shrunk}
 use Rattle.tree.specs.Held.{times-below, times-spare, held}
 use Rattle.view.specs.View.{Shows, Supplied, Shown}
 use Rattle.view.proofs.Lists.{ent-at, cond-both, all-at, hit, under-suc, below-only}
-use Rattle.view.proofs.Moves.{Frame, put-else, put-head, shows-move, put-shows, lasting, put-supplied, given-supplied, given-else, given-lasting, spare-given, rooted-supplied}
+use Rattle.view.proofs.Moves.{Frame, put-else, shows-move, put-shows, lasting, put-supplied, given-supplied, given-else, given-lasting, spare-given, rooted-supplied}
 use Rattle.view.proofs.Ways.{entries-are, kids-shown, at-bare}
 use Rattle.view.proofs.Stepped.{state, Steady, steady-of, held-is}
 use Rattle.view.proofs.Turn.{push-bare, push-shows, push-below}

@@ -13,13 +13,14 @@ use Rattle.image.specs.Images.{Image, tree}
 use Rattle.image.specs.Sound.{times}
 use Rattle.steps.specs.Supply.{put}
 use Rattle.steps.specs.Spread.{inside, meets, start-of, took, sent, spread-entries, spread-over, spread-page, spread as spread-x}
+use Rattle.steps.proofs.Supply.{put-head}
 use Rattle.tree.specs.Tree.{Ent, Kid, Ents, bare, pages-under}
 use Rattle.tree.specs.Cut.{State, root-ent}
 use Rattle.tree.specs.Spread.{with-ends, spread-ent, spread-ents, spread}
 use Rattle.tree.specs.Held.{times-below, All, all-none, all-more, held}
 use Rattle.view.specs.View.{Shows, Shown, Once}
 use Rattle.view.proofs.Lists.{cond-one, times-cons, times-none, times-append, under-zero, under-suc, below-cons, all-head, all-tail}
-use Rattle.view.proofs.Moves.{Frame, put-else, put-head, shows-move, all-shows, put-shows, same-shows, same-under, supplied-move}
+use Rattle.view.proofs.Moves.{Frame, put-else, shows-move, all-shows, put-shows, same-shows, same-under, supplied-move}
 use Rattle.view.proofs.Stepped.{held-is, once-is}
 use Rattle.view.proofs.Ways.{from-root, entries-are, kids-shown}
 

@@ -15,13 +15,14 @@ use Rattle.image.specs.Images.{Image, Cell, tree}
 use Rattle.image.specs.Sound.{times}
 use Rattle.steps.specs.Supply.{entries, put, given-back}
 use Rattle.steps.specs.Heal.{neighbour, left-of, pushed as pushed-x, both as both-x, give as give-x, merge as merge-x, turn as turn-x}
+use Rattle.steps.proofs.Supply.{put-head}
 use Rattle.tree.specs.Tree.{Ent, Kid, Ents, no-ent, bare, pages-under}
 use Rattle.tree.specs.Supply.{Supply, with-page}
 use Rattle.tree.specs.Heal.{Healing, push-ents, pushed, both, emptied, give, merge, turn}
 use Rattle.tree.specs.Held.{times-below, times-spare, All, all-none, all-more}
 use Rattle.view.specs.View.{Shows, Supplied}
 use Rattle.view.proofs.Lists.{ent-at, cond-both, map-append, map-take, map-drop, map-splice, splice-two, only-first, all-append, all-take, all-drop, all-at, hit, under-suc, below-none, below-cons, below-one, below-append, below-halves, below-two, below-spliced}
-use Rattle.view.proofs.Moves.{Frame, put-else, put-head, shows-move, all-shows, put-shows, same-shows, same-under, lasting, put-supplied, given-supplied, given-else, given-lasting, spare-given}
+use Rattle.view.proofs.Moves.{Frame, put-else, shows-move, all-shows, put-shows, same-shows, same-under, lasting, put-supplied, given-supplied, given-else, given-lasting, spare-given}
 use Rattle.view.proofs.Ways.{entries-are, kids-shown, at-bare}
 
 -- What a heal does to a page and the pages below it, W those that may be written. If one entry is left, its page is one of them.

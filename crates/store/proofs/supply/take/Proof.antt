@@ -6,7 +6,7 @@ use native.Mathlib.Omega.{arith}
 use Rattle.steps.specs.Supply.{with-supply, spare, taken}
 use Rattle.store.specs.Holding.{Holds, Within}
 use Rattle.store.specs.Supplying.{Takable}
-use Rattle.store.proofs.Supplying.{by-head, Headed, some-headed, spare-marked, taken-marked, spare-chained, taken-chained}
+use Rattle.store.proofs.Supplying.{by-head, Headed, some-headed, spare-marked, taken-marked, spare-chained, taken-chained, marked-below, chained-within}
 use Rattle.store.proofs.supply.take.Statement.{statement}
 use Rattle.store.proofs.supply.take.Tie as tie
 
@@ -16,7 +16,7 @@ headed c = some-headed (c .before .before .before .pre) (c .head-of .ensures)
 add-h : tie.Need-add-h
 add-h c =
     let k = headed (c .before .before) in
-    omega (arith, k .ready .marked (c .if1 .taken), k .holds .pages-most)
+    omega (arith, marked-below (c .if1 .taken) (k .ready), k .holds .pages-most)
 
 returns : tie.Need-returns
 unfolding with-supply
@@ -31,7 +31,7 @@ returns c X h r =
 next-free-requires : tie.Need-next-free-requires
 next-free-requires c κs =
     let k = headed (c .before .before .before) in
-    record { image = _; holds = k .holds; ready = k .ready .chained (omega (arith, c .before .if1 .left)) }
+    record { image = _; holds = k .holds; ready = chained-within (c .before .if1 .left) (k .ready) }
 
 returns-2 : tie.Need-returns-2
 unfolding with-supply
@@ -45,7 +45,7 @@ returns-2 c X h r =
     (λ k t.
     let some : 1 ≤ read .head-of .result .chain = omega (arith, else .if1 .left) in (
       spare-chained _ (else .if1 .left),
-      subst (Holds _) (taken-chained _ (else .if1 .left) (t .front some) (next .next-free .ensures _ k (t .chained some) _ (t .front some .is)))
+      subst (Holds _) (taken-chained _ (else .if1 .left) (t .front some) (next .next-free .ensures _ k (chained-within (else .if1 .left) t) _ (t .front some .is)))
           (set .set-head2 .ensures _ k (record { pages = refl })),
     ))
     h r
