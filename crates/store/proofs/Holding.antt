@@ -8,28 +8,39 @@ use native.Mathlib.Omega.{arith}
 use lib.Dec.{eqb}
 use lib.ListN.{length}
 use Rattle.fields.specs.Bytes.{part, patch}
+use Rattle.fields.proofs.Laws.Parts.{length-part}
 use Rattle.page.specs.declared.Entry.{Entry}
 use Rattle.page.specs.declared.Head.{Head}
 use Rattle.page.specs.declared.Page.{Page}
-use Rattle.page.specs.Layout.{page-size, level-of, number-of, entries-of, next-of, head-of, head-bytes, tree-bytes}
+use Rattle.page.specs.Entries.{at}
+use Rattle.page.specs.Layout.{page-size, level-of, number-of, start-at, entry-at, entries-of, next-of, head-of, head-bytes, tree-bytes}
 use Rattle.page.specs.Decoded.{Read}
 use Rattle.page.specs.Widths.{Head-fits}
 use Rattle.page.proofs.Laws.Heads.{head-of-head}
-use Rattle.page.proofs.Laws.Trees.{length-entries-of, number-of-tree}
+use Rattle.page.proofs.Laws.Trees.{length-entries-of, at-entries-of, number-of-tree}
 use Rattle.image.specs.Images.{Image, Cell, tree, free, page-at, cell-of, cell-bytes, image-bytes, Kept}
 use Rattle.image.proofs.Cells.{tree-cell, free-cell}
 use Rattle.image.proofs.Written.{length-of-written, head-written, page-of-written}
 use Rattle.image.proofs.Puts.{put-page, put-head as put-head-bytes}
-use Rattle.steps.specs.Supply.{put}
+use Rattle.steps.specs.Supply.{put, entries}
 use Rattle.steps.proofs.Supply.{put-at, put-other, put-head}
 use Rattle.edit.specs.Shows.{Shows}
+use Rattle.lookup.specs.Levels.{Searched}
 use Rattle.store.specs.Holding.{Holds, Some, Within, Loaded, Same-pages, with-head}
+use Rattle.store.specs.Places.{Sought}
 
 -- ---- what the bytes are
 
 tree-written : {c : Cell} {l : ℕ} {es : List Entry} → c ≡ tree l es → cell-bytes 12 c ≡ tree-bytes 12 l es
 unfolding cell-bytes
 tree-written e = ap (cell-bytes 12) e
+
+-- the page's bytes are those of a tree page
+pub record Tree-read (s : List ℕ) (l : ℕ) (es : List Entry) : Type 0 where
+  pub level : level-of s ≡ l
+  pub entries : entries-of 12 s ≡ es
+  pub number : number-of s ≡ length es
+  pub few : length es ≤ 24
 
 module _ {img : List ℕ} {X : Image} (h : Holds img X) where
   pub holds-length : length img ≡ 512 * X .head .pages
@@ -55,16 +66,22 @@ module _ {img : List ℕ} {X : Image} (h : Holds img X) where
     pub holds-next : {next : ℕ} → X .page p ≡ free next → next-of (part img (512 * p) 512) ≡ next
     holds-next e = free-cell 12 (part img (512 * p) 512) (holds-cell ∙ e)
 
-    pub holds-tree : {l : ℕ} {es : List Entry} {r : Page} → X .page p ≡ tree l es → Read r (part img (512 * p) 512) → Loaded l es r
-    holds-tree {l} {es} {r} e read =
-        let s : List ℕ = part img (512 * p) 512 in
-        let c : (level-of s ≡ l) × (entries-of 12 s ≡ es) = tree-cell 12 s (holds-cell ∙ e) in
-        let size : length es ≡ min (number-of s) 24 = ap length (sym (c .1)) ∙ length-entries-of 12 s in
-        let n : number-of s ≡ length es = ap number-of (holds-page ∙ tree-written e) ∙ number-of-tree 12 l es (omega arith) (omega arith) in
-        record {
-          shows = record { level = read .level ∙ c .0; entries = read .entries (omega arith) ∙ c .1 };
-          few = omega (arith, read .number);
-        }
+    module _ {l : ℕ} {es : List Entry} (e : X .page p ≡ tree l es) where
+      pub holds-entries : Tree-read (part img (512 * p) 512) l es
+      holds-entries =
+          let s : List ℕ = part img (512 * p) 512 in
+          let c : (level-of s ≡ l) × (entries-of 12 s ≡ es) = tree-cell 12 s (holds-cell ∙ e) in
+          let size : length es ≡ min (number-of s) 24 = ap length (sym (c .1)) ∙ length-entries-of 12 s in
+          let n : number-of s ≡ length es = ap number-of (holds-page ∙ tree-written e) ∙ number-of-tree 12 l es (omega arith) (omega arith) in
+          record { level = c .0; entries = c .1; number = n; few = omega arith }
+
+      pub holds-tree : {r : Page} → Read r (part img (512 * p) 512) → Loaded l es r
+      holds-tree read =
+          let b = holds-entries in
+          record {
+            shows = record { level = read .level ∙ b .level; entries = read .entries (omega (arith, b .number, b .few)) ∙ b .entries };
+            few = omega (arith, read .number, b .number, b .few);
+          }
 
 pub some-long : {img : List ℕ} {p : ℕ} → Some img (Within p) → 512 * p + 512 ≤ length img
 some-long s = omega (arith, holds-length (s .holds), s .ready .below)
@@ -112,4 +129,41 @@ module _ {img : List ℕ} {X : Image} (h : Holds img X) where
         head-fits = fits;
         pages-least = omega (arith, s .pages, h .pages-least);
         pages-most = omega (arith, s .pages, h .pages-most);
+      }
+
+-- ---- a page that is searched
+
+module _ {img : List ℕ} {X : Image} {p t : ℕ} (h : Holds img X) (k : Sought p t X) where
+  -- its bytes, its entries
+  sought-read : Tree-read (page-at 12 img p) (k .level) (entries X p)
+  unfolding page-at
+  sought-read = holds-entries h (k .within) (k .page)
+
+  pub sought-entries : entries-of 12 (page-at 12 img p) ≡ entries X p
+  sought-entries = sought-read .entries
+
+  sought-start : (i : ℕ) → i < length (entries X p) → start-at (page-at 12 img p) i ≡ at (entries X p) i .start
+  unfolding entry-at
+  sought-start i l =
+      let s : List ℕ = page-at 12 img p in
+      let r = sought-read in
+      ap (λ (e : Entry). e .start) (sym (at-entries-of 12 s i (omega (arith, r .number)) (omega (arith, r .few))) ∙ ap (λ es. at es i) (r .entries))
+
+  pub sought-within : 512 * p + 512 ≤ length img
+  sought-within = omega (arith, holds-length h, k .within .below)
+
+  pub sought-length : length (page-at 12 img p) ≡ 512
+  unfolding page-at
+  sought-length = length-part img (512 * p) 512 sought-within
+
+  pub sought-searched : {n : ℕ} → n ≡ number-of (page-at 12 img p) → Searched (page-at 12 img p) n t
+  sought-searched {n} e =
+      let r = sought-read in
+      record {
+        compared = record { size = sought-length; number = e; some = omega (arith, r .number, k .some); most = omega (arith, r .number, r .few) };
+        rising =
+            λ i l.
+            let m : suc i < length (entries X p) = omega (arith, r .number) in
+            omega (arith, sought-start i (omega arith), sought-start (suc i) m, k .rising i m);
+        first = omega (arith, sought-start 0 (k .some), k .first);
       }

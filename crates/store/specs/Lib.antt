@@ -1,2 +1,3 @@
 pub mod Holding
 pub mod Supplying
+pub mod Places

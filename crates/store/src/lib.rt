@@ -3,5 +3,6 @@
 // Each contract is over every image that the bytes hold (specs/Holding.antt).
 pub mod heads;
 pub mod pages;
+pub mod places;
 pub mod root;
 pub mod supply;
