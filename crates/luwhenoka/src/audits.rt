@@ -2,13 +2,12 @@
 use audit::verdict::sound;
 use fields::fill::fill;
 use lent::lengths::length_fits;
-ghost use mathlib.Core.Path.{_≡_};
-ghost use Rattle.calls.specs.Calls.{audit};
+ghost use Rattle.luwhenoka.specs.Promises.{Audits};
 
 // 0 exactly for a sound image. The order is 16, 17, 21. The pages are counted and not marked, so the scratch is only cleared.
 #[no_mangle]
 pub extern "C" fn luw_audit(img: &[u8], scratch: &mut [u8]) -> u32
-    ensures { λ r. ⌜ record { number = r; scratch = now (scratch .exit) } ≡ audit 12 (now (img .entry)) (now (scratch .entry)) ⌝ }
+    ensures { λ r. ⌜ Audits (now (img .entry)) (now (scratch .entry)) r (now (scratch .exit)) ⌝ }
 {
     if !length_fits(img) {
         return 16;

@@ -8,10 +8,10 @@ use rule::Pair;
 use rule::averages::average;
 ghost use mathlib.Core.Path.{_≡_};
 ghost use mathlib.Core.Bool.{true};
-ghost use Rattle.rule.specs.Averages.{average};
 ghost use Rattle.image.specs.Images.{length-ok};
-ghost use Rattle.calls.specs.Calls.{head, average-at};
-ghost use Rattle.luwhenoka.specs.Answers.{average-answer, averaged-answer};
+ghost use Rattle.calls.specs.Calls.{head};
+ghost use Rattle.luwhenoka.specs.Answers.{average-answer};
+ghost use Rattle.luwhenoka.specs.Promises.{Averages, Averages-of};
 
 // The cases of an average as numbers.
 fn in_numbers(a: Average) -> AverageAnswer
@@ -39,7 +39,7 @@ fn in_numbers(a: Average) -> AverageAnswer
 // The average of a kind's sum and count: as the program prints it for each run of a listing.
 #[no_mangle]
 pub extern "C" fn luw_average_of(kind: u32, sum: i64, count: i32) -> AverageAnswer
-    ensures { λ r. ⌜ r ≡ average-answer 0 (average kind (record { sum = sum; count = count })) ⌝ }
+    ensures { λ r. ⌜ Averages-of kind sum count r ⌝ }
 {
     in_numbers(average(
         kind,
@@ -61,7 +61,7 @@ fn kind_of(img: &[u8]) -> u32
 // "The average's pair is taken by an instant call": its refusals are that call's, and none is an average.
 #[no_mangle]
 pub extern "C" fn luw_average(img: &[u8], t: u32) -> AverageAnswer
-    ensures { λ r. ⌜ r ≡ averaged-answer (average-at 12 t (now (img .entry))) ⌝ }
+    ensures { λ r. ⌜ Averages t (now (img .entry)) r ⌝ }
 {
     let r = luw_instant(img, t);
     if r.number == 0 {

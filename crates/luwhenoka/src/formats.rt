@@ -3,13 +3,12 @@ use format::fresh::write_fresh;
 use lent::lengths::length_fits;
 use rule::time::kind_ok;
 use rule::time::window_ok;
-ghost use mathlib.Core.Path.{_≡_};
-ghost use Rattle.calls.specs.Calls.{format};
+ghost use Rattle.luwhenoka.specs.Promises.{Formats};
 
 // "Format leaves height 1, changes 0, high mark 2, no chain and root 1, a leaf with entry 0, (0, 0)." The order is 16, 14.
 #[no_mangle]
 pub extern "C" fn luw_format(img: &mut [u8], kind: u32, window: u32) -> u32
-    ensures { λ r. ⌜ record { number = r; image = now (img .exit) } ≡ format 12 kind window (now (img .entry)) ⌝ }
+    ensures { λ r. ⌜ Formats kind window (now (img .entry)) r (now (img .exit)) ⌝ }
 {
     if !length_fits(img) {
         return 16;

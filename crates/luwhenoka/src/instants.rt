@@ -7,13 +7,9 @@ use lookup::Looked;
 use lookup::look_up::look_up;
 use rule::Pair;
 ghost use mathlib.Core.Path.{_≡_};
-ghost use mathlib.Core.Bool.{true};
-ghost use Prim.Native.Nat.{_<_};
-ghost use Rattle.rule.specs.Time.{END};
 ghost use Rattle.rule.specs.Pairs.{none};
-ghost use Rattle.image.specs.Images.{length-ok};
-ghost use Rattle.calls.specs.Calls.{instant};
 ghost use Rattle.luwhenoka.specs.Answers.{instant-answer};
+ghost use Rattle.luwhenoka.specs.Promises.{Answers};
 
 // "A refusal returns its number and zeros (instant: the pages read too)."
 fn refused(number: u32, pages: u32) -> InstantAnswer
@@ -41,7 +37,7 @@ fn accepted(pair: Pair, pages: u32) -> InstantAnswer
 // The pair at t, and how many tree pages were read. The order is 16, 12, 21.
 #[no_mangle]
 pub extern "C" fn luw_instant(img: &[u8], t: u32) -> InstantAnswer
-    ensures { λ r. ⌜ r ≡ instant-answer (instant 12 t (now (img .entry))) ⌝ }
+    ensures { λ r. ⌜ Answers t (now (img .entry)) r ⌝ }
 {
     if !length_fits(img) {
         return refused(16, 0);

@@ -7,8 +7,7 @@ use listing::Counted;
 use listing::passes::count_runs;
 use listing::passes::write_runs;
 ghost use mathlib.Core.Path.{_≡_};
-ghost use Rattle.calls.specs.Calls.{listing};
-ghost use Rattle.luwhenoka.specs.Answers.{listed};
+ghost use Rattle.luwhenoka.specs.Promises.{Lists};
 
 fn refused(number: u32) -> ListingAnswer
     ensures { λ r. ⌜ r ≡ record { number = number; runs = 0 } ⌝ }
@@ -23,7 +22,7 @@ fn refused(number: u32) -> ListingAnswer
 // written before all four are passed.
 #[no_mangle]
 pub extern "C" fn luw_listing(img: &[u8], a: u32, b: u32, out: &mut [u8]) -> ListingAnswer
-    ensures { λ r. ⌜ listed r (now (out .exit)) ≡ listing 12 a b (now (img .entry)) (now (out .entry)) ⌝ }
+    ensures { λ r. ⌜ Lists a b (now (img .entry)) (now (out .entry)) r (now (out .exit)) ⌝ }
 {
     if !length_fits(img) {
         return refused(16);

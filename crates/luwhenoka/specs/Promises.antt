@@ -1,0 +1,36 @@
+-- What each call promises, by name: the contracts of the functions that C gets are these, and the demands are proved of them.
+-- Each says of a call which definition its number, its answer and every byte that it was lent are equal to. Assumes nothing.
+use Prim.Native.Nat.{ℕ}
+use mathlib.Core.Path.{_≡_}
+use mathlib.Core.List.{List}
+use lib.IntN.{ℤ}
+use Rattle.rule.specs.Averages.{average}
+use Rattle.calls.specs.Calls.{format, instant, average-at, listing, audit}
+use Rattle.luwhenoka.specs.declared.InstantAnswer.{InstantAnswer}
+use Rattle.luwhenoka.specs.declared.AverageAnswer.{AverageAnswer}
+use Rattle.luwhenoka.specs.declared.ListingAnswer.{ListingAnswer}
+use Rattle.luwhenoka.specs.Answers.{instant-answer, average-answer, averaged-answer, listed}
+
+-- format of an image returned r and left it as `after`
+abbrev pub Formats : ℕ → ℕ → List ℕ → ℕ → List ℕ → Type 0
+Formats kind window img r after = record { number = r; image = after } ≡ format 12 kind window img
+
+-- instant
+abbrev pub Answers : ℕ → List ℕ → InstantAnswer → Type 0
+Answers t img r = r ≡ instant-answer (instant 12 t img)
+
+-- average at an instant
+abbrev pub Averages : ℕ → List ℕ → AverageAnswer → Type 0
+Averages t img r = r ≡ averaged-answer (average-at 12 t img)
+
+-- the average of a kind's sum and count
+abbrev pub Averages-of : ℕ → ℤ → ℤ → AverageAnswer → Type 0
+Averages-of kind sum count r = r ≡ average-answer 0 (average kind (record { sum = sum; count = count }))
+
+-- span listing, with the output before and after
+abbrev pub Lists : ℕ → ℕ → List ℕ → List ℕ → ListingAnswer → List ℕ → Type 0
+Lists a b img out r after = listed r after ≡ listing 12 a b img out
+
+-- audit, with the scratch before and after
+abbrev pub Audits : List ℕ → List ℕ → ℕ → List ℕ → Type 0
+Audits img scratch r after = record { number = r; scratch = after } ≡ audit 12 img scratch
