@@ -10,10 +10,12 @@ ghost use Rattle.luwhenoka.specs.Promises.{Formats};
 pub extern "C" fn luw_format(img: &mut [u8], kind: u32, window: u32) -> u32
     ensures { λ r. ⌜ Formats kind window (now (img .entry)) r (now (img .exit)) ⌝ }
 {
-    if !length_fits(img) {
+    let fits = length_fits(img);
+    let named = kind_ok(kind) & window_ok(window);
+    if !fits {
         return 16;
     }
-    if !(kind_ok(kind) & window_ok(window)) {
+    if !named {
         return 14;
     }
     write_fresh(img, kind, window);

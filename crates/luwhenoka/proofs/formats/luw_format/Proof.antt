@@ -9,37 +9,37 @@ use Rattle.luwhenoka.proofs.Laws.Formats.{format-16, format-14, format-
 use Rattle.luwhenoka.proofs.formats.luw_format.Statement.{statement}
 use Rattle.luwhenoka.proofs.formats.luw_format.Tie as tie
 
-fits : (c : tie.Else1) → length-ok 12 (c .before .before .before .before .args .img .now) ≡ true
-fits c = sym (c .before .length-fits .ensures) ∙ not-false _ (c .if1 .left)
+fits : (c : tie.Else1) → length-ok 12 (c .before .before .before .before .before .before .args .img .now) ≡ true
+fits c = sym (c .before .before .before .length-fits .ensures) ∙ not-false _ (c .if1 .left)
 
 -- the two tests of kind and window, as one
-named : (c : tie.After-window-ok) → (kind-ok (c .before .before .before .before .before .before .args .kind) && window-ok (c .before .before .before .before .before .before .args .window)) ≡ (c .before .kind-ok .result && c .window-ok .result)
+named : (c : tie.After-window-ok) → (kind-ok (c .before .before .before .before .before .args .kind) && window-ok (c .before .before .before .before .before .args .window)) ≡ (c .before .kind-ok .result && c .window-ok .result)
 named c = λ j. sym (c .before .kind-ok .ensures) j && sym (c .window-ok .ensures) j
 
 returns : tie.Need-returns
-returns c = format-16 _ _ _ (sym (c .before .length-fits .ensures) ∙ not-true _ (c .if1 .taken))
+returns c = format-16 _ _ _ (sym (c .before .before .before .length-fits .ensures) ∙ not-true _ (c .if1 .taken))
 
 returns-2 : tie.Need-returns-2
-returns-2 c = format-14 _ _ _ (fits (c .before .before .before)) (named (c .before) ∙ not-true _ (c .if2 .taken))
+returns-2 c = format-14 _ _ _ (fits (c .before)) (named (c .before .before) ∙ not-true _ (c .if2 .taken))
 
 returns-3 : tie.Need-returns-3
 returns-3 c =
     let wrote = c .before .before in
     let test = wrote .before .before in
     ap (λ s. record { number = 0; image = s }) (wrote .write-fresh .ensures)
-    ∙ format-0 _ _ _ (fits (test .before .before .before)) (named (test .before) ∙ not-false _ (test .if2 .left))
+    ∙ format-0 _ _ _ (fits (test .before)) (named (test .before .before) ∙ not-false _ (test .if2 .left))
 
 pub luw-format-spec : {M : Type 1} → statement M
 luw-format-spec =
     tie.close
     (tie.spec
     (λ c κs. search needs)
+    (λ c κs. search needs)
+    (λ c κs. search needs)
     (λ c. search needs)
     returns
-    (λ c κs. search needs)
-    (λ c κs. search needs)
     (λ c. search needs)
     returns-2
-    (λ c κs. fits (c .before .before .before .before))
+    (λ c κs. fits (c .before .before))
     (λ c. search needs)
     returns-3)
