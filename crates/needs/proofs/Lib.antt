@@ -1,0 +1,5 @@
+pub mod Rows
+pub mod Counts
+pub mod Twice
+pub mod Roots
+pub mod Needed
