@@ -7,7 +7,8 @@ use native.Mathlib.Omega.{arith}
 use lib.Dec.{eqb, leb}
 use lib.ListN.{length, getD, length-append, length-take, length-drop}
 use lib.Seq.{getD-append-seam}
-use borrow.Author.Tests.{eqb-true, eqb-false, leb-false, le-leb, lt-leb}
+use borrow.Author.Tests.{eqb-true, eqb-false, eq-eqb, ne-eqb, leb-false, le-leb, lt-leb}
+use Rattle.page.specs.declared.Entry.{Entry}
 use Rattle.page.specs.Layout.{capacity}
 use Rattle.page.specs.Entries.{entry, place, splice}
 use Rattle.tree.specs.Tree.{Ent, Kid, Ents, no-ent, bare}
@@ -38,7 +39,16 @@ both-in half s t (suc l) x =
     (cond (eqb (place s (bare (x .kid))) (place t (bare (x .kid)))) (both-in half s t l (there l s (x .kid)))
     (together (one-in half s l (there l s (x .kid))) (one-in half t l (there l t (x .kid)))))
 
--- ---- a page's part of the count
+-- ---- a leaf entry's part of the count, and a page's
+
+module _ (t : ℕ) (e : Entry) where
+  pub leaf-starts : e .start ≡ t → leaf-need t e ≡ need 0 0
+  unfolding leaf-need
+  leaf-starts h = rw (eq-eqb (e .start) t h)
+
+  pub leaf-divides : ¬ (e .start ≡ t) → leaf-need t e ≡ need 1 0
+  unfolding leaf-need
+  leaf-divides h = rw (ne-eqb (e .start) t h)
 
 module _ (half n : ℕ) (m : Need) where
   pub settle-few : n + m .adds ≤ capacity half → settle half n m ≡ need 0 (m .pages)

@@ -3,3 +3,5 @@ pub mod Counts
 pub mod Twice
 pub mod Roots
 pub mod Needed
+pub mod Below
+pub mod Opening

@@ -35,7 +35,7 @@ use Rattle.view.proofs.Formed.{formed-full}
 use Rattle.state.specs.Good.{Good}
 use Rattle.state.proofs.From.Good.{sound-good}
 use Rattle.needs.specs.declared.Need.{Need}
-use Rattle.needs.specs.Needs.{together, settle, one, both, with-new-root, pages-needed}
+use Rattle.needs.specs.Needs.{together, settle, one, apart, both, asked, with-new-root, pages-needed}
 use Rattle.needs.proofs.Counts.{one-in, both-in}
 use Rattle.needs.proofs.Roots.{one-from, both-from, cuts-take, cuts-take-first}
 
@@ -71,7 +71,7 @@ module _ (half : ℕ) (X : Image) where
       ap (λ e. one half s l e X) (at-bare l (x .kid) i) ∙ one-shown s l y (shows-on l s x st X sh) (stocked-on l s x st) in
       let c : one half t l (at (bare (x .kid)) j) X ≡ one-in half t l z =
       ap (λ e. one half t l e X) (at-bare l (x .kid) j) ∙ one-shown t l z (shows-on l t x st X sh) (stocked-on l t x st) in
-      page-same l x (λ es. cond (eqb (place s es) (place t es)) (both half s t l (at es (place s es)) X) (together (one half s l (at es (place s es)) X) (one half t l (at es (place t es)) X))) sh
+      page-same l x (λ es. cond (eqb (place s es) (place t es)) (both half s t l (at es (place s es)) X) (apart half s t l (at es (place s es)) (at es (place t es)) X)) sh
       ∙ (ap (λ n. settle half (length (x .kid)) (cond (eqb i j) n (together (one half s l (at (bare (x .kid)) i) X) (one half t l (at (bare (x .kid)) j) X)))) a
       ∙ (ap (λ n. settle half (length (x .kid)) (cond (eqb i j) (both-in half s t l y) (together n (one half t l (at (bare (x .kid)) j) X)))) b
       ∙ ap (λ n. settle half (length (x .kid)) (cond (eqb i j) (both-in half s t l y) (together (one-in half s l y) n))) c))
@@ -101,14 +101,14 @@ module _ {half : ℕ} (two : 2 ≤ half) {B : Asked (Kid 0)} (cutting : Cuttable
   takes k same = taken-is k (sh .supplied) (subst (λ R. Supplied (cuts half s e X) R) same (cuts-shown .supplied))
 
   needed-both : e < END → pages-needed half s e X ≡ pages-taken X (cuts half s e X)
-  unfolding pages-needed Full
+  unfolding pages-needed asked Full
   needed-both low =
       rw (lt-leb END e low)
       (ap with-new-root (at-root sh (λ l r. both half s e l r X) ∙ both-shown half X s e (suc (Y .tree .level)) (root-ent (Y .tree)) (sh .below) full)
       ∙ sym (takes (with-new-root (both-from half s e (Y .tree))) (cuts-take two cutting s e lt Y F low)))
 
   needed-first : END ≤ e → pages-needed half s e X ≡ pages-taken X (cuts half s e X)
-  unfolding pages-needed Full
+  unfolding pages-needed asked Full
   needed-first high =
       rw (le-leb END e high)
       (ap with-new-root (at-root sh (λ l r. one half s l r X) ∙ one-shown half X s (suc (Y .tree .level)) (root-ent (Y .tree)) (sh .below) full)

@@ -10,7 +10,6 @@ use lib.Dec.{eqb, leb}
 use lib.ListN.{length, getD, take, drop, length-take, length-drop}
 use lib.Seq.{getD-append-seam}
 use borrow.Author.Tests.{eqb-false, eq-eqb, ne-eqb, leb-true, leb-false}
-use Rattle.page.specs.declared.Entry.{Entry}
 use Rattle.page.specs.Layout.{capacity}
 use Rattle.page.specs.Entries.{entry, at, place, splice}
 use Rattle.tree.specs.Tree.{Ent, Kid, Ents, no-ent, bare, ent-of}
@@ -24,7 +23,7 @@ use Rattle.view.proofs.Ways.{there}
 use Rattle.needs.specs.declared.Need.{Need}
 use Rattle.needs.specs.Needs.{need, together, leaf-need, settle}
 use Rattle.needs.proofs.Rows.{Row, Owned, before, behind, there-is, owned, place-at}
-use Rattle.needs.proofs.Counts.{one-in, both-in, settle-few, settle-over, one-adds, ents-after, gained, one-cut}
+use Rattle.needs.proofs.Counts.{one-in, both-in, leaf-divides, settle-few, settle-over, one-adds, ents-after, gained, one-cut}
 
 -- ---- a page that the first cut leaves whole
 
@@ -175,10 +174,6 @@ module _ (half s e l : ℕ) (lt : s < e) {Q : Asked (Kid l)} (zs : Ent (Kid l) �
 
 -- ---- the two cuts
 
-leaf-later : (t : ℕ) (x : Entry) → x .start < t → leaf-need t x ≡ need 1 0
-unfolding leaf-need
-leaf-later t x h = rw (ne-eqb (x .start) t (λ e. omega arith))
-
 module _ (half : ℕ) (two : 2 ≤ half) (s e : ℕ) (lt : s < e) (B : Asked (Kid 0)) where
   abbrev Twice : (l : ℕ) → Ent (Kid l) → Supply → Type 0
   Twice l x S = together (one-in half s l x) (one-in half e l (there l e (cut-ent half s l x S .became))) ≡ both-in half s e l x
@@ -199,7 +194,7 @@ module _ (half : ℕ) (two : 2 ≤ half) (s e : ℕ) (lt : s < e) (B : Asked (Ki
           let l : x .entry .start < s = omega (arith, eqb-false (x .entry .start) s f) in
           ap (λ (v : Ent (Kid 0)). together (leaf-need s (x .entry)) (leaf-need e (v .entry)))
           (there-is 0 e {v = y} (more refl l (λ m n. absurd (omega arith)) (seg-one {lo = s} {hi = suc e} refl (omega arith) (λ m n. refl))) (omega arith) (omega arith))
-          ∙ ap (together (leaf-need s (x .entry))) (leaf-later e (y .entry) lt ∙ sym (leaf-later e (x .entry) (omega arith)))
+          ∙ ap (together (leaf-need s (x .entry))) (leaf-divides e (y .entry) (λ h. omega arith) ∙ sym (leaf-divides e (x .entry) (λ h. omega arith)))
 
   pub page-both : (l : ℕ) {lo hi : ℕ} (S : Supply) → lo ≤ s → e < hi
       → ((a b : ℕ) (y : Ent (Kid l)) → y .entry .start ≡ a → a ≤ s → e < b → Shaped half B l a b y → Twice l y S)

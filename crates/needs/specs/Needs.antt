@@ -37,6 +37,10 @@ one half t (suc l) e X =
     let es = entries X (e .child) in
     settle half (length es) (one half t l (at es (place t es)) X)
 
+-- Two entries, one that only the cut at s meets and one that only that at t does.
+abbrev pub apart : ℕ → ℕ → ℕ → ℕ → Entry → Entry → Image → Need
+apart half s t l x y X = together (one half s l x X) (one half t l y X)
+
 -- An entry that the cuts at s and at t meet both: they go on to the same entry of its page, or part there.
 unfoldable pub both : ℕ → ℕ → ℕ → ℕ → Entry → Image → Need
 both half s t zero e X = together (leaf-need s e) (leaf-need t e)
@@ -45,15 +49,18 @@ both half s t (suc l) e X =
     let i = place s es in
     let j = place t es in
     settle half (length es)
-    (cond (eqb i j) (both half s t l (at es i) X) (together (one half s l (at es i) X) (one half t l (at es j) X)))
+    (cond (eqb i j) (both half s t l (at es i) X) (apart half s t l (at es i) (at es j) X))
+
+-- from the root; "nothing if t is END"
+unfoldable pub asked : ℕ → ℕ → ℕ → Image → Need
+asked half s e X =
+    let l = X .head .height in
+    let r = root-entry X in
+    cond (leb END e) (one half s l r X) (both half s e l r X)
 
 -- "A split root gets a new root", one page more.
 unfoldable pub with-new-root : Need → ℕ
 with-new-root n = n .adds + n .pages
 
--- from the root; "nothing if t is END"
 unfoldable pub pages-needed : ℕ → ℕ → ℕ → Image → ℕ
-pages-needed half s e X =
-    let l = X .head .height in
-    let r = root-entry X in
-    with-new-root (cond (leb END e) (one half s l r X) (both half s e l r X))
+pages-needed half s e X = with-new-root (asked half s e X)

@@ -1,0 +1,265 @@
+-- From an entry of a sound image to the page below: what may be read there, and where the count goes on. Assumes nothing.
+use Prim.Native.Nat.{ℕ, zero, suc, _+_, _*_, _-_, _≤_, _<_}
+use mathlib.Core.Path.{_≡_, refl, sym, ap, _∙_, subst⁻¹}
+use mathlib.Core.Bool.{Bool, true, false, cond, and-eq-true-iff}
+use mathlib.Core.List.{List}
+use native.Mathlib.Omega.{arith}
+use lib.Dec.{eqb, leb}
+use lib.ListN.{length}
+use borrow.Author.Tests.{eq-eqb, ne-eqb}
+use Rattle.page.specs.declared.Entry.{Entry}
+use Rattle.page.specs.declared.Head.{Head}
+use Rattle.page.specs.Entries.{at as entry-in, place}
+use Rattle.page.specs.Layout.{capacity, number-of, start-at, entry-at, entries-of}
+use Rattle.page.specs.Fit.{Place, place-below, page-fit, most-height}
+use Rattle.page.proofs.Laws.Trees.{length-entries-of, at-entries-of}
+use Rattle.fit.proofs.Laws.Pages.{PageFit, page-fit-is, entry-first}
+use Rattle.image.specs.Images.{Image, entries-in, page-at, image-of}
+use Rattle.image.specs.Sound.{tree-fit}
+use Rattle.audit.specs.Walks.{In-image}
+use Rattle.audit.proofs.Bytes.{within-length}
+use Rattle.audit.proofs.Tree.{tree-parts}
+use Rattle.lookup.specs.Levels.{Searched}
+use Rattle.lookup.proofs.Laws.Finds.{place-within, place-started}
+use Rattle.lookup.proofs.Laws.Levels.{fit-searched}
+use Rattle.steps.specs.Supply.{entries}
+use Rattle.state.proofs.From.Cells.{cell-tree}
+use Rattle.needs.specs.declared.Need.{Need}
+use Rattle.needs.specs.declared.Met.{Met}
+use Rattle.needs.specs.Needs.{need, together, leaf-need, settle, one, apart, both}
+use Rattle.needs.specs.Leads.{Small, Fit-from, met-in, Leads}
+use Rattle.needs.proofs.Counts.{settle-adds}
+
+-- ---- a page
+
+top-fit : (h : Head) (img : List ℕ) (l : ℕ) (at : Place) (p : ℕ) → tree-fit 12 h img l at p ≡ true → page-fit 12 h at (page-at 12 img p) ≡ true
+unfolding tree-fit
+top-fit h img zero at p e = e
+top-fit h img (suc l) at p e = (simp and-eq-true-iff at e) .0
+
+module _ {img : List ℕ} {t l p : ℕ} (k : Fit-from img t l p) where
+  page-is-fit : PageFit 12 (k .head) (k .at) (page-at 12 img p)
+  page-is-fit = page-fit-is 12 (k .head) (k .at) (page-at 12 img p) .0 (top-fit (k .head) img l (k .at) p (k .fit))
+
+  pub within : In-image img p
+  within = record { pages = k .head .pages; size = k .size; below = k .inside }
+
+  entries-read : entries (image-of 12 img) p ≡ entries-of 12 (page-at 12 img p)
+  unfolding entries image-of entries-in
+  entries-read = ap entries-in (cell-tree 12 (page-at 12 img p) (omega (arith, page-is-fit .level, k .level, k .low)))
+
+  number-read : length (entries (image-of 12 img) p) ≡ number-of (page-at 12 img p)
+  number-read = ap length entries-read ∙ length-entries-of 12 (page-at 12 img p) ∙ omega (arith, page-is-fit .most)
+
+  module _ {s : List ℕ} (same : s ≡ page-at 12 img p) where
+    pub size-read : length s ≡ 512
+    size-read = ap length same ∙ within-length within
+
+    pub may-search : {n : ℕ} → n ≡ number-of s → Searched s n t
+    may-search e = fit-searched (subst⁻¹ (PageFit 12 (k .head) (k .at)) same page-is-fit) size-read e (k .begun)
+
+    pub place-read : {i : ℕ} → i ≡ place t (entries-of 12 s) → (i < number-of s) × (number-of s ≤ 24)
+    place-read e =
+        let f : PageFit 12 (k .head) (k .at) s = subst⁻¹ (PageFit 12 (k .head) (k .at)) same page-is-fit in
+        (omega (arith, place-within 12 s t (f .most) (entry-first f (omega arith))), f .most)
+
+    -- what was read is the page that the cut meets
+    pub met-read : {n i : ℕ} {e : Entry} → n ≡ number-of s → i ≡ place t (entries-of 12 s) → e ≡ entry-at 12 s i
+        → record { number = n; place = i; entry = e } ≡ met-in t (entries (image-of 12 img) p)
+    unfolding met-in
+    met-read {n} {i} {e} a b c =
+        let r = place-read b in
+        let es : entries-of 12 s ≡ entries (image-of 12 img) p = ap (entries-of 12) same ∙ sym entries-read in
+        let number : n ≡ length (entries (image-of 12 img) p) = a ∙ (ap number-of same ∙ sym number-read) in
+        let here : i ≡ place t (entries (image-of 12 img) p) = b ∙ ap (place t) es in
+        let found : e ≡ entry-in (entries (image-of 12 img) p) (place t (entries (image-of 12 img) p)) =
+        c ∙ (sym (at-entries-of 12 s i (r .0) (omega arith)) ∙ (ap (entry-in (entries-of 12 s)) b ∙ ap (λ r. entry-in r (place t r)) es)) in
+        λ j. record { number = number j; place = here j; entry = found j }
+
+-- the i-th entry of a page leads on
+entry-leads : {img : List ℕ} {t : ℕ} (l : ℕ) {p : ℕ} → Fit-from img t l p → (i : ℕ) → i < number-of (page-at 12 img p) → start-at (page-at 12 img p) i ≤ t
+    → Leads img t l (entry-at 12 (page-at 12 img p) i)
+unfolding Leads entry-at place-below
+entry-leads zero k i lt begun = tt
+entry-leads {img} (suc l) {p} k i lt begun =
+    record {
+      head = k .head;
+      at = place-below 12 (page-at 12 img p) (k .at) i;
+      size = k .size;
+      inside = page-is-fit k .children i lt .inner (omega (arith, k .level)) .1;
+      level = omega (arith, k .level);
+      low = omega (arith, k .low);
+      begun = begun;
+      fit = tree-parts 12 (k .head) img l (k .at) p (k .fit) .1 i lt;
+    }
+
+module _ {img : List ℕ} {t l p : ℕ} (k : Fit-from img t l p) {m : Met} (e : m ≡ met-in t (entries (image-of 12 img) p)) where
+  pub met-most : m .number ≤ 24
+  unfolding met-in
+  met-most = omega (arith, ap (λ (n : Met). n .number) e, number-read k, page-is-fit k .most)
+
+  pub met-leads : Leads img t l (m .entry)
+  unfolding met-in
+  met-leads =
+      let s = page-at 12 img p in
+      let i = place t (entries-of 12 s) in
+      let f = page-is-fit k in
+      let r : i < number-of s = place-within 12 s t (f .most) (entry-first f (omega arith)) in
+      let same : m .entry ≡ entry-at 12 s i =
+      ap (λ (n : Met). n .entry) e ∙ (ap (λ es. entry-in es (place t es)) (entries-read k) ∙ at-entries-of 12 s i r (omega (arith, f .most))) in
+      subst⁻¹ (Leads img t l) same (entry-leads l k i r (place-started 12 s t (f .most) (omega (arith, f .first, k .begun))))
+
+-- ---- an entry
+
+pub leads-low : (img : List ℕ) (t l : ℕ) (e : Entry) → Leads img t l e → l ≤ most-height
+unfolding Leads
+leads-low img t zero e k = omega arith
+leads-low img t (suc l) e k = omega (arith, k .low)
+
+-- an inner one
+pub leads-on : (img : List ℕ) (t l : ℕ) (e : Entry) → Leads img t l e → ¬ (l ≡ 0) → Fit-from img t (l - 1) (e .child)
+unfolding Leads
+leads-on img t zero e k h = absurd (h refl)
+leads-on img t (suc l) e k h =
+    let d : suc l - 1 ≡ l = omega arith in
+    subst⁻¹ (λ n. Fit-from img t n (e .child)) d k
+
+-- for a later instant too
+pub later-fit : {img : List ℕ} {s t l p : ℕ} → Fit-from img s l p → s < t → Fit-from img t l p
+later-fit k lt =
+    record {
+      head = k .head;
+      at = k .at;
+      size = k .size;
+      inside = k .inside;
+      level = k .level;
+      low = k .low;
+      begun = omega (arith, k .begun);
+      fit = k .fit;
+    }
+
+-- ---- the counts, level by level
+
+module _ (half t : ℕ) (X : Image) where
+  pub one-leaf : (l : ℕ) (e : Entry) {r : Need} → l ≡ 0 → r ≡ leaf-need t e → r ≡ one half t l e X
+  unfolding one
+  one-leaf zero e z h = h
+  one-leaf (suc l) e z h = absurd (omega arith)
+
+  pub one-inner : (l : ℕ) (e : Entry) {m : Met} {n r : Need} → ¬ (l ≡ 0) → m ≡ met-in t (entries X (e .child)) → n ≡ one half t (l - 1) (m .entry) X
+      → r ≡ settle half (m .number) n → r ≡ one half t l e X
+  unfolding one met-in
+  one-inner zero e z a b c = absurd (z refl)
+  one-inner (suc l) e {m = m} z a b c =
+      let d : suc l - 1 ≡ l = omega arith in
+      c ∙ (ap (settle half (m .number)) (b ∙ ap (λ i. one half t i (m .entry) X) d) ∙ ap (λ (k : Met). settle half (k .number) (one half t l (k .entry) X)) a)
+
+module _ (half s t : ℕ) (X : Image) where
+  pub apart-is : (l : ℕ) (x y : Entry) {a b r : Need} → a ≡ one half s l x X → b ≡ one half t l y X → r ≡ together a b → r ≡ apart half s t l x y X
+  apart-is l x y a b c = c ∙ (λ j. together (a j) (b j))
+
+  pub both-leaf : (l : ℕ) (e : Entry) {a b r : Need} → l ≡ 0 → a ≡ leaf-need s e → b ≡ leaf-need t e → r ≡ together a b → r ≡ both half s t l e X
+  unfolding both
+  both-leaf zero e z a b c = c ∙ (λ j. together (a j) (b j))
+  both-leaf (suc l) e z a b c = absurd (omega arith)
+
+  -- the two go on to the same entry
+  pub both-same : (l : ℕ) (e : Entry) {m k : Met} {n r : Need} → ¬ (l ≡ 0) → m ≡ met-in s (entries X (e .child)) → k ≡ met-in t (entries X (e .child))
+      → m .place ≡ k .place → n ≡ both half s t (l - 1) (m .entry) X → r ≡ settle half (m .number) n → r ≡ both half s t l e X
+  unfolding both met-in
+  both-same zero e z a b h c d = absurd (z refl)
+  both-same (suc l) e {m = m} z a b h c d =
+      let es = entries X (e .child) in
+      let v : suc l - 1 ≡ l = omega arith in
+      let w : place s es ≡ place t es = sym (ap (λ (y : Met). y .place) a) ∙ (h ∙ ap (λ (y : Met). y .place) b) in
+      d
+      ∙ (ap (settle half (m .number)) (c ∙ ap (λ i. both half s t i (m .entry) X) v)
+      ∙ (ap (λ (y : Met). settle half (y .number) (both half s t l (y .entry) X)) a
+      ∙ ap
+      (λ g. settle half (length es)
+      (cond g (both half s t l (entry-in es (place s es)) X) (apart half s t l (entry-in es (place s es)) (entry-in es (place t es)) X)))
+      (sym (eq-eqb (place s es) (place t es) w))))
+
+  -- or part there
+  pub both-apart : (l : ℕ) (e : Entry) {m k : Met} {n r : Need} → ¬ (l ≡ 0) → m ≡ met-in s (entries X (e .child)) → k ≡ met-in t (entries X (e .child))
+      → ¬ (m .place ≡ k .place) → n ≡ apart half s t (l - 1) (m .entry) (k .entry) X → r ≡ settle half (m .number) n → r ≡ both half s t l e X
+  unfolding both met-in
+  both-apart zero e z a b h c d = absurd (z refl)
+  both-apart (suc l) e {m} {k} z a b h c d =
+      let es = entries X (e .child) in
+      let v : suc l - 1 ≡ l = omega arith in
+      let w : ¬ (place s es ≡ place t es) = λ q. h (ap (λ (y : Met). y .place) a ∙ (q ∙ sym (ap (λ (y : Met). y .place) b))) in
+      d
+      ∙ (ap (settle half (m .number)) (c ∙ ap (λ i. apart half s t i (m .entry) (k .entry) X) v)
+      ∙ ((λ j. settle half (a j .number) (apart half s t l (a j .entry) (b j .entry) X))
+      ∙ ap
+      (λ g. settle half (length es)
+      (cond g (both half s t l (entry-in es (place s es)) X) (apart half s t l (entry-in es (place s es)) (entry-in es (place t es)) X)))
+      (sym (ne-eqb (place s es) (place t es) w))))
+
+-- ---- no count is large
+
+settle-pages : (half n : ℕ) (m : Need) → settle half n m .pages ≤ suc (m .pages)
+unfolding settle
+settle-pages half n m = go (leb (n + m .adds) (capacity half))
+  where
+    go : (b : Bool) → cond b (need 0 (m .pages)) (need 1 (suc (m .pages))) .pages ≤ suc (m .pages)
+    go true = omega arith
+    go false = omega arith
+
+leaf-adds : (t : ℕ) (e : Entry) → leaf-need t e .adds ≤ 1
+unfolding leaf-need
+leaf-adds t e = go (eqb (e .start) t)
+  where
+    go : (b : Bool) → cond b 0 1 ≤ 1
+    go true = omega arith
+    go false = omega arith
+
+module _ (half t : ℕ) (X : Image) where
+  one-most : (l : ℕ) (e : Entry) → (one half t l e X .adds ≤ 1) × (one half t l e X .pages ≤ l)
+  unfolding one leaf-need
+  one-most zero e = (leaf-adds t e, omega arith)
+  one-most (suc l) e =
+      let es = entries X (e .child) in
+      let x = entry-in es (place t es) in
+      (settle-adds half (length es) (one half t l x X), omega (arith, settle-pages half (length es) (one half t l x X), one-most l x .1))
+
+module _ (half s t : ℕ) (X : Image) where
+  both-most : (l : ℕ) (e : Entry) → (both half s t l e X .adds ≤ 2) × (both half s t l e X .pages ≤ 2 * l)
+  unfolding both together leaf-need
+  both-most zero e = (omega (arith, leaf-adds s e, leaf-adds t e), omega arith)
+  both-most (suc l) e =
+      let es = entries X (e .child) in
+      let x = entry-in es (place s es) in
+      let y = entry-in es (place t es) in
+      let below = cond (eqb (place s es) (place t es)) (both half s t l x X) (together (one half s l x X) (one half t l y X)) in
+      let few : below .pages ≤ 2 * l =
+      go (both half s t l x X) (one half s l x X) (one half t l y X) (eqb (place s es) (place t es)) (both-most l x .1) (one-most half s X l x .1) (one-most half t X l y .1) in
+      (omega (arith, settle-adds half (length es) below), omega (arith, settle-pages half (length es) below))
+    where
+      go : (a b d : Need) (c : Bool) → a .pages ≤ 2 * l → b .pages ≤ l → d .pages ≤ l → cond c a (together b d) .pages ≤ 2 * l
+      go a b d true f g h = f
+      go a b d false f g h = omega arith
+
+module _ (half : ℕ) (X : Image) (l : ℕ) (e : Entry) (low : l ≤ most-height) {n : Need} where
+  pub small-one : (t : ℕ) → n ≡ one half t l e X → Small n
+  small-one t h =
+      let b = one-most half t X l e in
+      record { adds = omega (arith, ap (λ (m : Need). m .adds) h); pages = omega (arith, ap (λ (m : Need). m .pages) h) }
+
+  pub small-both : (s t : ℕ) → n ≡ both half s t l e X → Small n
+  small-both s t h =
+      let b = both-most half s t X l e in
+      record { adds = omega (arith, ap (λ (m : Need). m .adds) h); pages = omega (arith, ap (λ (m : Need). m .pages) h) }
+
+pub small-leaf : (t : ℕ) (e : Entry) {n : Need} → n ≡ leaf-need t e → Small n
+unfolding leaf-need
+small-leaf t e h =
+    record { adds = omega (arith, ap (λ (m : Need). m .adds) h, leaf-adds t e); pages = omega (arith, ap (λ (m : Need). m .pages) h) }
+
+pub small-apart : (half s t : ℕ) (X : Image) (l : ℕ) (x y : Entry) {n : Need} → l ≤ most-height → n ≡ apart half s t l x y X → Small n
+unfolding together
+small-apart half s t X l x y low h =
+    let c = one-most half s X l x in
+    let d = one-most half t X l y in
+    record { adds = omega (arith, ap (λ (m : Need). m .adds) h); pages = omega (arith, ap (λ (m : Need). m .pages) h) }

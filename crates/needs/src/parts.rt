@@ -1,0 +1,45 @@
+// What one page or one leaf entry has a part in.
+use super::Need;
+use page::Entry;
+ghost use mathlib.Core.Path.{_≡_};
+ghost use Prim.Native.Nat.{_≤_};
+ghost use Rattle.needs.specs.Needs.{leaf-need, together, settle};
+ghost use Rattle.needs.specs.Leads.{Small};
+
+// "the leaf entry that has t becomes two"; nothing if t starts it.
+pub fn leaf_need(t: u32, e: Entry) -> Need
+    ensures { λ r. ⌜ r ≡ leaf-need t e ⌝ }
+{
+    if e.start == t {
+        return Need { adds: 0, pages: 0 };
+    }
+    Need { adds: 1, pages: 0 }
+}
+
+// What two cuts ask for together.
+pub fn together(a: Need, b: Need) -> Need
+    requires { ⌜ Small a × Small b ⌝ }
+    ensures { λ r. ⌜ r ≡ together a b ⌝ }
+{
+    Need {
+        adds: a.adds + b.adds,
+        pages: a.pages + b.pages,
+    }
+}
+
+// "25 entries split: the page keeps 12, a taken page gets 13, the parent gains an entry": a page of n entries that gains some.
+pub fn settle(n: u32, below: Need) -> Need
+    requires { ⌜ (n ≤ 24) × Small below ⌝ }
+    ensures { λ r. ⌜ r ≡ settle 12 n below ⌝ }
+{
+    if n + below.adds <= 24 {
+        return Need {
+            adds: 0,
+            pages: below.pages,
+        };
+    }
+    Need {
+        adds: 1,
+        pages: below.pages + 1,
+    }
+}

@@ -1,0 +1,51 @@
+// 24: are there pages enough for the two cuts?
+use super::Need;
+use super::walk::both;
+use super::walk::one;
+use page::Entry;
+use page::Head;
+use rule::Pair;
+ghost use mathlib.Core.Path.{_≡_};
+ghost use Prim.Native.Nat.{_<_};
+ghost use Rattle.rule.specs.Pairs.{none};
+ghost use Rattle.page.specs.Entries.{entry};
+ghost use Rattle.image.specs.Images.{image-of};
+ghost use Rattle.steps.specs.Change.{lacks-pages};
+ghost use Rattle.needs.specs.Needs.{asked};
+ghost use Rattle.needs.specs.Leads.{Opened};
+
+// The root as an entry.
+fn root_entry(h: Head) -> Entry
+    ensures { λ r. ⌜ r ≡ entry 0 none (h .root) ⌝ }
+{
+    Entry {
+        start: 0,
+        pair: Pair { sum: 0, count: 0 },
+        child: h.root,
+    }
+}
+
+// What the two cuts ask for from the root down: "nothing if t is END".
+fn asked(img: &[u8], h: Head, s: u32, e: u32) -> Need
+    requires { ⌜ Opened (now img) h ⌝ }
+    requires { ⌜ s < e ⌝ }
+    ensures { λ r. ⌜ r ≡ asked 12 s e (image-of 12 (now (img .entry))) ⌝ }
+{
+    let root = root_entry(h);
+    if e == 4294967295 {
+        return one(img, s, h.height, root);
+    }
+    both(img, s, e, h.height, root)
+}
+
+// 24's condition, of a sound image and its head, before anything is written: "A and B together take more pages than chain and
+// pages from the high mark hold".
+pub fn lacks_pages(img: &[u8], h: Head, s: u32, e: u32) -> bool
+    requires { ⌜ Opened (now img) h ⌝ }
+    requires { ⌜ s < e ⌝ }
+    ensures { λ r. ⌜ r ≡ lacks-pages 12 s e (image-of 12 (now (img .entry))) ⌝ }
+{
+    let n = asked(img, h, s, e);
+    let held = h.chain as u64 + (h.pages - h.mark) as u64;
+    held < (n.adds + n.pages) as u64
+}
