@@ -32,7 +32,8 @@ use Rattle.needs.proofs.Counts.{settle-adds}
 
 -- ---- a page
 
-top-fit : (h : Head) (img : List ℕ) (l : ℕ) (at : Place) (p : ℕ) → tree-fit 12 h img l at p ≡ true → page-fit 12 h at (page-at 12 img p) ≡ true
+top-fit : (h : Head) (img : List ℕ) (l : ℕ) (at : Place) (p : ℕ) → tree-fit 12 h img l at p ≡ true
+    → page-fit 12 h at (page-at 12 img p) ≡ true
 unfolding tree-fit
 top-fit h img zero at p e = e
 top-fit h img (suc l) at p e = (simp and-eq-true-iff at e) .0
@@ -77,7 +78,8 @@ module _ {img : List ℕ} {t l p : ℕ} (k : Fit-from img t l p) where
         λ j. record { number = number j; place = here j; entry = found j }
 
 -- the i-th entry of a page leads on
-entry-leads : {img : List ℕ} {t : ℕ} (l : ℕ) {p : ℕ} → Fit-from img t l p → (i : ℕ) → i < number-of (page-at 12 img p) → start-at (page-at 12 img p) i ≤ t
+entry-leads : {img : List ℕ} {t : ℕ} (l : ℕ) {p : ℕ} → Fit-from img t l p → (i : ℕ) → i < number-of (page-at 12 img p)
+    → start-at (page-at 12 img p) i ≤ t
     → Leads img t l (entry-at 12 (page-at 12 img p) i)
 unfolding Leads entry-at place-below
 entry-leads zero k i lt begun = tt
@@ -106,7 +108,8 @@ module _ {img : List ℕ} {t l p : ℕ} (k : Fit-from img t l p) {m : Met} (e : 
       let f = page-is-fit k in
       let r : i < number-of s = place-within 12 s t (f .most) (entry-first f (omega arith)) in
       let same : m .entry ≡ entry-at 12 s i =
-      ap (λ (n : Met). n .entry) e ∙ (ap (λ es. entry-in es (place t es)) (entries-read k) ∙ at-entries-of 12 s i r (omega (arith, f .most))) in
+      ap (λ (n : Met). n .entry) e
+      ∙ (ap (λ es. entry-in es (place t es)) (entries-read k) ∙ at-entries-of 12 s i r (omega (arith, f .most))) in
       subst⁻¹ (Leads img t l) same (entry-leads l k i r (place-started 12 s t (f .most) (omega (arith, f .first, k .begun))))
 
 -- ---- an entry
@@ -146,25 +149,31 @@ module _ (half t : ℕ) (X : Image) where
   one-leaf zero e z h = h
   one-leaf (suc l) e z h = absurd (omega arith)
 
-  pub one-inner : (l : ℕ) (e : Entry) {m : Met} {n r : Need} → ¬ (l ≡ 0) → m ≡ met-in t (entries X (e .child)) → n ≡ one half t (l - 1) (m .entry) X
+  pub one-inner : (l : ℕ) (e : Entry) {m : Met} {n r : Need} → ¬ (l ≡ 0) → m ≡ met-in t (entries X (e .child))
+      → n ≡ one half t (l - 1) (m .entry) X
       → r ≡ settle half (m .number) n → r ≡ one half t l e X
   unfolding one met-in
   one-inner zero e z a b c = absurd (z refl)
   one-inner (suc l) e {m = m} z a b c =
       let d : suc l - 1 ≡ l = omega arith in
-      c ∙ (ap (settle half (m .number)) (b ∙ ap (λ i. one half t i (m .entry) X) d) ∙ ap (λ (k : Met). settle half (k .number) (one half t l (k .entry) X)) a)
+      c
+      ∙ (ap (settle half (m .number)) (b ∙ ap (λ i. one half t i (m .entry) X) d)
+      ∙ ap (λ (k : Met). settle half (k .number) (one half t l (k .entry) X)) a)
 
 module _ (half s t : ℕ) (X : Image) where
-  pub apart-is : (l : ℕ) (x y : Entry) {a b r : Need} → a ≡ one half s l x X → b ≡ one half t l y X → r ≡ together a b → r ≡ apart half s t l x y X
+  pub apart-is : (l : ℕ) (x y : Entry) {a b r : Need} → a ≡ one half s l x X → b ≡ one half t l y X → r ≡ together a b
+      → r ≡ apart half s t l x y X
   apart-is l x y a b c = c ∙ (λ j. together (a j) (b j))
 
-  pub both-leaf : (l : ℕ) (e : Entry) {a b r : Need} → l ≡ 0 → a ≡ leaf-need s e → b ≡ leaf-need t e → r ≡ together a b → r ≡ both half s t l e X
+  pub both-leaf : (l : ℕ) (e : Entry) {a b r : Need} → l ≡ 0 → a ≡ leaf-need s e → b ≡ leaf-need t e → r ≡ together a b
+      → r ≡ both half s t l e X
   unfolding both
   both-leaf zero e z a b c = c ∙ (λ j. together (a j) (b j))
   both-leaf (suc l) e z a b c = absurd (omega arith)
 
   -- the two go on to the same entry
-  pub both-same : (l : ℕ) (e : Entry) {m k : Met} {n r : Need} → ¬ (l ≡ 0) → m ≡ met-in s (entries X (e .child)) → k ≡ met-in t (entries X (e .child))
+  pub both-same : (l : ℕ) (e : Entry) {m k : Met} {n r : Need} → ¬ (l ≡ 0) → m ≡ met-in s (entries X (e .child))
+      → k ≡ met-in t (entries X (e .child))
       → m .place ≡ k .place → n ≡ both half s t (l - 1) (m .entry) X → r ≡ settle half (m .number) n → r ≡ both half s t l e X
   unfolding both met-in
   both-same zero e z a b h c d = absurd (z refl)
@@ -181,8 +190,10 @@ module _ (half s t : ℕ) (X : Image) where
       (sym (eq-eqb (place s es) (place t es) w))))
 
   -- or part there
-  pub both-apart : (l : ℕ) (e : Entry) {m k : Met} {n r : Need} → ¬ (l ≡ 0) → m ≡ met-in s (entries X (e .child)) → k ≡ met-in t (entries X (e .child))
-      → ¬ (m .place ≡ k .place) → n ≡ apart half s t (l - 1) (m .entry) (k .entry) X → r ≡ settle half (m .number) n → r ≡ both half s t l e X
+  pub both-apart : (l : ℕ) (e : Entry) {m k : Met} {n r : Need} → ¬ (l ≡ 0) → m ≡ met-in s (entries X (e .child))
+      → k ≡ met-in t (entries X (e .child))
+      → ¬ (m .place ≡ k .place) → n ≡ apart half s t (l - 1) (m .entry) (k .entry) X → r ≡ settle half (m .number) n
+      → r ≡ both half s t l e X
   unfolding both met-in
   both-apart zero e z a b h c d = absurd (z refl)
   both-apart (suc l) e {m} {k} z a b h c d =
@@ -234,7 +245,8 @@ module _ (half s t : ℕ) (X : Image) where
       let y = entry-in es (place t es) in
       let below = cond (eqb (place s es) (place t es)) (both half s t l x X) (together (one half s l x X) (one half t l y X)) in
       let few : below .pages ≤ 2 * l =
-      go (both half s t l x X) (one half s l x X) (one half t l y X) (eqb (place s es) (place t es)) (both-most l x .1) (one-most half s X l x .1) (one-most half t X l y .1) in
+      go (both half s t l x X) (one half s l x X) (one half t l y X) (eqb (place s es) (place t es)) (both-most l x .1)
+      (one-most half s X l x .1) (one-most half t X l y .1) in
       (omega (arith, settle-adds half (length es) below), omega (arith, settle-pages half (length es) below))
     where
       go : (a b d : Need) (c : Bool) → a .pages ≤ 2 * l → b .pages ≤ l → d .pages ≤ l → cond c a (together b d) .pages ≤ 2 * l

@@ -99,9 +99,11 @@ module _ (l t : ℕ) {Q : Asked (Kid l)} (zs : Ent (Kid l) → Ents l)
       → Spliced l lo hi es (splice (place t (bare es)) (zs (there l t es)) es) (zs (there l t es))
   spliced {lo} {hi} s low high = go (find t s (omega arith) low)
     where
-      go : {es : Ents l} {i : ℕ} → Found Q t lo hi es i → Spliced l lo hi es (splice i (zs (getD es i (no-ent l))) es) (zs (getD es i (no-ent l)))
+      go : {es : Ents l} {i : ℕ} → Found Q t lo hi es i
+          → Spliced l lo hi es (splice i (zs (getD es i (no-ent l))) es) (zs (getD es i (no-ent l)))
       go (found {a = a} {b = b} {xs = xs} {x = x} {ys = ys} f e lt q r le after) =
-          subst⁻¹ (λ y. Spliced l lo hi (xs ++ x ∷ ys) (splice (length xs) (zs y) (xs ++ x ∷ ys)) (zs y)) (getD-append-seam xs x ys (no-ent l))
+          subst⁻¹ (λ y. Spliced l lo hi (xs ++ x ∷ ys) (splice (length xs) (zs y) (xs ++ x ∷ ys)) (zs y))
+          (getD-append-seam xs x ys (no-ent l))
           (subst⁻¹ (λ y. Spliced l lo hi (xs ++ x ∷ ys) y (zs x)) (splice-at xs x ys (zs x))
           (record {
             spans = seg-append (row f) (seg-append (each a b x e lt le (after high) q) (row r));
@@ -111,7 +113,8 @@ module _ (l t : ℕ) {Q : Asked (Kid l)} (zs : Ent (Kid l) → Ents l)
 module _ (half l : ℕ) (x : Ent (Kid (suc l))) (es : Ents l) where
   -- a page that gained what was counted is kept or split
   pub kept-or-split : (k a : ℕ) (R : Supply) → k ≡ suc a → length (x .kid) ≤ capacity half → length es ≡ length (x .kid) + a
-      → cond (eqb k 1) (kept x es R) (settled half x es R) ≡ cond (leb (length (x .kid) + a) (capacity half)) (kept x es R) (split half x es R)
+      → cond (eqb k 1) (kept x es R) (settled half x es R)
+      ≡ cond (leb (length (x .kid) + a) (capacity half)) (kept x es R) (split half x es R)
   unfolding settled
   kept-or-split k a R e most n = go (eqb k 1) refl
     where
@@ -125,7 +128,8 @@ module _ (half l : ℕ) (x : Ent (Kid (suc l))) (es : Ents l) where
 
   module _ {lo hi : ℕ} (at-lo : x .entry .start ≡ lo) (lt : lo < hi) (pos : 0 < half) (S R : Supply) (m : Need) where
     pub page-counted : Row lo hi es → length es ≡ length (x .kid) + m .adds → R ≡ later (m .pages) S
-        → Counted (suc l) lo hi S (settle half (length (x .kid)) m) (cond (leb (length (x .kid) + m .adds) (capacity half)) (kept x es R) (split half x es R))
+        → Counted (suc l) lo hi S (settle half (length (x .kid)) m)
+        (cond (leb (length (x .kid) + m .adds) (capacity half)) (kept x es R) (split half x es R))
     unfolding settle kept split
     page-counted s n taken = go (leb (length (x .kid) + m .adds) (capacity half)) refl
       where
@@ -166,7 +170,8 @@ pub record Gained (half t l lo hi : ℕ) (x : Ent (Kid (suc l))) (S : Supply) : 
 
 module _ (half : ℕ) (pos : 0 < half) (t : ℕ) (B : Asked (Kid 0)) where
   module _ (l : ℕ) {lo hi : ℕ} (S : Supply) (low : lo ≤ t) (high : t < hi)
-      (each : (a b : ℕ) (y : Ent (Kid l)) → y .entry .start ≡ a → a < b → a ≤ t → t < b → Shaped half B l a b y → One half t l a b y S) where
+      (each : (a b : ℕ) (y : Ent (Kid l)) → y .entry .start ≡ a → a < b → a ≤ t → t < b → Shaped half B l a b y
+      → One half t l a b y S) where
     one-there : {es : Ents l} → Seg (Shaped half B l) lo hi es → Taken half t l (there l t es) S
     one-there s = go (find t s (omega arith) low)
       where
@@ -175,7 +180,8 @@ module _ (half : ℕ) (pos : 0 < half) (t : ℕ) (B : Asked (Kid 0)) where
             let c = each a b z e lt le (after high) q in
             subst⁻¹ (λ v. Taken half t l v S) (getD-append-seam xs z ys (no-ent l)) (record { number = c .number; supply = c .supply })
 
-    pub gained : (x : Ent (Kid (suc l))) → length (x .kid) ≤ capacity half → Seg (Shaped half B l) lo hi (x .kid) → Gained half t l lo hi x S
+    pub gained : (x : Ent (Kid (suc l))) → length (x .kid) ≤ capacity half → Seg (Shaped half B l) lo hi (x .kid)
+        → Gained half t l lo hi x S
     unfolding cut-ent
     gained x most s =
         let y = there l t (x .kid) in
@@ -187,7 +193,8 @@ module _ (half : ℕ) (pos : 0 < half) (t : ℕ) (B : Asked (Kid 0)) where
           number = n;
           supply = c .supply;
           cut =
-              kept-or-split half l x (ents-after half t l x S) (length (cut-ent half t l y S .became)) (one-in half t l y .adds) (cut-ent half t l y S .supply)
+              kept-or-split half l x (ents-after half t l x S) (length (cut-ent half t l y S .became)) (one-in half t l y .adds)
+              (cut-ent half t l y S .supply)
               (c .number) most n;
         }
 
@@ -199,7 +206,8 @@ module _ (half : ℕ) (pos : 0 < half) (t : ℕ) (B : Asked (Kid 0)) where
         let y = there l t (x .kid) in
         let g = gained x most s in
         subst⁻¹ (λ r. Counted (suc l) lo hi S (settle half (length (x .kid)) (one-in half t l y)) r) (g .cut)
-        (page-counted half l x (ents-after half t l x S) e (omega arith) pos S (cut-ent half t l y S .supply) (one-in half t l y) (g .spans) (g .number) (g .supply))
+        (page-counted half l x (ents-after half t l x S) e (omega arith) pos S (cut-ent half t l y S .supply) (one-in half t l y) (g .spans)
+        (g .number) (g .supply))
 
   one-leaf : {lo hi : ℕ} (x : Ent (Kid 0)) (S : Supply) → x .entry .start ≡ lo → lo < hi → lo ≤ t → t < hi → One half t 0 lo hi x S
   unfolding one-in cut-ent cut-leaf leaf-need later
@@ -208,13 +216,15 @@ module _ (half : ℕ) (pos : 0 < half) (t : ℕ) (B : Asked (Kid 0)) where
       y : Ent (Kid 0)
       y = record { entry = entry t (x .entry .pair) (x .entry .child); kid = tt }
 
-      go : (b : Bool) → eqb (x .entry .start) t ≡ b → Counted 0 lo hi S (need (cond b 0 1) 0) (record { became = cond b (x ∷ []) (x ∷ y ∷ []); supply = S })
+      go : (b : Bool) → eqb (x .entry .start) t ≡ b
+          → Counted 0 lo hi S (need (cond b 0 1) 0) (record { became = cond b (x ∷ []) (x ∷ y ∷ []); supply = S })
       go true f = record { number = refl; supply = refl; spans = seg-one e lt tt }
       go false f =
           let l : lo < t = omega (arith, eqb-false (x .entry .start) t f) in
           record { number = refl; supply = refl; spans = more e l tt (seg-one refl high tt) }
 
-  pub one-cut : (l : ℕ) {lo hi : ℕ} (x : Ent (Kid l)) (S : Supply) → x .entry .start ≡ lo → lo < hi → lo ≤ t → t < hi → Shaped half B l lo hi x → One half t l lo hi x S
+  pub one-cut : (l : ℕ) {lo hi : ℕ} (x : Ent (Kid l)) (S : Supply) → x .entry .start ≡ lo → lo < hi → lo ≤ t → t < hi
+      → Shaped half B l lo hi x → One half t l lo hi x S
   unfolding Shaped
   one-cut zero x S e lt low high q = one-leaf x S e lt low high
   one-cut (suc l) x S e lt low high q =

@@ -43,7 +43,9 @@ use Rattle.needs.proofs.Roots.{one-from, both-from, cuts-take, cuts-tak
 
 module _ (half : ℕ) (X : Image) where
   -- the entries of the page below x
-  page-same : (l : ℕ) (x : Ent (Kid (suc l))) (F : List Entry → Need) → Shows (suc l) (X .page) x → settle half (length (entries X (x .entry .child))) (F (entries X (x .entry .child))) ≡ settle half (length (x .kid)) (F (bare (x .kid)))
+  page-same : (l : ℕ) (x : Ent (Kid (suc l))) (F : List Entry → Need) → Shows (suc l) (X .page) x
+      → settle half (length (entries X (x .entry .child))) (F (entries X (x .entry .child)))
+      ≡ settle half (length (x .kid)) (F (bare (x .kid)))
   page-same l x F sh =
       ap (λ es. settle half (length es) (F es)) (entries-are l X x sh)
       ∙ ap (λ n. settle half n (F (bare (x .kid)))) (length-map (x .kid) (λ y. y .entry))
@@ -71,10 +73,12 @@ module _ (half : ℕ) (X : Image) where
       ap (λ e. one half s l e X) (at-bare l (x .kid) i) ∙ one-shown s l y (shows-on l s x st X sh) (stocked-on l s x st) in
       let c : one half t l (at (bare (x .kid)) j) X ≡ one-in half t l z =
       ap (λ e. one half t l e X) (at-bare l (x .kid) j) ∙ one-shown t l z (shows-on l t x st X sh) (stocked-on l t x st) in
-      page-same l x (λ es. cond (eqb (place s es) (place t es)) (both half s t l (at es (place s es)) X) (apart half s t l (at es (place s es)) (at es (place t es)) X)) sh
-      ∙ (ap (λ n. settle half (length (x .kid)) (cond (eqb i j) n (together (one half s l (at (bare (x .kid)) i) X) (one half t l (at (bare (x .kid)) j) X)))) a
-      ∙ (ap (λ n. settle half (length (x .kid)) (cond (eqb i j) (both-in half s t l y) (together n (one half t l (at (bare (x .kid)) j) X)))) b
-      ∙ ap (λ n. settle half (length (x .kid)) (cond (eqb i j) (both-in half s t l y) (together (one-in half s l y) n))) c))
+      page-same l x
+      (λ es.
+      cond (eqb (place s es) (place t es)) (both half s t l (at es (place s es)) X)
+      (apart half s t l (at es (place s es)) (at es (place t es)) X))
+      sh
+      ∙ (λ k. settle half (length (x .kid)) (cond (eqb i j) (a k) (together (b k) (c k))))
 
 -- what starts at an image's root starts at that of the tree
 at-root : {A : Type 0} {X : Image} {Y : State} → Shown X Y → (f : ℕ → Entry → A)
@@ -104,14 +108,16 @@ module _ {half : ℕ} (two : 2 ≤ half) {B : Asked (Kid 0)} (cutting : Cuttable
   unfolding pages-needed asked Full
   needed-both low =
       rw (lt-leb END e low)
-      (ap with-new-root (at-root sh (λ l r. both half s e l r X) ∙ both-shown half X s e (suc (Y .tree .level)) (root-ent (Y .tree)) (sh .below) full)
+      (ap with-new-root
+      (at-root sh (λ l r. both half s e l r X) ∙ both-shown half X s e (suc (Y .tree .level)) (root-ent (Y .tree)) (sh .below) full)
       ∙ sym (takes (with-new-root (both-from half s e (Y .tree))) (cuts-take two cutting s e lt Y F low)))
 
   needed-first : END ≤ e → pages-needed half s e X ≡ pages-taken X (cuts half s e X)
   unfolding pages-needed asked Full
   needed-first high =
       rw (le-leb END e high)
-      (ap with-new-root (at-root sh (λ l r. one half s l r X) ∙ one-shown half X s (suc (Y .tree .level)) (root-ent (Y .tree)) (sh .below) full)
+      (ap with-new-root
+      (at-root sh (λ l r. one half s l r X) ∙ one-shown half X s (suc (Y .tree .level)) (root-ent (Y .tree)) (sh .below) full)
       ∙ sym (takes (with-new-root (one-from half s (Y .tree))) (cuts-take-first two cutting s e lt Y F (omega arith) high)))
 
   pub needed : pages-needed half s e X ≡ pages-taken X (cuts half s e X)
@@ -129,7 +135,8 @@ needed-good two s e lt end g = needed two leaf-cuttable s e lt end (g .shown) (g
 
 -- of a sound image: 24's condition before anything is written
 pub lacks-is : {half : ℕ} → 2 ≤ half → (s e : ℕ) → s < e → e ≤ END → (img : List ℕ) → sound half img ≡ true → length-ok half img ≡ true
-    → (let X = image-of half img in ltb (X .head .chain + (X .head .pages - X .head .mark)) (pages-needed half s e X) ≡ lacks-pages half s e X)
+    → (let X = image-of half img in
+    ltb (X .head .chain + (X .head .pages - X .head .mark)) (pages-needed half s e X) ≡ lacks-pages half s e X)
 unfolding lacks-pages
 lacks-is {half} two s e lt end img ok long =
     let X = image-of half img in

@@ -20,7 +20,7 @@ use Rattle.steps.specs.Cut.{root-entry}
 use Rattle.steps.specs.Change.{lacks-pages}
 use Rattle.needs.specs.declared.Need.{Need}
 use Rattle.needs.specs.Needs.{one, both, asked, with-new-root, pages-needed}
-use Rattle.needs.specs.Leads.{Small, Fit-from, Leads, Opened}
+use Rattle.needs.specs.Leads.{Small, Fit-from, Leads, Sound-image}
 use Rattle.needs.proofs.Below.{small-one, small-both}
 use Rattle.needs.proofs.Needed.{lacks-is}
 
@@ -37,7 +37,7 @@ length-is : (img : List ℕ) → length-ok 12 img ≡ true → length img ≡ 51
 unfolding length-ok
 length-is img ok = eqb-true _ _ ((simp and-eq-true-iff at ok) .0)
 
-module _ {img : List ℕ} {h : Head} (o : Opened img h) where
+module _ {img : List ℕ} {h : Head} (o : Sound-image img h) where
   facts : Fit-image 12 img
   facts = sound-facts 12 img (o .sound) .fit
 
@@ -71,13 +71,17 @@ module _ {img : List ℕ} {h : Head} (o : Opened img h) where
     unfolding asked root-entry image-of
     asked-first high same =
         rw (le-leb END e high)
-        (same ∙ (ap (λ x. one 12 s (h .height) x (image-of 12 img)) root ∙ ap (λ (g : Head). one 12 s (g .height) (entry 0 none (g .root)) (image-of 12 img)) (o .shown)))
+        (same
+        ∙ (ap (λ x. one 12 s (h .height) x (image-of 12 img)) root
+        ∙ ap (λ (g : Head). one 12 s (g .height) (entry 0 none (g .root)) (image-of 12 img)) (o .shown)))
 
     pub asked-both : e < END → n ≡ both 12 s e (h .height) r (image-of 12 img) → n ≡ asked 12 s e (image-of 12 img)
     unfolding asked root-entry image-of
     asked-both low same =
         rw (lt-leb END e low)
-        (same ∙ (ap (λ x. both 12 s e (h .height) x (image-of 12 img)) root ∙ ap (λ (g : Head). both 12 s e (g .height) (entry 0 none (g .root)) (image-of 12 img)) (o .shown)))
+        (same
+        ∙ (ap (λ x. both 12 s e (h .height) x (image-of 12 img)) root
+        ∙ ap (λ (g : Head). both 12 s e (g .height) (entry 0 none (g .root)) (image-of 12 img)) (o .shown)))
 
   pub asked-small : (s e : ℕ) {n : Need} → n ≡ asked 12 s e (image-of 12 img) → Small n
   unfolding asked image-of

@@ -64,7 +64,8 @@ module _ {half : ℕ} (two : 2 ≤ half) {B : Asked (Kid 0)} (t : ℕ) (low : t 
   pub cut-takes : cut half t Y .supply ≡ later (with-new-root (one-from half t (Y .tree))) (Y .supply)
   cut-takes =
       ap (λ (Z : State). Z .supply) cut-grows
-      ∙ grown-takes (Y .tree .level) (Y .supply) (one-from half t (Y .tree)) top (one-adds half t (suc (Y .tree .level)) (root-ent (Y .tree))) root-counted
+      ∙ grown-takes (Y .tree .level) (Y .supply) (one-from half t (Y .tree)) top
+      (one-adds half t (suc (Y .tree .level)) (root-ent (Y .tree))) root-counted
 
 -- ---- and then another
 
@@ -76,7 +77,8 @@ sum-same a m b e =
     let q : a .pages + m .pages ≡ b .pages = ap (λ (n : Need). n .pages) e in
     omega arith
 
-sum-new : (half : ℕ) (a m b : Need) → 2 ≤ half → a .adds ≡ 1 → b .adds ≤ 1 → together a m ≡ b → with-new-root a + with-new-root (settle half 2 m) ≡ with-new-root b
+sum-new : (half : ℕ) (a m b : Need) → 2 ≤ half → a .adds ≡ 1 → b .adds ≤ 1 → together a m ≡ b
+    → with-new-root a + with-new-root (settle half 2 m) ≡ with-new-root b
 unfolding with-new-root together
 sum-new half a m b two one few e =
     let p : a .adds + m .adds ≡ b .adds = ap (λ (n : Need). n .adds) e in
@@ -91,13 +93,15 @@ grown-asks : (half e l : ℕ) (zs : Ents (suc l)) (S : Supply) (a b : Need) → 
 unfolding grown root-ent one-in
 grown-asks half e l [] S a b two n few few′ same = absurd (omega arith)
 grown-asks half e l (x ∷ []) S a b two n few few′ same =
-    let d : one-in half e (suc l) (there (suc l) e (x ∷ [])) ≡ one-in half e (suc l) x = ap (one-in half e (suc l)) (there-one (suc l) e x) in
+    let d : one-in half e (suc l) (there (suc l) e (x ∷ [])) ≡ one-in half e (suc l) x =
+    ap (one-in half e (suc l)) (there-one (suc l) e x) in
     sum-same a (one-in half e (suc l) x) b (ap (together a) (sym d) ∙ same)
 grown-asks half e l (x ∷ y ∷ []) S a b two n few few′ same =
     sum-new half a (one-in half e (suc l) (there (suc l) e (x ∷ y ∷ []))) b two (omega arith) few′ same
 grown-asks half e l (x ∷ y ∷ z ∷ zs) S a b two n few few′ same = absurd (omega arith)
 
-module _ {half : ℕ} (two : 2 ≤ half) {B : Asked (Kid 0)} (cutting : Cuttable B) (s e : ℕ) (lt : s < e) (Y : State) (F : Formed half B (Y .tree)) where
+module _ {half : ℕ} (two : 2 ≤ half) {B : Asked (Kid 0)} (cutting : Cuttable B) (s e : ℕ) (lt : s < e) (Y : State)
+    (F : Formed half B (Y .tree)) where
   -- A and B
   pub cuts-take : e < END → cuts half s e Y .supply ≡ later (with-new-root (both-from half s e (Y .tree))) (Y .supply)
   unfolding cuts root-ent
@@ -108,12 +112,15 @@ module _ {half : ℕ} (two : 2 ≤ half) {B : Asked (Kid 0)} (cutting : Cuttable
       let r = cut-ent half s (suc l) x (Y .supply) in
       let j = with-new-root (one-from half s (Y .tree)) in
       let k = with-new-root (one-from half e (cut half s Y .tree)) in
-      let twice : together (one-from half s (Y .tree)) (one-in half e (suc l) (there (suc l) e (r .became))) ≡ both-from half s e (Y .tree) =
-      page-both half two s e lt B l (Y .supply) (omega arith) high (λ a b y start low high q. both-cut half two s e lt B l y (Y .supply) start low high q)
+      let twice : together (one-from half s (Y .tree)) (one-in half e (suc l) (there (suc l) e (r .became)))
+      ≡ both-from half s e (Y .tree) =
+      page-both half two s e lt B l (Y .supply) (omega arith) high
+      (λ a b y start low high q. both-cut half two s e lt B l y (Y .supply) start low high q)
       x refl (F .most) (F .spans) in
       let n : j + k ≡ with-new-root (both-from half s e (Y .tree)) =
       ap (λ (Z : State). j + with-new-root (one-from half e (Z .tree))) (cut-grows two s low Y F)
-      ∙ grown-asks half e l (r .became) (r .supply) (one-from half s (Y .tree)) (both-from half s e (Y .tree)) two (root-counted two s low Y F .number)
+      ∙ grown-asks half e l (r .became) (r .supply) (one-from half s (Y .tree)) (both-from half s e (Y .tree)) two
+      (root-counted two s low Y F .number)
       (one-adds half s (suc l) x) (both-adds half s e l x) twice in
       let m : k + j ≡ with-new-root (both-from half s e (Y .tree)) = omega arith in
       cut-takes two e high (cut half s Y) (cut-formed two cutting (lawful 1) s Y F)

@@ -66,14 +66,17 @@ module _ {A : Type 0} (t : ℕ) where
       let l : t < x .entry .start = omega arith in
       ap (λ z. last-from t (suc i) z (bare es)) (from-no i k l) ∙ early (suc i) k r (omega arith)
 
-  counted : {Q R : Asked A} {lo a b hi : ℕ} {xs ys : List (Ent A)} (x : Ent A) (i k : ℕ) → Seg Q lo a xs → x .entry .start ≤ t → Seg R b hi ys → t < b
+  counted : {Q R : Asked A} {lo a b hi : ℕ} {xs ys : List (Ent A)} (x : Ent A) (i k : ℕ) → Seg Q lo a xs → x .entry .start ≤ t
+      → Seg R b hi ys → t < b
       → last-from t i k (bare (xs ++ x ∷ ys)) ≡ i + length xs
   unfolding last-from
-  counted {ys = ys} x i k done le r h = ap (λ z. last-from t (suc i) z (bare ys)) (from-yes i k le) ∙ (early (suc i) i r h ∙ sym (add-zero i))
+  counted {ys = ys} x i k done le r h =
+      ap (λ z. last-from t (suc i) z (bare ys)) (from-yes i k le) ∙ (early (suc i) i r h ∙ sym (add-zero i))
   counted x i k (more e lt q s) le r h = counted x (suc i) _ s le r h ∙ omega arith
 
   -- behind the entries before it
-  pub place-at : {Q R : Asked A} {lo a b hi : ℕ} {xs ys : List (Ent A)} (x : Ent A) → Seg Q lo a xs → x .entry .start ≤ t → Seg R b hi ys → t < b
+  pub place-at : {Q R : Asked A} {lo a b hi : ℕ} {xs ys : List (Ent A)} (x : Ent A) → Seg Q lo a xs → x .entry .start ≤ t → Seg R b hi ys
+      → t < b
       → place t (bare (xs ++ x ∷ ys)) ≡ length xs
   unfolding place
   place-at {xs = xs} x s le r h = counted x 0 0 s le r h ∙ zero-add (length xs)

@@ -40,7 +40,8 @@ settle-later half n a m =
     ∙ ap (λ k. cond (leb k (capacity half)) (need 0 (a .pages + m .pages)) (need 1 (suc (a .pages + m .pages)))) d
 
 -- one that it splits
-settle-split : (half n : ℕ) (a m : Need) → capacity half < n + a .adds → together (settle half n a) (need 0 (m .pages)) ≡ settle half n (together a m)
+settle-split : (half n : ℕ) (a m : Need) → capacity half < n + a .adds
+    → together (settle half n a) (need 0 (m .pages)) ≡ settle half n (together a m)
 unfolding together
 settle-split half n a m over =
     let d : suc (a .pages) + m .pages ≡ suc (a .pages + m .pages) = omega arith in
@@ -66,13 +67,15 @@ module _ (half l e : ℕ) where
     then = one-in half e l (there l e es)
 
     -- a half has room
-    roomy : (hs : Ents l) {from to : ℕ} → Owned l e (there l e es) from to hs → from ≤ e → e < to → length hs ≤ suc half → under hs ≡ need 0 (then .pages)
+    roomy : (hs : Ents l) {from to : ℕ} → Owned l e (there l e es) from to hs → from ≤ e → e < to → length hs ≤ suc half
+        → under hs ≡ need 0 (then .pages)
     roomy hs o le lt k =
         let same : there l e hs ≡ there l e es = there-is l e o le lt in
         let adds : then .adds ≤ 1 = one-adds half e l (there l e es) in
         ap (λ y. settle half (length hs) (one-in half e l y)) same ∙ settle-few half (length hs) then (omega arith)
 
-    halves : capacity half < length (x .kid) + a .adds → one-in half e (suc l) (there (suc l) e (split half x es R .became)) ≡ need 0 (then .pages)
+    halves : capacity half < length (x .kid) + a .adds
+        → one-in half e (suc l) (there (suc l) e (split half x es R .became)) ≡ need 0 (then .pages)
     unfolding split
     halves over =
         let p = seg-part half (owned l e s low high) in
@@ -81,7 +84,8 @@ module _ (half l e : ℕ) where
         let lt : lo < p .mid = seg-lt (p .front) (omega arith) in
         let lt′ : p .mid < hi = seg-lt (p .back) (omega arith) in
         let x₁ : Ent (Kid (suc l)) = record { entry = x .entry; kid = take half es } in
-        let x₂ : Ent (Kid (suc l)) = record { entry = entry (at (bare (drop half es)) 0 .start) (x .entry .pair) (next-page R); kid = drop half es } in
+        let x₂ : Ent (Kid (suc l)) =
+        record { entry = entry (at (bare (drop half es)) 0 .start) (x .entry .pair) (next-page R); kid = drop half es } in
         let start : x₂ .entry .start ≡ p .mid = seg-head (p .back) lt′ in
         ⊎-elim
         (λ (late : p .mid ≤ e).
@@ -95,19 +99,22 @@ module _ (half l e : ℕ) where
         (le-or-lt (p .mid) e)
 
     pub page-twice : together (settle half (length (x .kid)) a)
-        (one-in half e (suc l) (there (suc l) e (cond (leb (length (x .kid) + a .adds) (capacity half)) (kept x es R) (split half x es R) .became)))
+        (one-in half e (suc l) (there (suc l) e
+        (cond (leb (length (x .kid) + a .adds) (capacity half)) (kept x es R) (split half x es R) .became)))
         ≡ settle half (length (x .kid)) (together a then)
     unfolding kept split
     page-twice = go (leb (length (x .kid) + a .adds) (capacity half)) refl
       where
         go : (b : Bool) → leb (length (x .kid) + a .adds) (capacity half) ≡ b
-            → together (settle half (length (x .kid)) a) (one-in half e (suc l) (there (suc l) e (cond b (kept x es R) (split half x es R) .became)))
+            → together (settle half (length (x .kid)) a)
+            (one-in half e (suc l) (there (suc l) e (cond b (kept x es R) (split half x es R) .became)))
             ≡ settle half (length (x .kid)) (together a then)
         go true f =
             let x′ : Ent (Kid (suc l)) = record { entry = x .entry; kid = es } in
             let same : there (suc l) e (x′ ∷ []) ≡ x′ = there-is (suc l) e (seg-one at-lo (omega arith) (λ p q. refl)) low high in
             ap (λ y. together (settle half (length (x .kid)) a) (one-in half e (suc l) y)) same
-            ∙ (ap (λ y. together y (one-in half e (suc l) x′)) (settle-few half (length (x .kid)) a (leb-true (length (x .kid) + a .adds) (capacity half) f))
+            ∙ (ap (λ y. together y (one-in half e (suc l) x′))
+            (settle-few half (length (x .kid)) a (leb-true (length (x .kid) + a .adds) (capacity half) f))
             ∙ (ap (λ y. together (need 0 (a .pages)) y) (under-is x′)
             ∙ (ap (λ k. together (need 0 (a .pages)) (settle half k then)) n
             ∙ settle-later half (length (x .kid)) a then)))
@@ -127,22 +134,27 @@ module _ (half s e l : ℕ) (lt : s < e) {Q : Asked (Kid l)} (zs : Ent (Kid l) �
   module _ {lo a b hi : ℕ} {xs ys : Ents l} {x : Ent (Kid l)} (f : Seg Q lo a xs) (start : x .entry .start ≡ a) (some : a < b)
       (r : Seg Q b hi ys) (le : a ≤ s) (high : e < hi) (mid : Row a b (zs x)) where
     -- e lies in x too
-    same-entry : e < b → together (one-in half s l x) (one-in half e l (there l e (zs x))) ≡ both-in half s e l x → Below half s e l zs (xs ++ x ∷ ys) (length xs) x
+    same-entry : e < b → together (one-in half s l x) (one-in half e l (there l e (zs x))) ≡ both-in half s e l x
+        → Below half s e l zs (xs ++ x ∷ ys) (length xs) x
     same-entry h twice =
         let v = there l e (zs x) in
-        let o : Owned l e v lo hi (xs ++ (zs x ++ ys)) = seg-append (before l e v (omega arith) f) (seg-append (owned l e mid (omega arith) h) (behind l e v h r)) in
+        let o : Owned l e v lo hi (xs ++ (zs x ++ ys)) =
+        seg-append (before l e v (omega arith) f) (seg-append (owned l e mid (omega arith) h) (behind l e v h r)) in
         let p : place e (bare (xs ++ x ∷ ys)) ≡ length xs = place-at e x f (omega arith) r h in
-        let z : there l e (splice (length xs) (zs x) (xs ++ x ∷ ys)) ≡ v = ap (there l e) (splice-at xs x ys (zs x)) ∙ there-is l e o (omega (arith, seg-le f)) high in
+        let z : there l e (splice (length xs) (zs x) (xs ++ x ∷ ys)) ≡ v =
+        ap (there l e) (splice-at xs x ys (zs x)) ∙ there-is l e o (omega (arith, seg-le f)) high in
         ap (λ y. together (one-in half s l x) (one-in half e l y)) z
         ∙ (twice
-        ∙ ap (λ c. cond c (both-in half s e l x) (together (one-in half s l x) (one-in half e l (there l e (xs ++ x ∷ ys))))) (sym (eq-eqb (length xs) (place e (bare (xs ++ x ∷ ys))) (sym p))))
+        ∙ ap (λ c. cond c (both-in half s e l x) (together (one-in half s l x) (one-in half e l (there l e (xs ++ x ∷ ys)))))
+        (sym (eq-eqb (length xs) (place e (bare (xs ++ x ∷ ys))) (sym p))))
 
     -- e lies behind x, and so does its place
     other-place : b ≤ e → ¬ (length xs ≡ place e (bare (xs ++ x ∷ ys)))
     unfolding ent-of
     other-place h p =
         let o : Seg (λ c d y. (d ≤ b) ⊎ (b ≤ c)) lo hi (xs ++ x ∷ ys) =
-        seg-append (seg-map (λ c d y low up q. inl (omega arith)) f) (more start some (inl (omega arith)) (seg-map (λ c d y low up q. inr low) r)) in
+        seg-append (seg-map (λ c d y low up q. inl (omega arith)) f)
+        (more start some (inl (omega arith)) (seg-map (λ c d y low up q. inr low) r)) in
         let z = find-ent l e o (omega (arith, seg-le f)) (omega (arith, seg-le f)) in
         let y : ent-of l e (xs ++ x ∷ ys) ≡ x = ap (λ i. getD (xs ++ x ∷ ys) i (no-ent l)) (sym p) ∙ getD-append-seam xs x ys (no-ent l) in
         let t : ent-of l e (xs ++ x ∷ ys) .entry .start ≡ a = ap (λ (w : Ent (Kid l)). w .entry .start) y ∙ start in
@@ -152,7 +164,9 @@ module _ (half s e l : ℕ) (lt : s < e) {Q : Asked (Kid l)} (zs : Ent (Kid l) �
     other-entry h =
         let v = there l e ys in
         let o : Owned l e v b hi ys = owned l e r h high in
-        let w : there l e (xs ++ x ∷ ys) ≡ v = there-is l e (seg-append (before l e v (omega arith) f) (more start some (λ m n. absurd (omega arith)) o)) (omega (arith, seg-le f)) high in
+        let w : there l e (xs ++ x ∷ ys) ≡ v =
+        there-is l e (seg-append (before l e v (omega arith) f) (more start some (λ m n. absurd (omega arith)) o))
+        (omega (arith, seg-le f)) high in
         let z : there l e (splice (length xs) (zs x) (xs ++ x ∷ ys)) ≡ v =
         ap (there l e) (splice-at xs x ys (zs x))
         ∙ there-is l e (seg-append (before l e v (omega arith) f) (seg-append (before l e v h mid) o)) (omega (arith, seg-le f)) high in
@@ -162,7 +176,8 @@ module _ (half s e l : ℕ) (lt : s < e) {Q : Asked (Kid l)} (zs : Ent (Kid l) �
 
   pub below-twice : {lo hi : ℕ} {es : Ents l} → Seg Q lo hi es → lo ≤ s → e < hi
       → ((a b : ℕ) (y : Ent (Kid l)) → y .entry .start ≡ a → a < b → a ≤ s → s < b → Q a b y → Row a b (zs y))
-      → ((a b : ℕ) (y : Ent (Kid l)) → y .entry .start ≡ a → a ≤ s → e < b → Q a b y → together (one-in half s l y) (one-in half e l (there l e (zs y))) ≡ both-in half s e l y)
+      → ((a b : ℕ) (y : Ent (Kid l)) → y .entry .start ≡ a → a ≤ s → e < b → Q a b y
+      → together (one-in half s l y) (one-in half e l (there l e (zs y))) ≡ both-in half s e l y)
       → Below half s e l zs es (place s (bare es)) (there l s es)
   below-twice {lo} {hi} g low high each twice = go (find s g (omega arith) low)
     where
@@ -170,7 +185,8 @@ module _ (half s e l : ℕ) (lt : s < e) {Q : Asked (Kid l)} (zs : Ent (Kid l) �
       go (found {a = a} {b = b} {xs = xs} {x = x} {ys = ys} f start some q r le after) =
           let mid = each a b x start some le (after (omega arith)) q in
           subst⁻¹ (Below half s e l zs (xs ++ x ∷ ys) (length xs)) (getD-append-seam xs x ys (no-ent l))
-          (⊎-elim (λ h. other-entry f start some r le high mid h) (λ h. same-entry f start some r le high mid h (twice a b x start le h q)) (le-or-lt b e))
+          (⊎-elim (λ h. other-entry f start some r le high mid h) (λ h. same-entry f start some r le high mid h (twice a b x start le h q))
+          (le-or-lt b e))
 
 -- ---- the two cuts
 
@@ -186,15 +202,18 @@ module _ (half : ℕ) (two : 2 ≤ half) (s e : ℕ) (lt : s < e) (B : Asked (Ki
       y = record { entry = entry s (x .entry .pair) (x .entry .child); kid = tt }
 
       go : (b : Bool) → eqb (x .entry .start) s ≡ b
-          → together (leaf-need s (x .entry)) (leaf-need e (there 0 e (cond b (x ∷ []) (x ∷ y ∷ [])) .entry)) ≡ together (leaf-need s (x .entry)) (leaf-need e (x .entry))
+          → together (leaf-need s (x .entry)) (leaf-need e (there 0 e (cond b (x ∷ []) (x ∷ y ∷ [])) .entry))
+          ≡ together (leaf-need s (x .entry)) (leaf-need e (x .entry))
       go true f =
           ap (λ (v : Ent (Kid 0)). together (leaf-need s (x .entry)) (leaf-need e (v .entry)))
           (there-is 0 e {hi = suc e} (seg-one {lo = x .entry .start} refl (omega arith) (λ m n. refl)) (omega arith) (omega arith))
       go false f =
           let l : x .entry .start < s = omega (arith, eqb-false (x .entry .start) s f) in
           ap (λ (v : Ent (Kid 0)). together (leaf-need s (x .entry)) (leaf-need e (v .entry)))
-          (there-is 0 e {v = y} (more refl l (λ m n. absurd (omega arith)) (seg-one {lo = s} {hi = suc e} refl (omega arith) (λ m n. refl))) (omega arith) (omega arith))
-          ∙ ap (together (leaf-need s (x .entry))) (leaf-divides e (y .entry) (λ h. omega arith) ∙ sym (leaf-divides e (x .entry) (λ h. omega arith)))
+          (there-is 0 e {v = y} (more refl l (λ m n. absurd (omega arith)) (seg-one {lo = s} {hi = suc e} refl (omega arith) (λ m n. refl)))
+          (omega arith) (omega arith))
+          ∙ ap (together (leaf-need s (x .entry)))
+          (leaf-divides e (y .entry) (λ h. omega arith) ∙ sym (leaf-divides e (x .entry) (λ h. omega arith)))
 
   pub page-both : (l : ℕ) {lo hi : ℕ} (S : Supply) → lo ≤ s → e < hi
       → ((a b : ℕ) (y : Ent (Kid l)) → y .entry .start ≡ a → a ≤ s → e < b → Shaped half B l a b y → Twice l y S)
@@ -211,9 +230,11 @@ module _ (half : ℕ) (two : 2 ≤ half) (s e : ℕ) (lt : s < e) (B : Asked (Ki
       ap (λ r. together (one-in half s (suc l) x) (one-in half e (suc l) (there (suc l) e (r .became)))) (k .cut)
       ∙ (page-twice half l e two x es start (omega arith) high (k .spans) R a most (one-adds half s l y) (k .number)
       ∙ ap (settle half (length (x .kid)))
-      (below-twice half s e l lt (λ z. cut-ent half s l z S .became) g low high (λ a b z e lt l h q. one-cut half pos s B _ z S e lt l h q .spans) twice))
+      (below-twice half s e l lt (λ z. cut-ent half s l z S .became) g low high
+      (λ a b z e lt l h q. one-cut half pos s B _ z S e lt l h q .spans) twice))
 
-  pub both-cut : (l : ℕ) {lo hi : ℕ} (x : Ent (Kid l)) (S : Supply) → x .entry .start ≡ lo → lo ≤ s → e < hi → Shaped half B l lo hi x → Twice l x S
+  pub both-cut : (l : ℕ) {lo hi : ℕ} (x : Ent (Kid l)) (S : Supply) → x .entry .start ≡ lo → lo ≤ s → e < hi → Shaped half B l lo hi x
+      → Twice l x S
   unfolding Shaped
   both-cut zero x S start low high q = leaf-twice x S (omega arith)
   both-cut (suc l) x S start low high q =

@@ -44,7 +44,7 @@ Leads img t zero e = Unit {0}
 Leads img t (suc l) e = Fit-from img t l (e .child)
 
 -- A sound image, and the numbers of its head.
-pub record Opened (img : List ℕ) (h : Head) : Type 0 where
+pub record Sound-image (img : List ℕ) (h : Head) : Type 0 where
   pub whole : length-ok 12 img ≡ true
   pub sound : sound 12 img ≡ true
   pub shown : h ≡ head-of (page-at 12 img 0)

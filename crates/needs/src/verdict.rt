@@ -12,7 +12,7 @@ ghost use Rattle.page.specs.Entries.{entry};
 ghost use Rattle.image.specs.Images.{image-of};
 ghost use Rattle.steps.specs.Change.{lacks-pages};
 ghost use Rattle.needs.specs.Needs.{asked};
-ghost use Rattle.needs.specs.Leads.{Opened};
+ghost use Rattle.needs.specs.Leads.{Sound-image};
 
 // The root as an entry.
 fn root_entry(h: Head) -> Entry
@@ -27,7 +27,7 @@ fn root_entry(h: Head) -> Entry
 
 // What the two cuts ask for from the root down: "nothing if t is END".
 fn asked(img: &[u8], h: Head, s: u32, e: u32) -> Need
-    requires { ⌜ Opened (now img) h ⌝ }
+    requires { ⌜ Sound-image (now img) h ⌝ }
     requires { ⌜ s < e ⌝ }
     ensures { λ r. ⌜ r ≡ asked 12 s e (image-of 12 (now (img .entry))) ⌝ }
 {
@@ -41,7 +41,7 @@ fn asked(img: &[u8], h: Head, s: u32, e: u32) -> Need
 // 24's condition, of a sound image and its head, before anything is written: "A and B together take more pages than chain and
 // pages from the high mark hold".
 pub fn lacks_pages(img: &[u8], h: Head, s: u32, e: u32) -> bool
-    requires { ⌜ Opened (now img) h ⌝ }
+    requires { ⌜ Sound-image (now img) h ⌝ }
     requires { ⌜ s < e ⌝ }
     ensures { λ r. ⌜ r ≡ lacks-pages 12 s e (image-of 12 (now (img .entry))) ⌝ }
 {

@@ -9,13 +9,15 @@ returns : tie.Need-returns
 returns c =
     let root = c .before .before in
     let start = root .before .before in
-    asked-first (start .pre .0) (start .args .s) (start .args .e) (root .root-entry .ensures) (omega (arith, c .before .if1 .taken)) (c .one .ensures)
+    asked-first (start .pre .0) (start .args .s) (start .args .e) (root .root-entry .ensures) (omega (arith, c .before .if1 .taken))
+    (c .one .ensures)
 
 returns-2 : tie.Need-returns-2
 returns-2 c =
     let root = c .before .before in
     let start = root .before .before in
-    asked-both (start .pre .0) (start .args .s) (start .args .e) (root .root-entry .ensures) (omega (arith, start .good, c .before .if1 .left)) (c .both .ensures)
+    asked-both (start .pre .0) (start .args .s) (start .args .e) (root .root-entry .ensures)
+    (omega (arith, start .good, c .before .if1 .left)) (c .both .ensures)
 
 pub asked-spec : {M : Type 1} → statement M
 asked-spec =

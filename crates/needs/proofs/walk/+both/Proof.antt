@@ -5,7 +5,8 @@ use borrow.Author.Needs.{needs}
 use borrow.Fn.Kinds.{In}
 use borrow.Fn.PlainCycle.{Measures, is, falls, and}
 use Rattle.image.specs.Images.{image-of}
-use Rattle.needs.proofs.Below.{met-most, met-leads, leads-on, later-fit, both-leaf, both-same, both-apart, small-leaf, small-both, small-apart}
+use Rattle.needs.proofs.Below.{met-most, met-leads, leads-on, later-fit, both-leaf, both-same, both-apart}
+use Rattle.needs.proofs.Below.{small-leaf, small-both, small-apart}
 use Rattle.needs.proofs.walk.both.Reads as both
 use Rattle.needs.proofs.walk.both.Kinds as both-kinds
 use Rattle.needs.proofs.walk.+both.Lts-both as both-lts
@@ -54,7 +55,8 @@ pub +both-spec : {M : Type 1} → statement M
     let second = c .before in
     let leaf = second .before .before in
     let args = leaf .before .before .args in
-    both-leaf 12 (args .s) (args .t) (image-of 12 (args .img .now)) (args .level) (args .e) (leaf .if1 .taken) (second .before .leaf-need .ensures) (second .leaf-need2 .ensures)
+    both-leaf 12 (args .s) (args .t) (image-of 12 (args .img .now)) (args .level) (args .e) (leaf .if1 .taken)
+    (second .before .leaf-need .ensures) (second .leaf-need2 .ensures)
     (c .together .ensures))
     (λ c κs.
     let start = c .before .before in
@@ -62,8 +64,11 @@ pub +both-spec : {M : Type 1} → statement M
     (args .level - 1, leads-on (args .img .now) (args .s) (args .level) (args .e) (start .pre .1 .0) (c .if1 .left)))
     (λ c κs.
     let start = c .before .before .before in
-    let args = start .args in
-    (args .level - 1, later-fit (leads-on (args .img .now) (args .s) (args .level) (args .e) (start .pre .1 .0) (c .before .if1 .left)) (start .pre .1 .1)))
+    let args = start .args in (
+      args .level - 1,
+      later-fit (leads-on (args .img .now) (args .s) (args .level) (args .e) (start .pre .1 .0) (c .before .if1 .left))
+          (start .pre .1 .1),
+    ))
     (λ c. omega (arith, c .before .before .before .before .before .if1 .left))
     (λ c κs.
     let first = c .before .before .before .before in
@@ -77,14 +82,16 @@ pub +both-spec : {M : Type 1} → statement M
     let args = start .args in
     let k = leads-on (args .img .now) (args .s) (args .level) (args .e) (start .pre .1 .0) (first .before .if1 .left) in (
       met-most k (first .met .ensures),
-      small-both 12 (image-of 12 (args .img .now)) (args .level - 1) (first .met .result .entry) (omega (arith, k .low)) (args .s) (args .t) (c .both .ensures),
+      small-both 12 (image-of 12 (args .img .now)) (args .level - 1) (first .met .result .entry) (omega (arith, k .low)) (args .s) (args .t)
+          (c .both .ensures),
     ))
     (λ c.
     let same = c .before .before in
     let second = same .before .before .before in
     let first = second .before in
     let args = first .before .before .before .args in
-    both-same 12 (args .s) (args .t) (image-of 12 (args .img .now)) (args .level) (args .e) (first .before .if1 .left) (first .met .ensures) (second .met2 .ensures)
+    both-same 12 (args .s) (args .t) (image-of 12 (args .img .now)) (args .level) (args .e) (first .before .if1 .left) (first .met .ensures)
+    (second .met2 .ensures)
     (same .if2 .taken) (c .before .both .ensures) (c .settle .ensures))
     (λ c. omega (arith, c .before .before .before .before .before .if1 .left))
     (λ c κs.
@@ -101,12 +108,14 @@ pub +both-spec : {M : Type 1} → statement M
     let args = start .args in
     let k = leads-on (args .img .now) (args .s) (args .level) (args .e) (start .pre .1 .0) (first .before .if1 .left) in (
       met-most k (first .met .ensures),
-      small-apart 12 (args .s) (args .t) (image-of 12 (args .img .now)) (args .level - 1) (first .met .result .entry) (second .met2 .result .entry) (omega (arith, k .low)) (c .apart .ensures),
+      small-apart 12 (args .s) (args .t) (image-of 12 (args .img .now)) (args .level - 1) (first .met .result .entry)
+          (second .met2 .result .entry) (omega (arith, k .low)) (c .apart .ensures),
     ))
     (λ c.
     let other = c .before .before in
     let second = other .before .before .before in
     let first = second .before in
     let args = first .before .before .before .args in
-    both-apart 12 (args .s) (args .t) (image-of 12 (args .img .now)) (args .level) (args .e) (first .before .if1 .left) (first .met .ensures) (second .met2 .ensures)
+    both-apart 12 (args .s) (args .t) (image-of 12 (args .img .now)) (args .level) (args .e) (first .before .if1 .left)
+    (first .met .ensures) (second .met2 .ensures)
     (other .if2 .left) (c .before .apart .ensures) (c .settle2 .ensures)))

@@ -44,8 +44,11 @@ pub +one-spec : {M : Type 1} → statement M
     let args = c .before .before .before .args in
     one-leaf 12 (args .t) (image-of 12 (args .img .now)) (args .level) (args .e) (c .before .if1 .taken) (c .leaf-need .ensures))
     (λ c κs.
-    let start = c .before .before in
-    (start .args .level - 1, leads-on (start .args .img .now) (start .args .t) (start .args .level) (start .args .e) (start .pre .1) (c .if1 .left)))
+    let start = c .before .before in (
+      start .args .level - 1,
+      leads-on (start .args .img .now) (start .args .t) (start .args .level) (start .args .e) (start .pre .1)
+          (c .if1 .left),
+    ))
     (λ c. omega (arith, c .before .if1 .left))
     (λ c κs.
     let start = c .before .before .before in
@@ -58,9 +61,11 @@ pub +one-spec : {M : Type 1} → statement M
     let args = start .args in
     let k = leads-on (args .img .now) (args .t) (args .level) (args .e) (start .pre .1) (met .before .if1 .left) in (
       met-most k (met .met .ensures),
-      small-one 12 (image-of 12 (args .img .now)) (args .level - 1) (met .met .result .entry) (omega (arith, k .low)) (args .t) (c .one .ensures),
+      small-one 12 (image-of 12 (args .img .now)) (args .level - 1) (met .met .result .entry) (omega (arith, k .low)) (args .t)
+          (c .one .ensures),
     ))
     (λ c.
     let met = c .before .before in
     let args = met .before .before .before .args in
-    one-inner 12 (args .t) (image-of 12 (args .img .now)) (args .level) (args .e) (met .before .if1 .left) (met .met .ensures) (c .before .one .ensures) (c .settle .ensures)))
+    one-inner 12 (args .t) (image-of 12 (args .img .now)) (args .level) (args .e) (met .before .if1 .left) (met .met .ensures)
+    (c .before .one .ensures) (c .settle .ensures)))

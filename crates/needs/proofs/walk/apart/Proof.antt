@@ -11,14 +11,18 @@ together-requires c κs =
     let start = c .before .before .before in
     let args = start .args in
     let X = image-of 12 (args .img .now) in
-    let low = leads-low (args .img .now) (args .s) (args .level) (args .x) (start .pre .0) in
-    (small-one 12 X (args .level) (args .x) low (args .s) (c .before .one .ensures), small-one 12 X (args .level) (args .y) low (args .t) (c .one2 .ensures))
+    let low = leads-low (args .img .now) (args .s) (args .level) (args .x) (start .pre .0) in (
+      small-one 12 X (args .level) (args .x) low (args .s) (c .before .one .ensures),
+      small-one 12 X (args .level) (args .y) low (args .t)
+          (c .one2 .ensures),
+    )
 
 returns : tie.Need-returns
 returns c =
     let second = c .before in
     let args = second .before .before .before .args in
-    apart-is 12 (args .s) (args .t) (image-of 12 (args .img .now)) (args .level) (args .x) (args .y) (second .before .one .ensures) (second .one2 .ensures)
+    apart-is 12 (args .s) (args .t) (image-of 12 (args .img .now)) (args .level) (args .x) (args .y) (second .before .one .ensures)
+    (second .one2 .ensures)
     (c .together .ensures)
 
 pub apart-spec : {M : Type 1} → statement M

@@ -15,7 +15,8 @@ returns : tie.Need-returns
 returns c =
     let found = c .before in
     let page = found .before .before in
-    met-read (page .before .before .pre .1) (page .page-at .ensures) (found .before .number-of .ensures) (found .find .ensures) (c .entry-at .ensures)
+    met-read (page .before .before .pre .1) (page .page-at .ensures) (found .before .number-of .ensures) (found .find .ensures)
+    (c .entry-at .ensures)
 
 pub met-spec : {M : Type 1} → statement M
 met-spec =
