@@ -1,0 +1,167 @@
+/*
+ * Luwhenoka: a time index in an image of 512-byte pages that the caller lends.
+ *
+ * Every call may be handed any image, span, instant, value and buffer, unchecked. It returns, and what it turns back is
+ * refused by a number. The archive is libluwhenoka.a (`rt staticlib luwhenoka`); it needs no other library, takes no
+ * memory of its own and keeps nothing between two calls.
+ *
+ * Time and value. Instants are 0 to 4,294,967,294; LUW_END is no instant. A span [s, e) has s < e <= LUW_END. A value is
+ * -1,000,000 to 1,000,000. An index has a kind and a window w, both set at format. A booking on [s, e) counts from s up to
+ * but not including e + w, or LUW_END if that is less.
+ *
+ * Buffers. A buffer is a pointer and its length in bytes; no pointer need be aligned, and null is fine with length 0.
+ * Buffers of one call must not overlap: nothing is promised where they do. Nor is it where somebody else writes one of them
+ * during the call.
+ *
+ *   image     512 x n bytes for an n from 2 to 1,024, the pages of docs/FORMAT.md. Only luw_format writes it.
+ *   scratch   at least n bytes, of any content.
+ *   output    16 bytes for each run that a listing writes; any length.
+ *
+ * Numbers returned. 0 is accepted; every other number is a refusal. Where several would apply, the first of this order is
+ * returned: 16, 17, 11 or 12, 14, 21, and 15 last.
+ *
+ *   turned back by the input
+ *     11  LUW_SPAN_EMPTY      span with a >= b                                     listing
+ *     12  LUW_INSTANT_END     instant LUW_END                                      instant, average
+ *     14  LUW_KIND_OR_WINDOW  kind or window outside its range                     format
+ *     15  LUW_OUTPUT_SHORT    output shorter than the runs                         listing
+ *     16  LUW_IMAGE_LENGTH    image length not 512 x n for an n in range           all but luw_average_of
+ *     17  LUW_SCRATCH_SHORT   scratch shorter than n bytes                         audit
+ *   turned back by the state
+ *     21  LUW_UNSOUND         instant, average, listing: a page met is unfit;
+ *                             audit: the image is not sound
+ *
+ * A refusal returns its number with zeros for every answer (luw_instant: the pages read too), and image and output keep
+ * their bytes. What becomes of the scratch is said at luw_audit.
+ */
+#ifndef LUWHENOKA_H
+#define LUWHENOKA_H
+
+#include <stddef.h>
+#include <stdint.h>
+
+#ifdef __cplusplus
+extern "C" {
+#endif
+
+/* The end of time, which is no instant. */
+#define LUW_END UINT32_C(4294967295)
+
+/* Bytes of a page; the fewest and the most pages of an image; bytes of a run. */
+#define LUW_PAGE_BYTES 512
+#define LUW_FEWEST_PAGES 2
+#define LUW_MOST_PAGES 1024
+#define LUW_RUN_BYTES 16
+
+/* Kinds. */
+#define LUW_TOTALS 1
+#define LUW_GREATEST 2
+#define LUW_LEAST 3
+
+/* The greatest window. */
+#define LUW_MOST_WINDOW 1000000000
+
+/* Numbers returned. */
+#define LUW_ACCEPTED 0
+#define LUW_SPAN_EMPTY 11
+#define LUW_INSTANT_END 12
+#define LUW_KIND_OR_WINDOW 14
+#define LUW_OUTPUT_SHORT 15
+#define LUW_IMAGE_LENGTH 16
+#define LUW_SCRATCH_SHORT 17
+#define LUW_UNSOUND 21
+
+/* Cases of an average. */
+#define LUW_NO_AVERAGE 0
+#define LUW_HUNDREDTHS 1
+#define LUW_BEYOND 2
+
+/*
+ * Makes the image an empty index of n pages, whatever it held. Every byte of it is written: height 1, no changes, one leaf
+ * with one entry that starts at 0 and has the pair (0, 0); all pages behind it are FF.
+ *
+ * kind is 1 (totals), 2 (greatest) or 3 (least); window is 0 to 1,000,000,000. Refusals: 16, 14; the image keeps its bytes.
+ */
+uint32_t luw_format(uint8_t *image, size_t image_length, uint32_t kind, uint32_t window);
+
+/*
+ * What holds at an instant. Kind 1: the sum and the count of what counts there; an entry adds its value and 1 to them, a
+ * withdrawal takes them away, so that a count may be below 0. Kinds 2 and 3: the greatest or least value, with count 1;
+ * 0 and 0 where nothing counts.
+ *
+ * pages is the number of tree pages read: the height of the tree (1 to 4) if answered. At 21 it is the number of pages up
+ * to and including the unfit one, or 0 if that is the head. At 16 and 12 it is 0.
+ */
+struct luw_instant {
+    uint32_t number;
+    uint32_t pages;
+    int64_t sum;
+    int32_t count;
+};
+
+/*
+ * The pair at instant t, combined on the way from the root to the leaf that has t. Only the head and the pages on that way
+ * are looked at, each as a whole: damage elsewhere doesn't matter. Refusals: 16, 12, 21; sum and count are then 0.
+ */
+struct luw_instant luw_instant(const uint8_t *image, size_t image_length, uint32_t t);
+
+/*
+ * An average in hundredths. answer tells the case:
+ *
+ *   0  LUW_NO_AVERAGE  there is none: the count is 0 or less, or the kind isn't 1; also at every refusal
+ *   1  LUW_HUNDREDTHS  hundredths is the whole number nearest 100 x sum / count, halves away from zero
+ *   2  LUW_BEYOND      from luw_average_of alone: there is an average, but the sum is above 10^15 or below -10^15, which
+ *                      no fit page can show
+ *
+ * hundredths is 0 in cases 0 and 2.
+ */
+struct luw_average {
+    uint32_t number;
+    uint32_t answer;
+    int64_t hundredths;
+};
+
+/*
+ * The average at instant t: that of the pair which luw_instant answers there. Refusals: 16, 12, 21, as at luw_instant. For
+ * kinds 2 and 3 it is accepted, with no average.
+ */
+struct luw_average luw_average(const uint8_t *image, size_t image_length, uint32_t t);
+
+/*
+ * The average of a pair of a kind, for instance of a run that was listed. Takes any numbers; number is always 0.
+ */
+struct luw_average luw_average_of(uint32_t kind, int64_t sum, int32_t count);
+
+/* A listing's answer: the number of runs that were written, 0 at every refusal. */
+struct luw_listing {
+    uint32_t number;
+    uint32_t runs;
+};
+
+/*
+ * The runs over the span [a, b): the first starts at a, and a next one wherever the pair changes, sum or count. A run ends
+ * where the next one starts, the last one at b. Over [0, LUW_END) it is the full listing.
+ *
+ * Each run is 16 bytes of the output, little-endian: start (uint32_t), count (int32_t), sum (int64_t). Bytes past the last
+ * run keep what they held. An image of n pages shows at most 24 x (n - 1) runs, so that 384 x (n - 1) bytes are always enough.
+ *
+ * Only the head, the root and the pages whose span overlaps [a, b) are looked at. Refusals: 16, 11, 21, 15; the output then
+ * keeps every byte, also where it would have had room for some of the runs.
+ */
+struct luw_listing luw_listing(const uint8_t *image, size_t image_length, uint32_t a, uint32_t b,
+                               uint8_t *output, size_t output_length);
+
+/*
+ * Whether the image is sound: head and all tree pages are fit, each page below the high mark is once in the tree or once in
+ * the chain of free pages, the chain is as long as the head says, and free and never used pages read as they should.
+ * Returns 0 if it is. Refusals: 16, 17, 21.
+ *
+ * The first n bytes of the scratch are 0 after 0 and 21; any beyond keep theirs. At 16 and 17 the scratch is untouched.
+ */
+uint32_t luw_audit(const uint8_t *image, size_t image_length, uint8_t *scratch, size_t scratch_length);
+
+#ifdef __cplusplus
+}
+#endif
+
+#endif

@@ -1,0 +1,238 @@
+//! Luwhenoka, a proved time index: how much is booked at an instant, over a span or within a moving window.
+//!
+//! The index lives in an *image*, 512 bytes for each of 2 to 1,024 pages, that the caller lends. Any bytes may stand there:
+//! what is not a fit page is refused, and nothing is changed. These are safe functions over the static library
+//! `libluwhenoka.a`, which is written and proved in Rattle; `include/luwhenoka.h` tells each call in full.
+//!
+//! ```
+//! use luwhenoka::{audit, format, instant, listing, runs, Kind, END};
+//!
+//! let mut image = [0; 4 * 512];
+//! format(&mut image, Kind::Totals, 0)?;
+//! audit(&image, &mut [0; 4])?;
+//!
+//! let now = instant(&image, 1_000)?;
+//! assert_eq!((now.sum, now.count), (0, 0));
+//!
+//! let mut output = [0; 16 * 8];
+//! let number = listing(&image, 0, END, &mut output)?;
+//! assert_eq!(runs(&output, number).count(), 1);
+//! # Ok::<(), Box<dyn std::error::Error>>(())
+//! ```
+
+pub mod raw;
+mod refusal;
+mod run;
+
+pub use refusal::{Refusal, Refused};
+pub use run::{runs, Run, Runs};
+
+/// The end of time, which is no instant.
+pub const END: u32 = 4_294_967_295;
+
+/// Bytes of a page.
+pub const PAGE_BYTES: usize = 512;
+
+/// Bytes of a run in a listing's output.
+pub const RUN_BYTES: usize = 16;
+
+/// What an index answers.
+#[derive(Clone, Copy, PartialEq, Eq, Hash, Debug)]
+pub enum Kind {
+    /// 1: the sum of the values that count, and how many they are
+    Totals = 1,
+    /// 2: the greatest value that counts
+    Greatest = 2,
+    /// 3: the least value that counts
+    Least = 3,
+}
+
+/// Makes the image an empty index, whatever it held. The window is 0 to 1,000,000,000.
+///
+/// Refusals: [`ImageLength`](Refusal::ImageLength), [`KindOrWindow`](Refusal::KindOrWindow).
+///
+/// ```
+/// use luwhenoka::{format, Kind, Refusal};
+///
+/// let mut image = [0; 1_024];
+/// assert_eq!(format(&mut image, Kind::Greatest, 20), Ok(()));
+/// assert_eq!(format(&mut image, Kind::Greatest, 1_000_000_001), Err(Refusal::KindOrWindow));
+/// assert_eq!(format(&mut image[1..], Kind::Greatest, 20), Err(Refusal::ImageLength));
+/// ```
+pub fn format(image: &mut [u8], kind: Kind, window: u32) -> Result<(), Refusal> {
+    Refusal::result(raw::format(image, kind as u32, window))
+}
+
+/// What holds at an instant.
+#[derive(Clone, Copy, PartialEq, Eq, Hash, Debug)]
+pub struct Instant {
+    /// The sum of the values that count, or the greatest or least of them; 0 for nothing.
+    pub sum: i64,
+    /// How many values count; of a greatest or least, 1, or 0 for nothing.
+    pub count: i32,
+    /// The tree pages read, which is the height of the tree.
+    pub pages: u32,
+}
+
+/// The pair at instant `t`. Only the head and the pages on the way from the root to the leaf that has `t` are looked at.
+///
+/// Refusals: [`ImageLength`](Refusal::ImageLength), [`InstantEnd`](Refusal::InstantEnd), [`Unsound`](Refusal::Unsound);
+/// with each comes the number of tree pages read.
+///
+/// ```
+/// use luwhenoka::{format, instant, Instant, Kind, Refusal, Refused};
+///
+/// let mut image = [0; 1_024];
+/// format(&mut image, Kind::Totals, 0)?;
+/// assert_eq!(instant(&image, 0), Ok(Instant { sum: 0, count: 0, pages: 1 }));
+///
+/// image[512 + 4] = 25; // more entries than a page has room for
+/// assert_eq!(instant(&image, 0), Err(Refused { refusal: Refusal::Unsound, pages: 1 }));
+/// # Ok::<(), Refusal>(())
+/// ```
+pub fn instant(image: &[u8], t: u32) -> Result<Instant, Refused> {
+    let raw::Instant { number, pages, sum, count } = raw::instant(image, t);
+    match Refusal::result(number) {
+        Ok(()) => Ok(Instant { sum, count, pages }),
+        Err(refusal) => Err(Refused { refusal, pages }),
+    }
+}
+
+/// An average in hundredths.
+#[derive(Clone, Copy, PartialEq, Eq, Hash, Debug)]
+pub enum Average {
+    /// There is none: the count is 0 or less, or the kind isn't totals.
+    None,
+    /// The whole number nearest 100 × sum / count, halves away from zero.
+    Hundredths(i64),
+    /// The sum is beyond ±10^15, which no fit page can show; never the answer for an image.
+    Beyond,
+}
+
+impl Average {
+    fn of(raw: raw::Average) -> Average {
+        match raw.answer {
+            0 => Average::None,
+            1 => Average::Hundredths(raw.hundredths),
+            2 => Average::Beyond,
+            other => panic!("the library returns no such answer as {other}"),
+        }
+    }
+}
+
+/// The average at instant `t`: that of the pair which [`instant`] answers there.
+///
+/// Refusals: as of [`instant`]. For kinds other than totals it is accepted, with [`Average::None`].
+///
+/// ```
+/// use luwhenoka::{average, format, Average, Kind, Refusal, END};
+///
+/// let mut image = [0; 1_024];
+/// format(&mut image, Kind::Totals, 0)?;
+/// assert_eq!(average(&image, 7), Ok(Average::None));
+/// assert_eq!(average(&image, END), Err(Refusal::InstantEnd));
+/// # Ok::<(), Refusal>(())
+/// ```
+pub fn average(image: &[u8], t: u32) -> Result<Average, Refusal> {
+    let averaged = raw::average(image, t);
+    Refusal::result(averaged.number)?;
+    Ok(Average::of(averaged))
+}
+
+/// The average of a pair of a kind, for instance of a run.
+///
+/// ```
+/// use luwhenoka::{average_of, Average, Kind};
+///
+/// assert_eq!(average_of(Kind::Totals, -1, 8), Average::Hundredths(-13));
+/// assert_eq!(average_of(Kind::Totals, 5, -1), Average::None);
+/// assert_eq!(average_of(Kind::Greatest, 5, 1), Average::None);
+/// ```
+pub fn average_of(kind: Kind, sum: i64, count: i32) -> Average {
+    Average::of(raw::average_of(kind as u32, sum, count))
+}
+
+/// Writes the runs over [`a`, `b`) to the output, 16 bytes each, and answers their number; [`runs`] reads them. Bytes past
+/// the last run keep what they held. An image of n pages shows at most 24 × (n − 1) runs.
+///
+/// Refusals: [`ImageLength`](Refusal::ImageLength), [`SpanEmpty`](Refusal::SpanEmpty), [`Unsound`](Refusal::Unsound),
+/// [`OutputShort`](Refusal::OutputShort); the output then keeps every byte.
+///
+/// ```
+/// use luwhenoka::{format, listing, runs, Kind, Refusal, Run};
+///
+/// let mut image = [0; 1_024];
+/// format(&mut image, Kind::Totals, 0)?;
+/// let mut output = [0; 40];
+/// let number = listing(&image, 10, 20, &mut output)?;
+/// assert_eq!(runs(&output, number).collect::<Vec<_>>(), [Run { start: 10, count: 0, sum: 0 }]);
+/// assert_eq!(listing(&image, 10, 20, &mut output[..15]), Err(Refusal::OutputShort));
+/// # Ok::<(), Refusal>(())
+/// ```
+pub fn listing(image: &[u8], a: u32, b: u32, output: &mut [u8]) -> Result<usize, Refusal> {
+    let listed = raw::listing(image, a, b, output);
+    Refusal::result(listed.number)?;
+    Ok(listed.runs as usize)
+}
+
+/// Whether the image of n pages is sound. Borrows the first n bytes of the scratch, which are 0 afterwards; any beyond keep
+/// theirs.
+///
+/// Refusals: [`ImageLength`](Refusal::ImageLength), [`ScratchShort`](Refusal::ScratchShort), both with the scratch
+/// untouched; [`Unsound`](Refusal::Unsound).
+///
+/// ```
+/// use luwhenoka::{audit, format, Kind, Refusal};
+///
+/// let mut image = [0; 1_024];
+/// let mut scratch = [7; 3];
+/// assert_eq!(audit(&image, &mut scratch), Err(Refusal::Unsound));
+/// format(&mut image, Kind::Least, 0)?;
+/// assert_eq!(audit(&image, &mut scratch), Ok(()));
+/// assert_eq!(scratch, [0, 0, 7]);
+/// # Ok::<(), Refusal>(())
+/// ```
+pub fn audit(image: &[u8], scratch: &mut [u8]) -> Result<(), Refusal> {
+    Refusal::result(raw::audit(image, scratch))
+}
+
+/// Books the value `v` on [`s`, `e`). Borrows the first n bytes of the scratch, for an image of n pages; they are 0
+/// afterwards, and any beyond keep theirs.
+///
+/// Refusals: [`ImageLength`](Refusal::ImageLength), [`ScratchShort`](Refusal::ScratchShort),
+/// [`SpanEmpty`](Refusal::SpanEmpty), [`ValueRange`](Refusal::ValueRange), all four with the scratch untouched;
+/// [`Unsound`](Refusal::Unsound), [`ChangesFull`](Refusal::ChangesFull), [`PagesLacking`](Refusal::PagesLacking). The image
+/// then keeps every byte.
+///
+/// ```
+/// use luwhenoka::{enter, format, instant, Kind};
+///
+/// let mut image = [0; 1_024];
+/// format(&mut image, Kind::Totals, 0)?;
+/// enter(&mut image, &mut [0; 2], 6, 10, 40)?;
+/// assert_eq!(instant(&image, 39)?.sum, 6);
+/// assert_eq!(instant(&image, 40)?.sum, 0);
+/// # Ok::<(), luwhenoka::Refusal>(())
+/// ```
+#[cfg(feature = "booking")]
+pub fn enter(image: &mut [u8], scratch: &mut [u8], v: i64, s: u32, e: u32) -> Result<(), Refusal> {
+    Refusal::result(raw::enter(image, scratch, v, s, e))
+}
+
+/// Takes the value `v` on [`s`, `e`) away again, whether or not such a booking is live. Scratch and refusals are those of
+/// [`enter`], and [`WithdrawalKind`](Refusal::WithdrawalKind).
+///
+/// ```
+/// use luwhenoka::{enter, format, instant, withdraw, Kind};
+///
+/// let mut image = [0; 1_024];
+/// format(&mut image, Kind::Totals, 0)?;
+/// enter(&mut image, &mut [0; 2], 6, 10, 40)?;
+/// withdraw(&mut image, &mut [0; 2], 6, 10, 40)?;
+/// assert_eq!(instant(&image, 39)?.count, 0);
+/// # Ok::<(), luwhenoka::Refusal>(())
+/// ```
+#[cfg(feature = "booking")]
+pub fn withdraw(image: &mut [u8], scratch: &mut [u8], v: i64, s: u32, e: u32) -> Result<(), Refusal> {
+    Refusal::result(raw::withdraw(image, scratch, v, s, e))
+}

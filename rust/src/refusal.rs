@@ -1,0 +1,137 @@
+//! What a call turns back, by document 01's numbers.
+
+use std::error::Error;
+use std::fmt;
+
+/// Why a call was turned back. Image and output are as before.
+#[derive(Clone, Copy, PartialEq, Eq, Hash, Debug)]
+pub enum Refusal {
+    /// 11: a span whose start is not below its end
+    SpanEmpty,
+    /// 12: [`END`](crate::END) is no instant
+    InstantEnd,
+    /// 13: a value outside −1,000,000 to 1,000,000
+    ValueRange,
+    /// 14: a kind other than 1 to 3, or a window above 1,000,000,000
+    KindOrWindow,
+    /// 15: an output shorter than the runs, 16 bytes each
+    OutputShort,
+    /// 16: an image length that isn't 512 × n for an n from 2 to 1,024
+    ImageLength,
+    /// 17: a scratch shorter than n bytes
+    ScratchShort,
+    /// 21: a page that was met is unfit; of an audit or a change, the image is not sound
+    Unsound,
+    /// 22: a withdrawal from an index of kind 2 or 3
+    WithdrawalKind,
+    /// 23: the index has had 1,000,000,000 changes
+    ChangesFull,
+    /// 24: the change needs more pages than the image has left
+    PagesLacking,
+}
+
+impl Refusal {
+    /// All of them, by number.
+    pub const ALL: [Refusal; 11] = [
+        Refusal::SpanEmpty,
+        Refusal::InstantEnd,
+        Refusal::ValueRange,
+        Refusal::KindOrWindow,
+        Refusal::OutputShort,
+        Refusal::ImageLength,
+        Refusal::ScratchShort,
+        Refusal::Unsound,
+        Refusal::WithdrawalKind,
+        Refusal::ChangesFull,
+        Refusal::PagesLacking,
+    ];
+
+    /// The number that the call returned.
+    ///
+    /// ```
+    /// assert_eq!(luwhenoka::Refusal::Unsound.number(), 21);
+    /// ```
+    pub fn number(self) -> u32 {
+        match self {
+            Refusal::SpanEmpty => 11,
+            Refusal::InstantEnd => 12,
+            Refusal::ValueRange => 13,
+            Refusal::KindOrWindow => 14,
+            Refusal::OutputShort => 15,
+            Refusal::ImageLength => 16,
+            Refusal::ScratchShort => 17,
+            Refusal::Unsound => 21,
+            Refusal::WithdrawalKind => 22,
+            Refusal::ChangesFull => 23,
+            Refusal::PagesLacking => 24,
+        }
+    }
+
+    /// The refusal of a number; none for 0 and for any that no call returns.
+    ///
+    /// ```
+    /// use luwhenoka::Refusal;
+    /// assert_eq!(Refusal::of_number(16), Some(Refusal::ImageLength));
+    /// assert_eq!(Refusal::of_number(0), None);
+    /// ```
+    pub fn of_number(number: u32) -> Option<Refusal> {
+        Refusal::ALL.into_iter().find(|refusal| refusal.number() == number)
+    }
+
+    /// A returned number as a result.
+    pub(crate) fn result(number: u32) -> Result<(), Refusal> {
+        if number == 0 {
+            return Ok(());
+        }
+        Err(Refusal::of_number(number).unwrap_or_else(|| panic!("the library returns no such number as {number}")))
+    }
+}
+
+impl fmt::Display for Refusal {
+    fn fmt(&self, f: &mut fmt::Formatter<'_>) -> fmt::Result {
+        f.write_str(match self {
+            Refusal::SpanEmpty => "the span's start is not below its end",
+            Refusal::InstantEnd => "4294967295 is the end of time and no instant",
+            Refusal::ValueRange => "the value is outside -1000000 to 1000000",
+            Refusal::KindOrWindow => "the kind is none of 1, 2 and 3, or the window is above 1000000000",
+            Refusal::OutputShort => "the output is shorter than the runs",
+            Refusal::ImageLength => "the image is not 512 bytes for each of 2 to 1024 pages",
+            Refusal::ScratchShort => "the scratch is shorter than a byte for each page",
+            Refusal::Unsound => "a page of the image is unfit, or the image is not sound",
+            Refusal::WithdrawalKind => "an index of the greatest or least takes no withdrawal",
+            Refusal::ChangesFull => "the index has had 1000000000 changes",
+            Refusal::PagesLacking => "the image lacks pages for the change",
+        })?;
+        write!(f, " (refusal {})", self.number())
+    }
+}
+
+impl Error for Refusal {}
+
+/// Why an instant was turned back, and how many tree pages were read.
+///
+/// At [`Refusal::Unsound`] the pages are those up to and including the unfit one, 0 for the head; at any other refusal they
+/// are 0.
+#[derive(Clone, Copy, PartialEq, Eq, Hash, Debug)]
+pub struct Refused {
+    pub refusal: Refusal,
+    pub pages: u32,
+}
+
+impl fmt::Display for Refused {
+    fn fmt(&self, f: &mut fmt::Formatter<'_>) -> fmt::Result {
+        write!(f, "{}, tree pages read: {}", self.refusal, self.pages)
+    }
+}
+
+impl Error for Refused {
+    fn source(&self) -> Option<&(dyn Error + 'static)> {
+        Some(&self.refusal)
+    }
+}
+
+impl From<Refused> for Refusal {
+    fn from(refused: Refused) -> Refusal {
+        refused.refusal
+    }
+}
