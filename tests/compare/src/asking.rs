@@ -1,0 +1,91 @@
+//! Calls with the buffers that they usually get.
+
+use crate::calls::{Answer, Call};
+use crate::comparer::Comparer;
+
+impl Comparer {
+    pub fn format(&mut self, kind: u32, window: u32) -> Answer {
+        self.ask(Call::Format { kind, window }, 0, 0)
+    }
+
+    pub fn instant(&mut self, t: u32) -> Answer {
+        self.ask(Call::Instant { t }, 0, 0)
+    }
+
+    pub fn average(&mut self, t: u32) -> Answer {
+        self.ask(Call::Average { t }, 0, 0)
+    }
+
+    pub fn average_of(&mut self, kind: u32, sum: i64, count: i32) -> Answer {
+        self.ask(Call::AverageOf { kind, sum, count }, 0, 0)
+    }
+
+    /// With an output that has room for every run an image of so many pages can show.
+    pub fn listing(&mut self, a: u32, b: u32) -> Answer {
+        let plenty = 384 * self.pages();
+        self.ask(Call::Listing { a, b }, 0, plenty)
+    }
+
+    /// With outputs around the length that is needed.
+    pub fn listings(&mut self, a: u32, b: u32) {
+        let needed = 16 * self.listing(a, b).runs as usize;
+        let call = Call::Listing { a, b };
+        let more = self.random.below(40);
+        self.ask(call, 0, needed + more);
+        if needed > 0 {
+            let fewer = self.random.below(needed);
+            self.ask(call, 0, needed - 1);
+            self.ask(call, 0, fewer);
+        }
+    }
+
+    /// With a scratch that is long enough, now and then longer.
+    pub fn audit(&mut self) -> Answer {
+        let scratch = self.pages() + self.random.below(3);
+        self.ask(Call::Audit, scratch, 0)
+    }
+
+    // ------------------------------------------------------------ changes
+
+    /// Enters, or withdraws, and goes on with the image that it leaves; the number returned. Until the library has these
+    /// calls, the plain version does it.
+    pub fn book(&mut self, withdrawal: bool, v: i64, s: u32, e: u32) -> u32 {
+        #[cfg(feature = "booking")]
+        {
+            let scratch = self.pages() + self.random.below(3);
+            self.ask(change(withdrawal, v, s, e), scratch, 0).number
+        }
+        #[cfg(not(feature = "booking"))]
+        {
+            let mut image = self.image().to_vec();
+            let change = if withdrawal { crate::images::withdraw } else { crate::images::enter };
+            let number = change(&mut image, v, s, e);
+            if number == 0 {
+                self.lend(&image);
+            }
+            number
+        }
+    }
+
+    /// A change of each sort, and back to the image as it was; nothing until the library has these calls.
+    pub fn changes_and_back(&mut self) {
+        #[cfg(feature = "booking")]
+        for withdrawal in [false, true] {
+            let before = self.image().to_vec();
+            let (s, length) = (self.random.below(300) as u32, 1 + self.random.below(200) as u32);
+            let v = self.random.between(-1_000_000, 1_000_000);
+            if self.book(withdrawal, v, s, s + length) == 0 {
+                self.lend(&before);
+            }
+        }
+    }
+}
+
+#[cfg(feature = "booking")]
+pub fn change(withdrawal: bool, v: i64, s: u32, e: u32) -> Call {
+    if withdrawal {
+        Call::Withdraw { v, s, e }
+    } else {
+        Call::Enter { v, s, e }
+    }
+}

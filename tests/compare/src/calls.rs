@@ -1,0 +1,200 @@
+//! The calls, as the plain version and as the library do them. A further call is one more case here.
+
+use luwhenoka::raw::ffi;
+use plain::Average;
+
+#[derive(Clone, Copy, PartialEq, Eq, Debug)]
+pub enum Call {
+    Format {
+        kind: u32,
+        window: u32,
+    },
+    Instant {
+        t: u32,
+    },
+    Average {
+        t: u32,
+    },
+    AverageOf {
+        kind: u32,
+        sum: i64,
+        count: i32,
+    },
+    Listing {
+        a: u32,
+        b: u32,
+    },
+    Audit,
+    #[cfg(feature = "booking")]
+    Enter {
+        v: i64,
+        s: u32,
+        e: u32,
+    },
+    #[cfg(feature = "booking")]
+    Withdraw {
+        v: i64,
+        s: u32,
+        e: u32,
+    },
+}
+
+/// Each call's name and the numbers that it can return: every one has to occur.
+pub const NAMES: &[(&str, &[u32])] = &[
+    ("format", &[0, 14, 16]),
+    ("instant", &[0, 12, 16, 21]),
+    ("average", &[0, 12, 16, 21]),
+    ("average_of", &[0]),
+    ("listing", &[0, 11, 15, 16, 21]),
+    ("audit", &[0, 16, 17, 21]),
+    #[cfg(feature = "booking")]
+    ("enter", &[0, 11, 13, 16, 17, 21, 23, 24]),
+    #[cfg(feature = "booking")]
+    ("withdraw", &[0, 11, 13, 16, 17, 21, 22, 23, 24]),
+];
+
+impl Call {
+    /// The call's place in [`NAMES`].
+    pub fn place(self) -> usize {
+        match self {
+            Call::Format { .. } => 0,
+            Call::Instant { .. } => 1,
+            Call::Average { .. } => 2,
+            Call::AverageOf { .. } => 3,
+            Call::Listing { .. } => 4,
+            Call::Audit => 5,
+            #[cfg(feature = "booking")]
+            Call::Enter { .. } => 6,
+            #[cfg(feature = "booking")]
+            Call::Withdraw { .. } => 7,
+        }
+    }
+
+    /// Whether it may write the image.
+    pub fn writes(self) -> bool {
+        !matches!(
+            self,
+            Call::Instant { .. } | Call::Average { .. } | Call::AverageOf { .. } | Call::Listing { .. } | Call::Audit
+        )
+    }
+}
+
+/// The number that a call returns and all that it answers; 0 for what it doesn't have.
+#[derive(Clone, Copy, PartialEq, Eq, Debug, Default)]
+pub struct Answer {
+    pub number: u32,
+    pub pages: u32,
+    pub sum: i64,
+    pub count: i32,
+    pub average: u32,
+    pub hundredths: i64,
+    pub runs: u32,
+}
+
+impl Answer {
+    pub fn number(number: u32) -> Answer {
+        Answer { number, ..Answer::default() }
+    }
+
+    pub fn pair(sum: i64, count: i32, pages: u32) -> Answer {
+        Answer { sum, count, pages, ..Answer::default() }
+    }
+
+    pub fn runs(runs: u32) -> Answer {
+        Answer { runs, ..Answer::default() }
+    }
+
+    pub fn hundredths(hundredths: i64) -> Answer {
+        Answer { average: 1, hundredths, ..Answer::default() }
+    }
+}
+
+/// The buffers of a call; each call takes those that it has.
+pub struct Lent<'a> {
+    pub image: &'a mut [u8],
+    pub scratch: &'a mut [u8],
+    pub output: &'a mut [u8],
+}
+
+// ---------------------------------------------------------------- the plain version
+
+pub fn by_plain(call: Call, lent: Lent) -> Answer {
+    let Lent { image, scratch, output } = lent;
+    match call {
+        Call::Format { kind, window } => Answer::number(plain::format(image, kind, window)),
+        Call::Instant { t } => {
+            let plain::Instant { number, sum, count, pages } = plain::instant(image, t);
+            Answer { number, pages, sum, count, ..Answer::default() }
+        }
+        Call::Average { t } => {
+            let (number, hundredths) = plain::average(image, t);
+            Answer { number, ..averaged(hundredths.map_or(Average::None, Average::Hundredths)) }
+        }
+        Call::AverageOf { kind, sum, count } => averaged(plain::average_of(kind, sum, count)),
+        Call::Listing { a, b } => {
+            let plain::Listing { number, runs } = plain::listing(image, a, b, output);
+            Answer { number, runs, ..Answer::default() }
+        }
+        Call::Audit => Answer::number(plain::audit(image, scratch)),
+        #[cfg(feature = "booking")]
+        Call::Enter { v, s, e } => Answer::number(plain::enter(image, scratch, v, s, e)),
+        #[cfg(feature = "booking")]
+        Call::Withdraw { v, s, e } => Answer::number(plain::withdraw(image, scratch, v, s, e)),
+    }
+}
+
+fn averaged(average: Average) -> Answer {
+    let (average, hundredths) = match average {
+        Average::None => (0, 0),
+        Average::Hundredths(hundredths) => (1, hundredths),
+        Average::Beyond => (2, 0),
+    };
+    Answer { average, hundredths, ..Answer::default() }
+}
+
+// ---------------------------------------------------------------- the library
+
+/// By its C functions, so that what it might write to an image that it should only read is seen too. An empty buffer is
+/// lent as null if `null`.
+pub fn by_library(call: Call, lent: Lent, null: bool) -> Answer {
+    let (image, image_length) = parts(lent.image, null);
+    let (scratch, scratch_length) = parts(lent.scratch, null);
+    let (output, output_length) = parts(lent.output, null);
+    unsafe {
+        match call {
+            Call::Format { kind, window } => Answer::number(ffi::luw_format(image, image_length, kind, window)),
+            Call::Instant { t } => {
+                let answer = ffi::luw_instant(image, image_length, t);
+                Answer { number: answer.number, ..Answer::pair(answer.sum, answer.count, answer.pages) }
+            }
+            Call::Average { t } => library_averaged(ffi::luw_average(image, image_length, t)),
+            Call::AverageOf { kind, sum, count } => library_averaged(ffi::luw_average_of(kind, sum, count)),
+            Call::Listing { a, b } => {
+                let answer = ffi::luw_listing(image, image_length, a, b, output, output_length);
+                Answer { number: answer.number, ..Answer::runs(answer.runs) }
+            }
+            Call::Audit => Answer::number(ffi::luw_audit(image, image_length, scratch, scratch_length)),
+            #[cfg(feature = "booking")]
+            Call::Enter { v, s, e } => {
+                Answer::number(ffi::luw_enter(image, image_length, scratch, scratch_length, v, s, e))
+            }
+            #[cfg(feature = "booking")]
+            Call::Withdraw { v, s, e } => {
+                Answer::number(ffi::luw_withdraw(image, image_length, scratch, scratch_length, v, s, e))
+            }
+        }
+    }
+}
+
+fn parts(bytes: &mut [u8], null: bool) -> (*mut u8, usize) {
+    if null && bytes.is_empty() {
+        (std::ptr::null_mut(), 0)
+    } else {
+        (bytes.as_mut_ptr(), bytes.len())
+    }
+}
+
+fn library_averaged(answer: luwhenoka::raw::Average) -> Answer {
+    let luwhenoka::raw::Average { number, answer: average, hundredths } = answer;
+    Answer { number, average, hundredths, ..Answer::default() }
+}

@@ -1,0 +1,193 @@
+//! One image, lent to the plain version and to the library alike; every call is done by both and compared: the number and
+//! the answer, and every byte of image, scratch and output, with the bytes around them.
+
+use std::cell::Cell;
+use std::sync::Mutex;
+
+use crate::calls::{by_library, by_plain, Answer, Call, Lent};
+use crate::random::Random;
+use crate::room::Room;
+use crate::tally::Tally;
+
+/// Where the comparison is, for a message that lets one repeat it.
+#[derive(Clone, Copy)]
+pub struct Place {
+    pub group: &'static str,
+    pub part: usize,
+    pub seed: u64,
+    pub number: u64,
+    pub call: Option<Call>,
+}
+
+thread_local! {
+    static PLACE: Cell<Place> = const { Cell::new(Place { group: "", part: 0, seed: 0, number: 0, call: None }) };
+}
+
+pub struct Comparer {
+    place: Place,
+    /// The image as the plain version has it.
+    image: Vec<u8>,
+    lent: Room,
+    /// The image ahead of a call that writes it.
+    before: Vec<u8>,
+    scratch: Vec<u8>,
+    lent_scratch: Room,
+    output: Vec<u8>,
+    lent_output: Room,
+    noise: Vec<u8>,
+    null: bool,
+    pub random: Random,
+    pub tally: Tally,
+}
+
+/// More than the longest scratch and output of the groups.
+const NOISE_BYTES: usize = 1 << 20;
+
+impl Comparer {
+    pub fn new(group: &'static str, part: usize, seed: u64) -> Comparer {
+        let mut random = Random::new(seed);
+        Comparer {
+            place: Place { group, part, seed, number: 0, call: None },
+            image: Vec::new(),
+            lent: Room::new(),
+            before: Vec::new(),
+            scratch: Vec::new(),
+            lent_scratch: Room::new(),
+            output: Vec::new(),
+            lent_output: Room::new(),
+            noise: random.bytes(NOISE_BYTES),
+            null: false,
+            random,
+            tally: Tally::default(),
+        }
+    }
+
+    // ------------------------------------------------------------ the image
+
+    /// Lends this image from now on.
+    pub fn lend(&mut self, image: &[u8]) {
+        self.image.clear();
+        self.image.extend_from_slice(image);
+        let lean = self.random.below(16);
+        self.lent.fill(image, lean);
+    }
+
+    pub fn image(&self) -> &[u8] {
+        &self.image
+    }
+
+    pub fn pages(&self) -> usize {
+        self.image.len() / 512
+    }
+
+    /// Sets bytes of the image that both have.
+    pub fn set(&mut self, at: usize, bytes: &[u8]) {
+        self.image[at..at + bytes.len()].copy_from_slice(bytes);
+        self.lent.lent()[at..at + bytes.len()].copy_from_slice(bytes);
+    }
+
+    /// Lends empty buffers as null from now on, or no longer.
+    pub fn lend_null(&mut self, null: bool) {
+        self.null = null;
+    }
+
+    // ------------------------------------------------------------ a call
+
+    /// Does a call both ways with a scratch and an output of these lengths and any content; the image goes on as the call
+    /// left it. Ends the program at a difference.
+    pub fn ask(&mut self, call: Call, scratch: usize, output: usize) -> Answer {
+        self.place.number += 1;
+        self.place.call = Some(call);
+        PLACE.set(self.place);
+        if call.writes() {
+            self.before.clear();
+            self.before.extend_from_slice(&self.image);
+        }
+        fill(&mut self.scratch, &mut self.lent_scratch, &self.noise, scratch, &mut self.random);
+        fill(&mut self.output, &mut self.lent_output, &self.noise, output, &mut self.random);
+
+        let Comparer { image, scratch, output, .. } = self;
+        let expected = by_plain(call, Lent { image, scratch, output });
+        let (image, scratch, output) = (self.lent.lent(), self.lent_scratch.lent(), self.lent_output.lent());
+        let answer = by_library(call, Lent { image, scratch, output }, self.null);
+        if let Some(difference) = self.difference(expected, answer) {
+            self.end(&difference);
+        }
+        self.tally.add(call, &answer);
+        answer
+    }
+
+    /// A call whose answer a document tells: both give it.
+    pub fn expect(&mut self, call: Call, scratch: usize, output: usize, expected: Answer) {
+        let answer = self.ask(call, scratch, output);
+        if answer != expected {
+            self.end(&format!("the plain version and the library answer {answer:?}, expected is {expected:?}"));
+        }
+    }
+
+    fn difference(&self, expected: Answer, answer: Answer) -> Option<String> {
+        if answer != expected {
+            return Some(format!("answer: plain {expected:?}, library {answer:?}"));
+        }
+        byte("image", &self.image, &self.lent)
+            .or_else(|| byte("scratch", &self.scratch, &self.lent_scratch))
+            .or_else(|| byte("output", &self.output, &self.lent_output))
+    }
+
+    /// Tells the difference and how to see it again, keeps the image beside the program, and ends.
+    fn end(&self, difference: &str) -> ! {
+        let writes = self.place.call.is_some_and(Call::writes);
+        let image = if writes { &self.before } else { &self.image };
+        let beside = std::env::current_exe().unwrap_or_default().with_file_name("different.image");
+        let kept = match std::fs::write(&beside, image) {
+            Ok(()) => format!(", kept in {}", beside.display()),
+            Err(_) => String::new(),
+        };
+        let buffers = format!(
+            "image of {} bytes{kept}; scratch of {}, output of {}{}",
+            image.len(),
+            self.scratch.len(),
+            self.output.len(),
+            if self.null { "; empty ones are null" } else { "" }
+        );
+        end_at(self.place, &format!("{difference}\n  {buffers}"))
+    }
+}
+
+/// Both get the same bytes out of the noise.
+fn fill(plain: &mut Vec<u8>, room: &mut Room, noise: &[u8], length: usize, random: &mut Random) {
+    let from = random.below(noise.len() - length);
+    plain.clear();
+    plain.extend_from_slice(&noise[from..from + length]);
+    room.fill(plain, random.below(16));
+}
+
+/// The first byte of a buffer that differs.
+fn byte(name: &str, plain: &[u8], room: &Room) -> Option<String> {
+    let held = room.held();
+    if plain != held {
+        let at = plain.iter().zip(held).position(|(one, other)| one != other).unwrap_or(0);
+        return Some(format!("{name}: byte {at} is {:02X} by plain, {:02X} by the library", plain[at], held[at]));
+    }
+    (!room.walls_stand()).then(|| format!("{name}: bytes ahead of it or behind it were written"))
+}
+
+// ---------------------------------------------------------------- the end of a comparison
+
+/// One thread at a time tells its end.
+static TELLING: Mutex<()> = Mutex::new(());
+
+fn end_at(place: Place, what: &str) -> ! {
+    let _one = TELLING.lock();
+    let call = place.call.map_or(String::new(), |call| format!("{call:?}"));
+    let Place { group, part, seed, number, .. } = place;
+    println!("DIFFERENT: group {group}, part {part} (seed {seed}), call {number} of it: {call}");
+    println!("  {what}");
+    println!("  again: --only {group} --part {part}");
+    std::process::exit(1)
+}
+
+/// A panic of the plain version, or of a group's own checks, ends the comparison like a difference.
+pub fn end_at_a_panic() {
+    std::panic::set_hook(Box::new(|panic| end_at(PLACE.get(), &format!("{panic}"))));
+}

@@ -1,0 +1,203 @@
+//! Bytes and numbers of sound images set to something else, one or two at a time.
+
+use plain::END;
+
+use crate::comparer::Comparer;
+use crate::images::{child_at, count_at, instant_of, level, number, start_at, sum_at, Pool, NUMBER_AT};
+use crate::random::Random;
+
+// ---------------------------------------------------------------- each byte
+
+/// Part i does the pool's small image i.
+pub fn bytes(comparer: &mut Comparer, pool: &Pool, part: usize) {
+    let whole = &pool.small[part];
+    comparer.lend(whole);
+    for at in 0..whole.len() {
+        for value in bytes_for(whole[at]) {
+            comparer.set(at, &[value]);
+            calls(comparer, at / 512);
+        }
+        comparer.set(at, &whole[at..=at]);
+    }
+}
+
+fn bytes_for(old: u8) -> Vec<u8> {
+    let mut values = vec![0x00, 0x01, 0x02, 0x0B, 0x18, 0x19, 0x7F, 0x80, 0xFE, 0xFF];
+    values.extend([old ^ 1, old.wrapping_add(1), old.wrapping_sub(1), !old]);
+    values.sort_unstable();
+    values.dedup();
+    values.retain(|value| *value != old);
+    values
+}
+
+/// Calls on an image one of whose pages is damaged; most of them meet that page.
+fn calls(comparer: &mut Comparer, page: usize) {
+    let t = instant_of(comparer.image(), page, &mut comparer.random.clone());
+    comparer.random.next();
+    comparer.audit();
+    comparer.instant(t);
+    comparer.instant(t.wrapping_sub(1));
+    comparer.average(0);
+    comparer.listing(0, END);
+    comparer.listing(t, t.saturating_add(30));
+    if comparer.random.one_in(4) {
+        comparer.changes_and_back();
+    }
+}
+
+// ---------------------------------------------------------------- each word
+
+/// Part i does the pool's small image i: each word at the ends of the ranges that its fields have, then each sum.
+pub fn words(comparer: &mut Comparer, pool: &Pool, part: usize) {
+    let whole = &pool.small[part];
+    let n = (whole.len() / 512) as u32;
+    comparer.lend(whole);
+    for at in (0..whole.len()).step_by(4) {
+        for value in numbers(n) {
+            comparer.set(at, &value.to_le_bytes());
+            calls(comparer, at / 512);
+        }
+        comparer.set(at, &whole[at..at + 4]);
+    }
+    for page in 1..n as usize {
+        for i in 0..24 {
+            let at = 512 * page + sum_at(i);
+            for value in sums() {
+                comparer.set(at, &value.to_le_bytes());
+                calls(comparer, page);
+            }
+            comparer.set(at, &whole[at..at + 8]);
+        }
+    }
+}
+
+/// Ends of the ranges of page numbers, numbers of entries, levels, windows, changes, instants and counts.
+fn numbers(n: u32) -> Vec<u32> {
+    let mut numbers = vec![0, 1, 2, 3, 4, 5, 11, 12, 13, 23, 24, 25, 26, n - 2, n - 1, n, n + 1, 254, 255, 256];
+    numbers.extend([1_000_000_000, 1_000_000_001, (1 << 31) - 1, 1 << 31, u32::MAX - 1, u32::MAX]);
+    // Counts below 0.
+    numbers.extend([-2i32, -18, -1_000_000_000, -1_000_000_001, i32::MIN + 1].map(|count| count as u32));
+    numbers.sort_unstable();
+    numbers.dedup();
+    numbers
+}
+
+fn sums() -> Vec<i64> {
+    let above = [1, 9, 1_000_000, 1_000_001, 20_000_000, 20_000_001, 1 << 31, 1 << 32, 1_000_000_000_000_000, i64::MAX];
+    above.iter().copied().chain(above.iter().map(|sum| -sum)).chain([0, i64::MIN, 1_000_000_000_000_001]).collect()
+}
+
+// ---------------------------------------------------------------- numbers of entries
+
+/// "Trusting a page's number of entries before comparing it with 24" is a fault that was seen made: pages whose places past
+/// their entries hold those of an older page, at any number of entries.
+pub fn stale(comparer: &mut Comparer, pool: &Pool, part: usize) {
+    let whole = pool.image(part);
+    comparer.lend(whole);
+    let pages: Vec<usize> = (1..comparer.pages()).filter(|page| level(whole, *page) < 4).collect();
+    for _ in 0..pages.len().min(10) {
+        let page = comparer.random.pick(&pages);
+        for old_entries in [false, true] {
+            if old_entries {
+                lay_old_entries(comparer, page);
+            }
+            for to in (0..=40).chain([255, 256, 280, 1 << 31, u32::MAX]) {
+                comparer.set(512 * page + NUMBER_AT, &u32::to_le_bytes(to));
+                calls(comparer, page);
+            }
+            comparer.set(512 * page, &whole[512 * page..512 * page + 512]);
+        }
+    }
+}
+
+/// Entries as they might follow the last one.
+fn lay_old_entries(comparer: &mut Comparer, page: usize) {
+    let image = comparer.image();
+    let entries = number(image, page, NUMBER_AT) as usize;
+    let (mut start, child) = (number(image, page, start_at(entries - 1)), number(image, page, child_at(entries - 1)));
+    for i in entries..24 {
+        start = start.saturating_add(1 + comparer.random.below(3) as u32);
+        comparer.set(512 * page + start_at(i), &start.to_le_bytes());
+        comparer.set(512 * page + sum_at(i), &1i64.to_le_bytes());
+        comparer.set(512 * page + count_at(i), &1i32.to_le_bytes());
+        comparer.set(512 * page + child_at(i), &child.to_le_bytes());
+    }
+}
+
+// ---------------------------------------------------------------- tall images
+
+/// Damage anywhere in a tall image, and calls that meet it.
+pub fn wear(comparer: &mut Comparer, pool: &Pool, part: usize) {
+    let whole = &pool.tall[part % pool.tall.len()];
+    comparer.lend(whole);
+    let rounds = if whole.len() > 100_000 { 400 } else { 1_200 };
+    for _ in 0..rounds {
+        let mut damaged = Vec::new();
+        for _ in 0..1 + comparer.random.below(2) {
+            let damage = drawn(comparer);
+            comparer.set(damage.at, &damage.bytes);
+            damaged.push(damage.at / 512);
+        }
+        for page in damaged.iter().copied() {
+            let t = instant_of(whole, page, &mut comparer.random);
+            comparer.instant(t);
+            comparer.average(t);
+            comparer.instant(t.wrapping_sub(1));
+            comparer.listing(t, t.saturating_add(1));
+            comparer.listing(t.saturating_sub(40), t.saturating_add(900));
+        }
+        if comparer.random.one_in(6) {
+            comparer.audit();
+            comparer.listing(0, END);
+        }
+        if comparer.random.one_in(30) {
+            comparer.changes_and_back();
+        }
+        for page in damaged {
+            comparer.set(512 * page, &whole[512 * page..512 * page + 512]);
+        }
+    }
+}
+
+struct Damage {
+    at: usize,
+    bytes: Vec<u8>,
+}
+
+/// A field of a page, tree pages mostly, inner ones often; set to an end of its range, or to nearly what it was.
+fn drawn(comparer: &mut Comparer) -> Damage {
+    let n = comparer.pages();
+    let image = comparer.image().to_vec();
+    let random = &mut comparer.random;
+    let page = page_drawn(&image, n, random);
+    let i = random.below(24);
+    let at = 512 * page
+        + match random.below(9) {
+            0 => 0,
+            1 => NUMBER_AT,
+            2 => start_at(i),
+            3 => sum_at(i),
+            4 => count_at(i),
+            5 => child_at(i),
+            6 => 4 * random.below(9),
+            7 => start_at(random.below(2)),
+            _ => random.below(512 - 8),
+        };
+    let old = u32::from_le_bytes(image[at..at + 4].try_into().expect("4 bytes"));
+    let bytes = match random.below(5) {
+        0 => vec![image[at] ^ 1 << random.below(8)],
+        1 => random.pick(&sums()).to_le_bytes().to_vec(),
+        2 => old.wrapping_add(random.between(-2, 2) as u32).to_le_bytes().to_vec(),
+        3 => (random.below(n) as u32).to_le_bytes().to_vec(),
+        _ => random.pick(&numbers(n as u32)).to_le_bytes().to_vec(),
+    };
+    Damage { at, bytes }
+}
+
+fn page_drawn(image: &[u8], n: usize, random: &mut Random) -> usize {
+    if random.one_in(12) {
+        return 0;
+    }
+    let wanted = random.below(4) as u32;
+    (0..50).map(|_| random.below(n)).find(|page| *page > 0 && level(image, *page) == wanted).unwrap_or(1)
+}

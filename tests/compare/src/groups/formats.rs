@@ -1,0 +1,32 @@
+//! Format at every number of pages, over any bytes, and what the calls answer on the fresh image.
+
+use plain::END;
+
+use crate::comparer::Comparer;
+use crate::images::Pool;
+
+const KINDS: [u32; 9] = [0, 1, 2, 3, 4, 255, 257, 1 << 31, u32::MAX];
+const WINDOWS: [u32; 8] = [0, 1, 20, 999_999_999, 1_000_000_000, 1_000_000_001, 1 << 31, u32::MAX];
+
+pub fn formats(comparer: &mut Comparer, _: &Pool, part: usize) {
+    for n in (2 + part..=1_024).step_by(4) {
+        let bytes = comparer.random.bytes(512 * n);
+        comparer.lend(&bytes);
+        let kind = 1 + (n % 3) as u32;
+        comparer.format(kind, 4);
+        comparer.format(kind, 1_000_000_000);
+        comparer.audit();
+        comparer.instant(END - 1);
+        comparer.listings(0, END);
+    }
+    if part == 0 {
+        comparer.lend(&[0x11; 1_024]);
+        for kind in KINDS {
+            for window in WINDOWS {
+                comparer.format(kind, window);
+                comparer.audit();
+                comparer.average(0);
+            }
+        }
+    }
+}

@@ -1,0 +1,148 @@
+//! Lengths of image, scratch and output around their ends; empty buffers lent as null; lengths above 2^32.
+
+use std::alloc::{alloc_zeroed, dealloc, Layout};
+
+use luwhenoka::raw;
+use plain::END;
+
+use crate::calls::{Answer, Call};
+use crate::comparer::Comparer;
+use crate::images::{fresh, Pool};
+
+pub fn lengths(comparer: &mut Comparer, pool: &Pool, _: usize) {
+    for null in [false, true] {
+        comparer.lend_null(null);
+        images(comparer);
+        scratches(comparer, pool);
+        outputs(comparer, pool);
+    }
+    comparer.lend_null(false);
+    above_32_bits();
+}
+
+/// Lengths around multiples of 512, those in range among them; bytes that begin like a fresh image.
+fn images(comparer: &mut Comparer) {
+    let mut lengths = vec![0, 1, 2, 511, 512, 513, 1_000];
+    for n in [2, 3, 4, 5, 64, 255, 256, 257, 1_023, 1_024, 1_025, 2_048] {
+        lengths.extend([512 * n - 1, 512 * n, 512 * n + 1, 512 * n + 256]);
+    }
+    for length in lengths {
+        let mut bytes = fresh((length / 512).clamp(2, 1_024), 1, 0);
+        bytes.resize(length, 0xFF);
+        comparer.lend(&bytes);
+        for t in [0, END] {
+            comparer.instant(t);
+            comparer.average(t);
+        }
+        for (a, b) in [(0, END), (5, 5)] {
+            comparer.ask(Call::Listing { a, b }, 0, 0);
+            comparer.ask(Call::Listing { a, b }, 0, 16);
+        }
+        for scratch in [0, 1, length / 512, length / 512 + 1] {
+            comparer.ask(Call::Audit, scratch, 0);
+        }
+        #[cfg(feature = "booking")]
+        changes(comparer);
+        comparer.format(1, 0);
+        comparer.format(0, 0);
+    }
+}
+
+#[cfg(feature = "booking")]
+fn changes(comparer: &mut Comparer) {
+    let n = comparer.pages();
+    for scratch in [0, n.saturating_sub(1), n, n + 1] {
+        for (v, s, e) in [(1, 5, 9), (1, 9, 9), (1_000_001, 5, 9)] {
+            comparer.ask(Call::Enter { v, s, e }, scratch, 0);
+            comparer.ask(Call::Withdraw { v, s, e }, scratch, 0);
+        }
+    }
+}
+
+fn scratches(comparer: &mut Comparer, pool: &Pool) {
+    let fresh_ones = [2, 3, 4, 63, 64, 65, 255, 256, 257, 1_023, 1_024].map(|n| fresh(n, 2, 1));
+    for image in pool.all().chain(&fresh_ones) {
+        comparer.lend(image);
+        let n = comparer.pages();
+        for scratch in [0, 1, n / 8, n - 1, n, n + 1, n + 9, 2 * n, 5_000] {
+            comparer.ask(Call::Audit, scratch, 0);
+            #[cfg(feature = "booking")]
+            {
+                comparer.ask(Call::Enter { v: 2, s: 7, e: END }, scratch, 0);
+                comparer.ask(Call::Withdraw { v: 2, s: 7, e: END }, scratch, 0);
+            }
+        }
+    }
+}
+
+/// Every length of the output for a listing of some runs.
+fn outputs(comparer: &mut Comparer, pool: &Pool) {
+    for image in &pool.small {
+        comparer.lend(image);
+        for (a, b) in [(0, END), (12, 38), (7, 8)] {
+            let needed = 16 * comparer.listing(a, b).runs as usize;
+            for output in 0..needed + 20 {
+                comparer.ask(Call::Listing { a, b }, 0, output);
+            }
+        }
+    }
+}
+
+// ---------------------------------------------------------------- above 2^32
+
+/// Zeros that no memory is taken for until they are written.
+struct Vast {
+    bytes: *mut u8,
+    layout: Layout,
+}
+
+impl Vast {
+    fn new(length: usize) -> Option<Vast> {
+        let layout = Layout::from_size_align(length, 1).ok()?;
+        let bytes = unsafe { alloc_zeroed(layout) };
+        (!bytes.is_null()).then_some(Vast { bytes, layout })
+    }
+
+    fn lent(&mut self) -> &mut [u8] {
+        unsafe { std::slice::from_raw_parts_mut(self.bytes, self.layout.size()) }
+    }
+}
+
+impl Drop for Vast {
+    fn drop(&mut self) {
+        unsafe { dealloc(self.bytes, self.layout) }
+    }
+}
+
+/// A length whose low 32 bits would pass is no such length, and one whose low bits would not is long enough. These are too
+/// long to compare byte for byte: what is expected is said here, of the first bytes too.
+fn above_32_bits() {
+    let image = fresh(2, 1, 0);
+    let Some(mut vast) = Vast::new((1 << 32) + 1_024) else {
+        println!("no memory for lengths above 2^32: not tried");
+        return;
+    };
+    vast.lent()[..1_024].copy_from_slice(&image);
+    let refused = luwhenoka::raw::Instant { number: 16, pages: 0, sum: 0, count: 0 };
+    assert_eq!(raw::instant(vast.lent(), 0), refused);
+    assert_eq!(raw::average(vast.lent(), 0).number, 16);
+    assert_eq!(raw::listing(vast.lent(), 0, END, &mut [0; 16]).number, 16);
+    assert_eq!(raw::audit(vast.lent(), &mut [0; 2]), 16);
+    assert_eq!(raw::format(vast.lent(), 2, 0), 16);
+    assert_eq!(vast.lent()[..1_024], image);
+    drop(vast);
+
+    let mut vast = Vast::new((1 << 32) + 1).expect("as much as before");
+    vast.lent()[..4].fill(7);
+    assert_eq!(raw::audit(&image, vast.lent()), 0);
+    assert_eq!(vast.lent()[..4], [0, 0, 7, 7]);
+    let listed = raw::listing(&image, 3, END, vast.lent());
+    assert_eq!(Answer { number: listed.number, ..Answer::runs(listed.runs) }, Answer::runs(1));
+    assert_eq!(vast.lent()[..4], [3, 0, 0, 0]);
+    #[cfg(feature = "booking")]
+    {
+        let mut image = image.clone();
+        assert_eq!(raw::enter(&mut image, vast.lent(), 6, 10, 40), 0);
+        assert_eq!(raw::withdraw(&mut image, vast.lent(), 6, 10, 40), 0);
+    }
+}

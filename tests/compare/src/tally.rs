@@ -1,0 +1,100 @@
+//! How often each call returned each number.
+
+use crate::calls::{Answer, Call, NAMES};
+
+const NUMBERS: usize = 25;
+
+#[derive(Clone)]
+pub struct Tally {
+    numbers: Vec<[u64; NUMBERS]>,
+    /// Tree pages read by instants that were answered, and by those refused with 21.
+    answered_pages: [u64; 5],
+    refused_pages: [u64; 5],
+    /// Averages by their case: none, hundredths, beyond.
+    averages: [u64; 3],
+}
+
+impl Default for Tally {
+    fn default() -> Tally {
+        Tally {
+            numbers: vec![[0; NUMBERS]; NAMES.len()],
+            answered_pages: [0; 5],
+            refused_pages: [0; 5],
+            averages: [0; 3],
+        }
+    }
+}
+
+impl Tally {
+    pub fn add(&mut self, call: Call, answer: &Answer) {
+        self.numbers[call.place()][answer.number as usize] += 1;
+        match call {
+            Call::Instant { .. } if answer.number == 0 => self.answered_pages[answer.pages as usize] += 1,
+            Call::Instant { .. } if answer.number == 21 => self.refused_pages[answer.pages as usize] += 1,
+            Call::AverageOf { .. } => self.averages[answer.average as usize] += 1,
+            _ => {}
+        }
+    }
+
+    pub fn add_all(&mut self, other: &Tally) {
+        for (mine, theirs) in self.numbers.iter_mut().zip(&other.numbers) {
+            add(mine, theirs);
+        }
+        add(&mut self.answered_pages, &other.answered_pages);
+        add(&mut self.refused_pages, &other.refused_pages);
+        add(&mut self.averages, &other.averages);
+    }
+
+    pub fn calls(&self) -> u64 {
+        self.numbers.iter().flatten().sum()
+    }
+
+    pub fn print(&self) {
+        for ((name, _), numbers) in NAMES.iter().zip(&self.numbers) {
+            let total: u64 = numbers.iter().sum();
+            let each: Vec<String> =
+                (0..NUMBERS).filter(|i| numbers[*i] > 0).map(|i| format!("{i}: {}", numbers[i])).collect();
+            println!("{name:<11}{total:>9} calls, by number {}", each.join(", "));
+        }
+        println!(
+            "instants by tree pages read: answered {}, refused {}",
+            row(&self.answered_pages),
+            row(&self.refused_pages)
+        );
+        println!(
+            "averages of pairs: none {}, hundredths {}, beyond {}",
+            self.averages[0], self.averages[1], self.averages[2]
+        );
+    }
+
+    /// What should have occurred and didn't.
+    pub fn lacking(&self) -> Vec<String> {
+        let mut lacking = Vec::new();
+        for ((name, possible), numbers) in NAMES.iter().zip(&self.numbers) {
+            lacking.extend(possible.iter().filter(|i| numbers[**i as usize] == 0).map(|i| format!("{name} with {i}")));
+        }
+        for pages in 0..=4 {
+            if pages > 0 && self.answered_pages[pages] == 0 {
+                lacking.push(format!("an instant answered from {pages} pages"));
+            }
+            if self.refused_pages[pages] == 0 {
+                lacking.push(format!("an instant refused after {pages} pages"));
+            }
+        }
+        let cases = ["none", "in hundredths", "beyond"];
+        lacking.extend(
+            cases.iter().zip(self.averages).filter(|(_, n)| *n == 0).map(|(case, _)| format!("an average {case}")),
+        );
+        lacking
+    }
+}
+
+fn add<const N: usize>(mine: &mut [u64; N], theirs: &[u64; N]) {
+    for (one, other) in mine.iter_mut().zip(theirs) {
+        *one += other;
+    }
+}
+
+fn row(counts: &[u64; 5]) -> String {
+    counts.iter().enumerate().map(|(pages, count)| format!("{pages}: {count}")).collect::<Vec<_>>().join(", ")
+}
