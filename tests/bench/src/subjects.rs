@@ -1,0 +1,119 @@
+//! What is measured: images that the plain version made, and the same runs in a map.
+
+use std::collections::BTreeMap;
+
+use plain::END;
+
+pub struct Random(u64);
+
+impl Random {
+    pub fn new(seed: u64) -> Random {
+        Random(seed.wrapping_mul(0x9E37_79B9_7F4A_7C15) | 1)
+    }
+
+    pub fn below(&mut self, bound: u32) -> u32 {
+        self.0 ^= self.0 << 13;
+        self.0 ^= self.0 >> 7;
+        self.0 ^= self.0 << 17;
+        ((self.0.wrapping_mul(0x2545_F491_4F6C_DD1D) >> 16) % u64::from(bound)) as u32
+    }
+}
+
+/// Bookings lie below this instant.
+pub const RANGE: u32 = 1_000_000_000;
+
+pub type Booking = (i64, u32, u32);
+
+/// Bookings of values up to 100 anywhere in the range, each at most so long.
+pub fn bookings(number: usize, longest: u32, seed: u64) -> Vec<Booking> {
+    let mut random = Random::new(seed);
+    let mut booking = || {
+        let (s, long) = (random.below(RANGE - longest), 1 + random.below(longest));
+        (i64::from(random.below(100)) + 1, s, s + long)
+    };
+    (0..number).map(|_| booking()).collect()
+}
+
+pub fn instants(number: usize, seed: u64) -> Vec<u32> {
+    let mut random = Random::new(seed);
+    (0..number).map(|_| random.below(RANGE)).collect()
+}
+
+pub fn fresh(n: usize) -> Vec<u8> {
+    let mut image = vec![0; 512 * n];
+    assert_eq!(plain::format(&mut image, 1, 0), 0);
+    image
+}
+
+/// An image of n pages after these bookings, as many of them as find pages; how many those are.
+pub fn booked(n: usize, bookings: &[Booking]) -> (Vec<u8>, usize) {
+    let mut image = fresh(n);
+    let mut scratch = vec![0; n];
+    let refused = bookings.iter().position(|(v, s, e)| plain::enter(&mut image, &mut scratch, *v, *s, *e) != 0);
+    (image, refused.unwrap_or(bookings.len()))
+}
+
+fn number(image: &[u8], at: usize) -> u32 {
+    u32::from_le_bytes(image[at..at + 4].try_into().expect("4 bytes"))
+}
+
+pub fn height(image: &[u8]) -> u32 {
+    number(image, 4)
+}
+
+/// The pages on the way to t, as offsets in the image.
+pub fn way(image: &[u8], t: u32) -> Vec<usize> {
+    let mut page = 512 * number(image, 8) as usize;
+    let mut way = Vec::new();
+    for _ in 0..height(image) {
+        way.push(page);
+        let entries = number(image, page + 4) as usize;
+        let i = (0..entries).rfind(|i| number(image, page + 32 + 4 * i) <= t).expect("the first is at t or before");
+        page = 512 * number(image, page + 140 + 16 * i) as usize;
+    }
+    way
+}
+
+/// Start, count and sum of each run of the full listing.
+pub fn runs(image: &[u8]) -> Vec<(u32, i32, i64)> {
+    let mut output = vec![0; 384 * (image.len() / 512)];
+    let answer = plain::listing(image, 0, END, &mut output);
+    assert_eq!(answer.number, 0);
+    let run = |bytes: &[u8]| {
+        let start = u32::from_le_bytes(bytes[0..4].try_into().expect("4 bytes"));
+        let count = i32::from_le_bytes(bytes[4..8].try_into().expect("4 bytes"));
+        (start, count, i64::from_le_bytes(bytes[8..16].try_into().expect("8 bytes")))
+    };
+    output.chunks(16).take(answer.runs as usize).map(run).collect()
+}
+
+/// The runs in a map by their starts: what a plain program would keep in memory.
+#[derive(Clone)]
+pub struct RunMap(BTreeMap<u32, (i64, i32)>);
+
+impl RunMap {
+    pub fn of(image: &[u8]) -> RunMap {
+        RunMap(runs(image).into_iter().map(|(start, count, sum)| (start, (sum, count))).collect())
+    }
+
+    pub fn pair_at(&self, t: u32) -> (i64, i32) {
+        *self.0.range(..=t).next_back().expect("a run starts at 0").1
+    }
+
+    /// Adds v and count over [s, e) and joins what has become equal at both ends.
+    #[cfg_attr(not(feature = "booking"), allow(dead_code))]
+    pub fn change(&mut self, v: i64, count: i32, s: u32, e: u32) {
+        for t in [s, e] {
+            let before = self.pair_at(t);
+            self.0.entry(t).or_insert(before);
+        }
+        for (_, pair) in self.0.range_mut(s..e) {
+            *pair = (pair.0 + v, pair.1 + count);
+        }
+        for t in [s, e] {
+            if t > 0 && self.0.get(&t) == self.0.range(..t).next_back().map(|(_, pair)| pair) {
+                self.0.remove(&t);
+            }
+        }
+    }
+}
