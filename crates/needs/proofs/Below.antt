@@ -16,14 +16,14 @@ use Rattle.page.proofs.Laws.Trees.{length-entries-of, at-entries-of}
 use Rattle.fit.proofs.Laws.Pages.{PageFit, page-fit-is, entry-first}
 use Rattle.image.specs.Images.{Image, entries-in, page-at, image-of}
 use Rattle.image.specs.Sound.{tree-fit}
-use Rattle.audit.specs.Walks.{In-image}
-use Rattle.audit.proofs.Bytes.{within-length}
+use Rattle.lent.specs.Opened.{Within}
+use Rattle.lent.proofs.Laws.{page-length}
 use Rattle.audit.proofs.Tree.{tree-parts}
 use Rattle.lookup.specs.Levels.{Searched}
 use Rattle.lookup.proofs.Laws.Finds.{place-within, place-started}
 use Rattle.lookup.proofs.Laws.Levels.{fit-searched}
 use Rattle.steps.specs.Supply.{entries}
-use Rattle.state.proofs.From.Cells.{cell-tree}
+use Rattle.image.proofs.Cells.{cell-tree}
 use Rattle.needs.specs.declared.Need.{Need}
 use Rattle.needs.specs.declared.Met.{Met}
 use Rattle.needs.specs.Needs.{need, together, leaf-need, settle, one, apart, both}
@@ -42,8 +42,8 @@ module _ {img : List ℕ} {t l p : ℕ} (k : Fit-from img t l p) where
   page-is-fit : PageFit 12 (k .head) (k .at) (page-at 12 img p)
   page-is-fit = page-fit-is 12 (k .head) (k .at) (page-at 12 img p) .0 (top-fit (k .head) img l (k .at) p (k .fit))
 
-  pub within : In-image img p
-  within = record { pages = k .head .pages; size = k .size; below = k .inside }
+  pub within : Within img p
+  within = omega (arith, k .size, k .inside)
 
   entries-read : entries (image-of 12 img) p ≡ entries-of 12 (page-at 12 img p)
   unfolding entries image-of entries-in
@@ -54,7 +54,7 @@ module _ {img : List ℕ} {t l p : ℕ} (k : Fit-from img t l p) where
 
   module _ {s : List ℕ} (same : s ≡ page-at 12 img p) where
     pub size-read : length s ≡ 512
-    size-read = ap length same ∙ within-length within
+    size-read = ap length same ∙ page-length _ _ within
 
     pub may-search : {n : ℕ} → n ≡ number-of s → Searched s n t
     may-search e = fit-searched (subst⁻¹ (PageFit 12 (k .head) (k .at)) same page-is-fit) size-read e (k .begun)

@@ -4,7 +4,7 @@ use super::Need;
 use super::parts::leaf_need;
 use super::parts::settle;
 use super::parts::together;
-use audit::pages::page_at;
+use lent::pages::page_at;
 use lookup::find::find;
 use page::Entry;
 use page::at::entry_at;
