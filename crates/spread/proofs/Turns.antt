@@ -1,0 +1,208 @@
+-- The loop over a page's entries: those passed have taken the effect or sent it below, the rest stand as they were. Assumes nothing.
+use mathlib.Core.Path.{_≡_, refl, sym, ap, _∙_, subst, subst₂}
+use mathlib.Core.List.{List, [], _∷_, _++_, append-assoc}
+use Prim.Native.Nat.{ℕ, suc, _+_, _≤_, _<_}
+use native.Mathlib.Omega.{arith}
+use lib.ListN.{length, drop, length-append, length-take, length-drop}
+use lib.Seq.{take-at, drop-at, getD-at}
+use Rattle.page.specs.declared.Entry.{Entry}
+use Rattle.page.specs.declared.Page.{Page}
+use Rattle.page.specs.Entries.{at, splice, no-entry}
+use Rattle.page.specs.Decoded.{shown}
+use Rattle.image.specs.Images.{Image, tree}
+use Rattle.steps.specs.Supply.{entries, put}
+use Rattle.steps.specs.Spread.{Spreading, start-of, spread-entries}
+use Rattle.edit.specs.Shows.{Shows}
+use Rattle.edit.proofs.Edits.{shows-number, shows-as, shows-then}
+use Rattle.edit.proofs.Places.{shown-length}
+use Rattle.store.specs.Holding.{Holds, Some, Each, Within, Loaded}
+use Rattle.store.proofs.Holding.{holds-length}
+use Rattle.spread.specs.declared.Task.{Task}
+use Rattle.spread.specs.Ready.{took-by, page-by, sent-by, Takes, Entries-ready, Below-ready, Page-ready, Entry-ready}
+use Rattle.spread.proofs.Laws.{spreading, written, page-whole}
+
+-- what the entries behind these became, with these in front
+abbrev after : List Entry → Spreading → Spreading
+after done r = record { became = done ++ r .became; image = r .image }
+
+-- ---- lists at the seam of what was passed and the rest
+
+module _ (done : List Entry) (x : Entry) (xs : List Entry) {i : ℕ} (n : length done ≡ i) where
+  seam-drop : drop (suc i) (done ++ (x ∷ xs)) ≡ xs
+  seam-drop =
+      let m : length (done ++ (x ∷ [])) ≡ suc i = length-append done (x ∷ []) ∙ omega arith in
+      ap (drop (suc i)) (sym (append-assoc done (x ∷ []) xs)) ∙ drop-at (done ++ (x ∷ [])) xs (suc i) m
+
+  seam-splice : (y : Entry) → splice i (y ∷ []) (done ++ (x ∷ xs)) ≡ (done ++ (y ∷ [])) ++ xs
+  unfolding splice
+  seam-splice y = (λ j. take-at done (x ∷ xs) i n j ++ (y ∷ seam-drop j)) ∙ sym (append-assoc done (y ∷ []) xs)
+
+-- ---- the page p of an image X, after i of its entries
+
+module _ (q : Task) (level hi p : ℕ) where
+  -- The bytes and the decoded page then: what is left to do gives the whole.
+  pub record Turned (page : Page) (i : ℕ) (img : List ℕ) (X : Image) : Type 0 where
+    pub image : Image
+    pub done : List Entry
+    pub rest : List Entry
+    pub holds : Holds img image
+    pub shows : Shows level (done ++ rest) page
+    pub passed : length done ≡ i
+    pub ready : Entries-ready q (Below-ready q level) level hi rest image
+    pub whole : after done (spreading q level hi rest image) ≡ spreading q level hi (entries X p) X
+
+  -- The same where the next entry is x, which ends at end.
+  pub record Next (page : Page) (i : ℕ) (img : List ℕ) (X : Image) (x : Entry) (end : ℕ) : Type 0 where
+    pub image : Image
+    pub done : List Entry
+    pub rest : List Entry
+    pub holds : Holds img image
+    pub shows : Shows level (done ++ (x ∷ rest)) page
+    pub passed : length done ≡ i
+    pub takes : Takes q end x
+    pub sends : Entry-ready q level end x image
+    pub ready : Entries-ready q (Below-ready q level) level hi rest (sent-by q level end x image)
+    pub whole : after done (after (took-by q end x ∷ []) (spreading q level hi rest (sent-by q level end x image)))
+        ≡ spreading q level hi (entries X p) X
+
+  turned-none : {page : Page} {img : List ℕ} {X : Image} → Holds img X → Page-ready q level hi p X → Shows level (entries X p) page
+      → Turned page 0 img X
+  turned-none {X = X} h r s =
+      record {
+        image = X;
+        done = [];
+        rest = entries X p;
+        holds = h;
+        shows = s;
+        passed = refl;
+        ready = r .each;
+        whole = refl;
+      }
+
+  all-of : {page : Page} {i : ℕ} (X Y : Image) (done rest : List Entry) → Shows level (done ++ rest) page → length done ≡ i
+      → after done (spreading q level hi rest Y) ≡ spreading q level hi (entries X p) X → page .number ≤ i
+      → put p (tree (page .level) (shown page)) Y ≡ page-by q level hi p X
+  unfolding spread-entries
+  all-of X Y done [] s n w l =
+      (λ j. put p (tree (s .level j) (s .entries j)) Y) ∙ ap (written p level) w ∙ page-whole q level hi p X
+  all-of X Y done (x ∷ xs) s n w l = absurd (omega (arith, shows-number s, length-append done (x ∷ xs)))
+
+  module _ {page : Page} {i : ℕ} {img : List ℕ} {X : Image} where
+    next-of : (Y : Image) (done rest : List Entry) → Holds img Y → Shows level (done ++ rest) page → length done ≡ i
+        → Entries-ready q (Below-ready q level) level hi rest Y
+        → after done (spreading q level hi rest Y) ≡ spreading q level hi (entries X p) X → i < page .number
+        → Next page i img X (at (shown page) i) (start-of hi (drop (suc i) (shown page)))
+    unfolding Entries-ready spread-entries
+    next-of Y done [] h s n r w l = absurd (omega (arith, shows-number s, length-append done []))
+    next-of Y done (x ∷ xs) h s n r w l =
+        let e : x ≡ at (shown page) i = sym (ap (λ es. at es i) (s .entries) ∙ getD-at done x xs no-entry i n) in
+        let d : start-of hi xs ≡ start-of hi (drop (suc i) (shown page)) =
+        sym (ap (λ es. start-of hi (drop (suc i) es)) (s .entries) ∙ ap (start-of hi) (seam-drop done x xs n)) in
+        subst₂ (λ y b. Next page i img X y b) e d
+        (record {
+          image = Y;
+          done = done;
+          rest = xs;
+          holds = h;
+          shows = s;
+          passed = n;
+          takes = r .0;
+          sends = r .1;
+          ready = r .2;
+          whole = w;
+        })
+
+    turned-next : Turned page i img X → i < page .number → {x : Entry} {end : ℕ} → x ≡ at (shown page) i
+        → end ≡ start-of hi (drop (suc i) (shown page)) → Next page i img X x end
+    turned-next t l e d =
+        subst₂ (λ y b. Next page i img X y b) (sym e) (sym d)
+        (next-of (t .image) (t .done) (t .rest) (t .holds) (t .shows) (t .passed) (t .ready) (t .whole) l)
+
+    next-more : {x : Entry} {end : ℕ} (t : Next page i img X x end) {img′ : List ℕ} {page′ : Page}
+        → Holds img′ (sent-by q level end x (t .image)) → Shows (page .level) (splice i (took-by q end x ∷ []) (shown page)) page′
+        → Turned page′ (i + 1) img′ X
+    next-more {x} {end} t h s =
+        let y : Entry = took-by q end x in
+        let left : Spreading = spreading q level hi (t .rest) (sent-by q level end x (t .image)) in
+        record {
+          image = sent-by q level end x (t .image);
+          done = t .done ++ (y ∷ []);
+          rest = t .rest;
+          holds = h;
+          shows = shows-as (shows-then (splice i (y ∷ [])) (t .shows) s) (seam-splice (t .done) x (t .rest) (t .passed) y);
+          passed = length-append (t .done) (y ∷ []) ∙ ap (λ n. n + 1) (t .passed);
+          ready = t .ready;
+          whole = (λ j. record { became = append-assoc (t .done) (y ∷ []) (left .became) j; image = left .image }) ∙ t .whole;
+        }
+
+    turned-all : (t : Turned page i img X) → page .number ≤ i → put p (tree (page .level) (shown page)) (t .image) ≡ page-by q level hi p X
+    turned-all t l = all-of X (t .image) (t .done) (t .rest) (t .shows) (t .passed) (t .whole) l
+
+-- ---- the loop
+
+-- bytes of the same length hold images of as many pages
+within-still : {p : ℕ} {img img′ : List ℕ} {X Y : Image} → Holds img X → Holds img′ Y → length img′ ≡ length img → Within p X → Within p Y
+within-still h k same w = record { least = w .least; below = omega (arith, holds-length h, holds-length k) }
+
+replaced-number : (page : Page) (y : Entry) {page′ : Page} {l i : ℕ} → i < page .number → Shows l (splice i (y ∷ []) (shown page)) page′
+    → page′ .number ≡ page .number
+unfolding splice
+replaced-number page y {i = i} l s =
+    shows-number s ∙ simp (length-append, length-take, length-drop, shown-length page) (omega arith)
+
+module _ (q : Task) (level hi p : ℕ) where
+  -- After i entries of the page: so it goes for every image that the bytes held.
+  pub record Turning (img₀ : List ℕ) (page : Page) (i : ℕ) (img : List ℕ) : Type 0 where
+    pub same : length img ≡ length img₀
+    pub few : page .number ≤ 24
+    pub each : Each img₀ (Page-ready q level hi p) (Turned q level hi p page i img)
+
+  pub none : {img : List ℕ} {page : Page} → Some img (Page-ready q level hi p)
+      → Each img (Within p) (λ X. (l : ℕ) (es : List Entry) → X .page p ≡ tree l es → Loaded l es page) → Turning img page 0 img
+  none {img} {page} s load =
+      record {
+        same = refl;
+        few = load (s .image) (s .holds) (s .ready .within) level _ (s .ready .is) .few;
+        each = λ X h r. turned-none q level hi p h r (load X h (r .within) level (entries X p) (r .is) .shows);
+      }
+
+  module _ {img₀ : List ℕ} {page : Page} {i : ℕ} {img : List ℕ} (t : Turning img₀ page i img) where
+    module _ (l : i < page .number) {x : Entry} {end : ℕ}
+        (e : x ≡ at (shown page) i) (d : end ≡ start-of hi (drop (suc i) (shown page))) where
+      next : (X : Image) → Holds img₀ X → Page-ready q level hi p X → Next q level hi p page i img X x end
+      next X h r = turned-next q level hi p (t .each X h r) l e d
+
+      pub takes : Some img₀ (Page-ready q level hi p) → Takes q end x
+      takes s = next (s .image) (s .holds) (s .ready) .takes
+
+      pub sends : Some img₀ (Page-ready q level hi p) → Some img (Entry-ready q level end x)
+      sends s =
+          let n = next (s .image) (s .holds) (s .ready) in
+          record { image = n .image; holds = n .holds; ready = n .sends }
+
+      pub more : {img′ : List ℕ} {page′ : Page} {y : Entry}
+          → Each img (Entry-ready q level end x) (λ Y. Holds img′ (sent-by q level end x Y)) → length img′ ≡ length img
+          → y ≡ took-by q end x → Shows (page .level) (splice i (y ∷ []) (shown page)) page′ → Turning img₀ page′ (i + 1) img′
+      more {page′ = page′} {y} sent k same s =
+          record {
+            same = k ∙ t .same;
+            few = omega (arith, replaced-number page y l s, t .few);
+            each = λ X h r.
+                let n = next X h r in
+                next-more q level hi p n (sent (n .image) (n .holds) (n .sends))
+                (subst (λ z. Shows (page .level) (splice i (z ∷ []) (shown page)) page′) same s);
+          }
+
+    pub within : Some img₀ (Page-ready q level hi p) → Some img (Within p)
+    within s =
+        let u = t .each (s .image) (s .holds) (s .ready) in
+        record { image = u .image; holds = u .holds; ready = within-still (s .holds) (u .holds) (t .same) (s .ready .within) }
+
+    pub level-is : Some img₀ (Page-ready q level hi p) → page .level ≡ level
+    level-is s = t .each (s .image) (s .holds) (s .ready) .shows .level
+
+    pub all : page .number ≤ i → {img′ : List ℕ} → Each img (Within p) (λ Y. Holds img′ (put p (tree (page .level) (shown page)) Y))
+        → Each img₀ (Page-ready q level hi p) (λ X. Holds img′ (page-by q level hi p X))
+    all l {img′} saved X h r =
+        let u = t .each X h r in
+        subst (Holds img′) (turned-all q level hi p u l) (saved (u .image) (u .holds) (within-still h (u .holds) (t .same) (r .within)))

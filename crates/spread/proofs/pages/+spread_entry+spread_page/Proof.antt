@@ -1,0 +1,179 @@
+-- The cycle of `spread_page` and `spread_entry` meets its contracts. A page's measure is 2·level + 1, an entry's 2·level: the level falls
+-- from an entry to the page below. The loop's invariant: what was passed has taken the effect and sent it below. Assumes nothing.
+use mathlib.Core.Path.{sym, _∙_, subst}
+use Prim.Native.Nat.{ℕ, _+_, _*_, _-_, _<_}
+use native.Mathlib.Omega.{arith}
+use borrow.Author.Needs.{needs}
+use borrow.Author.Tests.{not-true, not-false}
+use borrow.Fn.Kinds.{In}
+use borrow.Fn.PlainCycle.{Measures, is, falls, and}
+use Rattle.store.specs.Holding.{Holds}
+use Rattle.spread.proofs.Laws.{sent-leaf, sent-inside, sent-apart, ready-below, sent-below}
+use Rattle.spread.proofs.Turns as turns
+use Rattle.spread.proofs.pages.spread_entry.Reads as spread-entry
+use Rattle.spread.proofs.pages.spread_entry.Kinds as spread-entry-kinds
+use Rattle.spread.proofs.pages.+spread_entry+spread_page.Lts-spread_entry as spread-entry-lts
+use Rattle.spread.proofs.pages.spread_page.Reads as spread-page
+use Rattle.spread.proofs.pages.spread_page.Kinds as spread-page-kinds
+use Rattle.spread.proofs.pages.+spread_entry+spread_page.Lts-spread_page as spread-page-lts
+use Rattle.edit.proofs.entry.entry_at.Reads as entry-at-reads
+use Rattle.edit.proofs.entry.replace.Reads as replace-reads
+use Rattle.spread.proofs.entries.end_of.Reads as end-of-reads
+use Rattle.spread.proofs.entries.inside.Reads as inside-reads
+use Rattle.spread.proofs.entries.meets.Reads as meets-reads
+use Rattle.spread.proofs.entries.took.Reads as took-reads
+use Rattle.store.proofs.pages.load.Reads as load-reads
+use Rattle.store.proofs.pages.save.Reads as save-reads
+use Rattle.spread.proofs.pages.+spread_entry+spread_page.{statement}
+use Rattle.spread.proofs.pages.+spread_entry+spread_page.Tie.{close}
+
+abbrev μ-spread-entry : Measures 1 spread-entry-kinds.ps ℕ
+μ-spread-entry κs a = 2 * a .1 .1 .0
+
+abbrev μ-spread-page : Measures 1 spread-page-kinds.ps ℕ
+μ-spread-page κs a = 2 * a .1 .1 .0 + 1
+
+-- what each is given at the measure t, and what a call of it asks below t
+abbrev spread-entry-at : ℕ → In 1 spread-entry-kinds.ps
+spread-entry-at t = and 1 spread-entry-kinds.ps (is 1 spread-entry-kinds.ps μ-spread-entry t) spread-entry.Pre
+
+abbrev spread-entry-below : ℕ → In 1 spread-entry-kinds.ps
+spread-entry-below t = and 1 spread-entry-kinds.ps (falls 1 spread-entry-kinds.ps _<_ μ-spread-entry t) spread-entry.Pre
+
+abbrev spread-page-at : ℕ → In 1 spread-page-kinds.ps
+spread-page-at t = and 1 spread-page-kinds.ps (is 1 spread-page-kinds.ps μ-spread-page t) spread-page.Pre
+
+abbrev spread-page-below : ℕ → In 1 spread-page-kinds.ps
+spread-page-below t = and 1 spread-page-kinds.ps (falls 1 spread-page-kinds.ps _<_ μ-spread-page t) spread-page.Pre
+
+abbrev Inv-loop : spread-page-lts.InvT-loop
+Inv-loop img₀ q level hi p page₀ i₀ img page i = turns.Turning q level hi p img₀ page i img
+
+abbrev μ-loop : spread-page-lts.MeasureT-loop
+μ-loop img₀ q level hi p page₀ i₀ img page i = 24 - i
+
+pub +spread-entry+spread-page-spec : {M : Type 1} → statement M
++spread-entry+spread-page-spec =
+    close μ-spread-entry μ-spread-page
+    (λ t.
+    spread-entry-lts.spec (
+      inside-reads.Asked,
+      inside-reads.Learnt,
+      meets-reads.Asked,
+      meets-reads.Learnt,
+      spread-page-below t,
+      spread-page.Post,
+    ) (spread-entry-at t) spread-entry.Post
+    -- returns
+    (λ c X h r. subst (Holds _) (sent-leaf _ _ _ _ X (c .if1 .taken)) h)
+    -- inside-requires
+    (λ c κs. search needs)
+    -- returns-2
+    (λ c X h r. subst (Holds _) (sent-inside _ _ _ _ X (sym (c .before .inside .ensures) ∙ c .if2 .taken)) h)
+    -- meets-requires
+    (λ c κs. search needs)
+    -- returns-3
+    (λ c X h r.
+    let out = c .before .before in
+    let apart = sym (out .before .inside .ensures) ∙ out .if2 .left in
+    subst (Holds _) (sent-apart _ _ _ _ X apart (sym (c .before .meets .ensures) ∙ not-true _ (c .if3 .taken))) h)
+    -- sub-spread-page
+    (λ c. omega (arith, c .before .before .before .before .before .if1 .left))
+    -- spread-page-requires
+    (λ c κs.
+    let met = c .before in
+    let out = met .before .before in
+    let inner = out .before .before in
+    let start = inner .before .before in
+    let apart = sym (out .before .inside .ensures) ∙ out .if2 .left in
+    let meets = sym (met .before .meets .ensures) ∙ not-false _ (met .if3 .left) in
+    let s = start .pre .1 .1 in (
+      omega (arith, start .pre .0, inner .if1 .left),
+      (
+        omega (arith, start .pre .1 .0),
+        record {
+          image = s .image;
+          holds = s .holds;
+          ready = ready-below _ _ _ _ _ (inner .if1 .left) apart meets (s .ready);
+        },
+      ),
+    ))
+    -- same-length
+    (λ c. search needs)
+    -- returns-4
+    (λ c X h r.
+    let call = c .before .before in
+    let met = call .before .before in
+    let out = met .before .before in
+    let some = out .before .before .if1 .left in
+    let apart = sym (out .before .inside .ensures) ∙ out .if2 .left in
+    let meets = sym (met .before .meets .ensures) ∙ not-false _ (met .if3 .left) in
+    subst (Holds _) (sent-below _ _ _ _ X some apart meets) (call .spread-page .ensures X h (ready-below _ _ _ _ X some apart meets r))))
+    λ t. spread-page-lts.spec (
+      load-reads.Asked,
+      load-reads.Learnt,
+      entry-at-reads.Asked,
+      entry-at-reads.Learnt,
+      end-of-reads.Asked,
+      end-of-reads.Learnt,
+      spread-entry-below t,
+      spread-entry.Post,
+      took-reads.Asked,
+      took-reads.Learnt,
+      replace-reads.Asked,
+      replace-reads.Learnt,
+      save-reads.Asked,
+      save-reads.Learnt,
+    ) (spread-page-at t) spread-page.Post Inv-loop μ-loop
+    -- load-requires
+    (λ c κs. let s = c .before .before .pre .1 .1 in record { image = s .image; holds = s .holds; ready = s .ready .within })
+    -- loop-holds
+    (λ c. turns.none _ _ _ _ (c .before .before .before .pre .1 .1) (c .load .ensures))
+    -- entry-at-requires
+    (λ c κs. omega (arith, c .before .before .loop .inv .few))
+    -- end-of-requires
+    (λ c κs. omega (arith, c .before .before .before .loop .inv .few))
+    -- spread-entry-requires
+    (λ c κs.
+    let end = c .before in
+    let at = end .before in
+    let loop = at .before .before .before in
+    let pre = loop .before .before .before .before .pre in
+    let sends = turns.sends _ _ _ _ (loop .loop .inv) (at .before .if1 .taken) (at .entry-at .ensures) (end .end-of .ensures) (pre .1 .1) in
+    (omega (arith, pre .0), (pre .1 .0, sends)))
+    -- took-requires
+    (λ c κs.
+    let end = c .before .before .before .before in
+    let at = end .before in
+    let loop = at .before .before .before in
+    let pre = loop .before .before .before .before .pre in
+    turns.takes _ _ _ _ (loop .loop .inv) (at .before .if1 .taken) (at .entry-at .ensures) (end .end-of .ensures) (pre .1 .1))
+    -- replace-requires
+    (λ c κs. let loop = c .before .before .before .before .before .before .before .before .before in omega (arith, loop .loop .inv .few))
+    -- add-i
+    (λ c. omega arith)
+    -- loop-less
+    (λ c.
+    let then = c .before .before .before .before .before .before .before .before in
+    omega (arith, then .if1 .taken, then .before .before .loop .inv .few))
+    -- loop-again
+    (λ c.
+    let call = c .before .before .before .before in
+    let end = call .before .before in
+    let at = end .before in
+    turns.more _ _ _ _ (at .before .before .before .loop .inv) (at .before .if1 .taken) (at .entry-at .ensures) (end .end-of .ensures)
+    (call .spread-entry .ensures) (call .spread-entry .kept .0) (c .before .took .ensures) (c .replace .ensures))
+    -- save-requires
+    (λ c κs.
+    let loop = c .before .before .before in
+    let inv = loop .loop .inv in
+    let start = loop .before .before .before .before in
+    let s = start .pre .1 .1 in
+    (turns.within _ _ _ _ inv s, (omega (arith, start .pre .1 .0, turns.level-is _ _ _ _ inv s), inv .few)))
+    -- same-length
+    (λ c. let call = c .before .before in call .save .kept .0 ∙ call .before .before .before .before .loop .inv .same)
+    -- returns
+    (λ c.
+    let call = c .before .before in
+    let else = call .before .before in
+    turns.all _ _ _ _ (else .before .before .loop .inv) (else .if1 .left) (call .save .ensures))
