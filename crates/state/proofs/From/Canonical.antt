@@ -20,7 +20,7 @@ use Rattle.page.proofs.Laws.Pieces.{part-pieces}
 use Rattle.page.proofs.Laws.Trees.{length-tree, length-entries-of, tree-again}
 use Rattle.page.proofs.Laws.Frees.{length-free, free-again, unused-again}
 use Rattle.page.proofs.Laws.Heads.{head-again}
-use Rattle.image.specs.Images.{page-at, pages-in, length-ok, never-used-level, cell-of, cell-bytes, image-of, image-bytes}
+use Rattle.image.specs.Images.{page-at, pages-in, length-ok, never-used-level, cell-of, cell-bytes, image-of, image-bytes, Kept}
 use Rattle.image.specs.Sound.{tree-fit, tree-pages, times, sound}
 use Rattle.image.proofs.Cells.{cell-tree, cell-free, cell-never, never-level}
 use Rattle.view.proofs.Lists.{cond-one}
@@ -139,3 +139,12 @@ canonical half img some ok b e =
     page-again half img ok b f (suc i) (omega arith) (omega arith) ∙ ap (λ o. part img o size) (mul-suc size i ∙ add-comm (size * i) size)) in
     part-pieces img 0 size size (size * (n - 1)) (omega arith) (head-page half img some ok b (f .fit .head-fits)) rest
     ∙ part-whole img (size + size * (n - 1)) (length-is half img ok ∙ more)
+
+-- and each page is read back
+pub canonical-kept : (half : ℕ) (img : List ℕ) → length-ok half img ≡ true → Bytes img → sound half img ≡ true
+    → (p : ℕ) → 1 ≤ p → p < image-of half img .head .pages → Kept half (image-of half img .page p)
+unfolding image-of
+canonical-kept half img ok b e p l r =
+    let f : Sound-facts half img = sound-facts half img e in
+    let s : List ℕ = page-at half img p in
+    record { sized = length-cell half s; again = ap (cell-of half) (page-again half img ok b f p l (omega (arith, f .fit .head .pages-is))) }
