@@ -2,8 +2,8 @@
  * Luwhenoka: a time index in an image of 512-byte pages that the caller lends.
  *
  * Every call may be handed any image, span, instant, value and buffer, unchecked. It returns, and what it turns back is
- * refused by a number. The archive is libluwhenoka.a (`rt staticlib luwhenoka`); it needs no other library, takes no
- * memory of its own and keeps nothing between two calls.
+ * refused by a number. The archive is libluwhenoka.a (`rt staticlib luwhenoka`); it needs no other library but memset of
+ * the C library, takes no memory of its own and keeps nothing between two calls.
  *
  * Time and value. Instants are 0 to 4,294,967,294; LUW_END is no instant. A span [s, e) has s < e <= LUW_END. A value is
  * -1,000,000 to 1,000,000. An index has a kind and a window w, both set at format. A booking on [s, e) counts from s up to
@@ -143,7 +143,7 @@ struct luw_listing {
  * where the next one starts, the last one at b. Over [0, LUW_END) it is the full listing.
  *
  * Each run is 16 bytes of the output, little-endian: start (uint32_t), count (int32_t), sum (int64_t). Bytes past the last
- * run keep what they held. An image of n pages shows at most 24 x (n - 1) runs, so that 384 x (n - 1) bytes are always enough.
+ * run keep what they held. An image of n pages shows at most 24 x (n - 1) runs, so 384 x (n - 1) bytes are always enough.
  *
  * Only the head, the root and the pages whose span overlaps [a, b) are looked at. Refusals: 16, 11, 21, 15; the output then
  * keeps every byte, also where it would have had room for some of the runs.

@@ -60,13 +60,14 @@ pub fn inner_pages(image: &[u8]) -> Vec<usize> {
     (1..=3).flat_map(|level| pages_of_level(image, level)).collect()
 }
 
-/// A start of the page, an instant whose way is likely to meet it; any instant if the page is no tree page.
+/// A start of the page, often its first, and so an instant whose way is likely to meet it; any if it is no tree page.
 pub fn instant_of(image: &[u8], page: usize, random: &mut Random) -> u32 {
     if page == 0 || level(image, page) > 3 {
         return random.instant();
     }
     let entries = number(image, page, NUMBER_AT).clamp(1, 24) as usize;
-    number(image, page, start_at(random.below(entries)))
+    let i = if random.one_in(3) { 0 } else { random.below(entries) };
+    number(image, page, start_at(i))
 }
 
 // ---------------------------------------------------------------- making images

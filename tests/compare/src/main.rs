@@ -67,11 +67,18 @@ fn main() -> ExitCode {
         eprintln!("words: [TIMES] [--only GROUP] [--part N]");
         return ExitCode::from(2);
     };
+    let parts = words.parts();
+    if parts.is_empty() {
+        eprintln!(
+            "no such group or part; groups: {}",
+            GROUPS.iter().map(|group| group.name).collect::<Vec<_>>().join(" ")
+        );
+        return ExitCode::from(2);
+    }
     end_at_a_panic();
     let begun = Instant::now();
     let threads = std::thread::available_parallelism().map_or(1, usize::from);
     let pool = Pool::make(threads);
-    let parts = words.parts();
     let tallies = work::done(parts.len(), threads, |i| {
         let begun = Instant::now();
         (compared(parts[i].0, parts[i].1, &pool), begun.elapsed())

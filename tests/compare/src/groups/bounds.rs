@@ -26,9 +26,9 @@ fn way(image: &[u8], t: u32) -> Vec<Step> {
     way
 }
 
-pub fn bounds(comparer: &mut Comparer, pool: &Pool, part: usize) {
+pub fn bounds(comparer: &mut Comparer, pool: &Pool, _: usize) {
     let images: Vec<&Vec<u8>> = pool.all().filter(|image| head(image, KIND) == 1).collect();
-    for (i, whole) in images.iter().enumerate() {
+    for whole in images {
         let rounds = if whole.len() > 100_000 { 60 } else { 250 };
         for round in 0..rounds {
             comparer.lend(whole);
@@ -40,7 +40,7 @@ pub fn bounds(comparer: &mut Comparer, pool: &Pool, part: usize) {
             comparer.average(t);
             comparer.listing(t, t.saturating_add(1));
             comparer.listing(t, t.saturating_add(25));
-            if (round + i + part) % 8 == 0 {
+            if comparer.random.one_in(8) {
                 comparer.audit();
                 comparer.changes_and_back();
             }

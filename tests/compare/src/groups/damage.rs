@@ -40,6 +40,7 @@ fn calls(comparer: &mut Comparer, page: usize) {
     comparer.average(0);
     comparer.listing(0, END);
     comparer.listing(t, t.saturating_add(30));
+    comparer.listing(t.saturating_sub(30), t);
     if comparer.random.one_in(4) {
         comparer.changes_and_back();
     }
@@ -144,6 +145,7 @@ pub fn wear(comparer: &mut Comparer, pool: &Pool, part: usize) {
             comparer.average(t);
             comparer.instant(t.wrapping_sub(1));
             comparer.listing(t, t.saturating_add(1));
+            comparer.listing(t.saturating_sub(500), t);
             comparer.listing(t.saturating_sub(40), t.saturating_add(900));
         }
         if comparer.random.one_in(6) {
