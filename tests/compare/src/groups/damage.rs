@@ -186,13 +186,14 @@ fn drawn(comparer: &mut Comparer) -> Damage {
             _ => random.below(512 - 8),
         };
     let old = u32::from_le_bytes(image[at..at + 4].try_into().expect("4 bytes"));
-    let bytes = match random.below(5) {
+    let mut bytes = match random.below(5) {
         0 => vec![image[at] ^ 1 << random.below(8)],
         1 => random.pick(&sums()).to_le_bytes().to_vec(),
         2 => old.wrapping_add(random.between(-2, 2) as u32).to_le_bytes().to_vec(),
         3 => (random.below(n) as u32).to_le_bytes().to_vec(),
         _ => random.pick(&numbers(n as u32)).to_le_bytes().to_vec(),
     };
+    bytes.truncate(512 - at % 512);
     Damage { at, bytes }
 }
 
