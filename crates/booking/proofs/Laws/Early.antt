@@ -1,0 +1,36 @@
+-- The rows before a booking goes to work on its image, by the outcomes of their tests. Assumes nothing.
+use Prim.Native.Nat.{ℕ, _≤_}
+use mathlib.Core.Path.{_≡_, refl, sym, ap, _∙_}
+use mathlib.Core.Bool.{Bool, true, false, not, _&&_}
+use mathlib.Core.List.{List, [], _∷_}
+use lib.Dec.{leb, ltb}
+use lib.ListN.{length}
+use lib.IntN.{ℤ}
+use borrow.Author.Tests.{le-leb}
+use Rattle.rule.specs.Time.{END, span-ok, value-ok}
+use Rattle.image.specs.Images.{pages-in, length-ok}
+use Rattle.calls.specs.Refusals.{first, scratch-ok, borrowed}
+use Rattle.calls.specs.Calls.{book-early}
+
+module _ (v : ℤ) (s e : ℕ) (img scratch : List ℕ) where
+  -- the four tests
+  pub record Tests (whole room span fits : Bool) : Type 0 where
+    pub whole-is : length-ok 12 img ≡ whole
+    pub room-is : leb (pages-in 12 img) (length scratch) ≡ room
+    pub span-is : span-ok s e ≡ span
+    pub fits-is : value-ok v ≡ fits
+
+  pub rows-are : {whole room span fits : Bool} → Tests whole room span fits
+      → first ((16, not whole) ∷ (17, not room) ∷ (11, not span) ∷ (13, not fits) ∷ []) ≡ first (book-early 12 v s e img scratch)
+  unfolding book-early scratch-ok borrowed
+  rows-are t =
+      λ j. first ((16, not (sym (t .whole-is) j)) ∷ (17, not (sym (t .room-is) j)) ∷ (11, not (sym (t .span-is) j)) ∷ (13, not (sym (t .fits-is) j)) ∷ [])
+
+-- for a u32 the span's second half always holds
+pub span-less : (s e : ℕ) → e ≤ END → span-ok s e ≡ ltb s e
+unfolding span-ok
+span-less s e l = ap (λ b. ltb s e && b) (le-leb e END l) ∙ alone (ltb s e)
+  where
+    alone : (b : Bool) → (b && true) ≡ b
+    alone true = refl
+    alone false = refl

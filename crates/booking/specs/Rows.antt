@@ -1,0 +1,29 @@
+-- "Turned back by the state": the rows of enter and withdraw that need the whole image. Assumes nothing.
+use Prim.Native.Nat.{ℕ}
+use mathlib.Core.Bool.{Bool, cond, not, _&&_}
+use mathlib.Core.List.{List, [], _∷_}
+use lib.Dec.{eqb}
+use Rattle.rule.specs.Time.{lengthened}
+use Rattle.page.specs.Fit.{most-changes}
+use Rattle.image.specs.Images.{image-of}
+use Rattle.image.specs.Sound.{sound}
+use Rattle.steps.specs.Change.{lacks-pages}
+use Rattle.calls.specs.Refusals.{Row, first}
+use Rattle.calls.specs.Changes.{Side, withdraws}
+use Rattle.calls.specs.Calls.{head}
+use Rattle.booking.specs.declared.Judged.{Judged}
+use Rattle.booking.specs.declared.Judged.the-variants.{Accepted, Refused}
+
+-- the last four rows of a booking's number
+abbrev pub late-rows : ℕ → Side → ℕ → ℕ → List ℕ → List Row
+late-rows half side s e img =
+    (21, not (sound half img))
+    ∷ (22, withdraws side && not (eqb (head half img .kind) 1))
+    ∷ (23, eqb (head half img .changes) most-changes)
+    ∷ (24, lacks-pages half s (lengthened e (head half img .window)) (image-of half img))
+    ∷ []
+
+unfoldable pub judged : Side → ℕ → ℕ → List ℕ → Judged
+judged side s e img =
+    let number = first (late-rows 12 side s e img) in
+    cond (eqb number 0) (Accepted (head 12 img)) (Refused number)
