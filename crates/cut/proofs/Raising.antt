@@ -1,0 +1,112 @@
+-- The root: it is cut as an entry, and where it becomes two it gets a new root. Assumes nothing.
+use Prim.Native.Nat.{ℕ, suc, _+_, _-_, _≤_, _<_}
+use mathlib.Core.Path.{_≡_, refl, sym, ap, _∙_, subst}
+use mathlib.Core.Bool.{Bool, true, false, cond}
+use mathlib.Core.List.{List, [], _∷_}
+use native.Mathlib.Numerals.{add-one}
+use native.Mathlib.Omega.{arith}
+use lib.ListN.{length}
+use lib.Dec.{eqb}
+use borrow.Author.Tests.{eq-eqb, ne-eqb, le-leb, lt-leb}
+use Rattle.rule.specs.Pairs.{none}
+use Rattle.rule.specs.Time.{END}
+use Rattle.page.specs.declared.Entry.{Entry}
+use Rattle.page.specs.declared.Head.{Head}
+use Rattle.page.specs.declared.Page.{Page}
+use Rattle.page.specs.Entries.{entry}
+use Rattle.page.specs.Decoded.{shown}
+use Rattle.image.specs.Images.{Image, tree}
+use Rattle.steps.specs.Supply.{put, with-supply, spare, taken, with-root}
+use Rattle.steps.specs.Cut.{Cutting, cut-entry, root-entry, raised, grown, cut}
+use Rattle.edit.specs.Shows.{Shows}
+use Rattle.store.specs.Holding.{Holds}
+use Rattle.store.specs.Supplying.{Takable}
+use Rattle.cut.specs.declared.Grown.{Grown}
+use Rattle.cut.specs.declared.Grown.the-variants.{Same, Split}
+use Rattle.cut.specs.Answers.{became, Makes}
+use Rattle.cut.specs.Ready.{Raisable, from-root, Root-cuttable}
+use Rattle.cut.proofs.Settling.{shows-tree}
+use Rattle.cut.proofs.Cutting.{cut-keeps}
+
+pub cut-end : (t : ℕ) (X : Image) → END ≤ t → cut 12 t X ≡ X
+unfolding cut
+cut-end t X h = ap (λ b. cond b X (grown (from-root t X))) (le-leb END t h)
+
+pub cut-inside : (t : ℕ) (X : Image) → t < END → cut 12 t X ≡ grown (from-root t X)
+unfolding cut
+cut-inside t X h = ap (λ b. cond b X (grown (from-root t X))) (lt-leb END t h)
+
+grown-one : (r : Cutting) → length (r .became) ≡ 1 → grown r ≡ r .image
+unfolding grown
+grown-one r n = rw (eq-eqb (length (r .became)) 1 n)
+
+grown-two : (r : Cutting) → (length (r .became) ≡ 1 → ⊥) → grown r ≡ raised (r .became) (r .image)
+unfolding grown
+grown-two r n = rw (ne-eqb (length (r .became)) 1 n)
+
+-- no cutting alters the height
+either-height : (h : ℕ) (b : Bool) (x y : Head) → x .height ≡ h → y .height ≡ h → cond b x y .height ≡ h
+either-height h true x y e f = e
+either-height h false x y e f = f
+
+height-taken : (h : ℕ) (X : Image) → X .head .height ≡ h → taken X .head .height ≡ h
+unfolding taken with-supply
+height-taken h X e = either-height h (eqb (X .head .chain) 0) _ _ e e
+
+height-kept : (half t l : ℕ) (e : Entry) (X : Image) → cut-entry half t l e X .image .head .height ≡ X .head .height
+unfolding put
+height-kept half t l e X =
+    let h : ℕ = X .head .height in
+    cut-keeps (λ Y. Y .head .height ≡ h) (λ p c Y k. k) (height-taken h) half t l e X refl
+
+-- the new root is written
+pub raised-holds : (X : Image) (es : List Entry) {q : ℕ} {page : Page} {after : List ℕ} → q ≡ spare X → Shows (X .head .height) es page
+    → Holds after (put q (tree (page .level) (shown page)) (with-root (X .head .height + 1) q (taken X))) → Holds after (raised es X)
+unfolding raised
+raised-holds X es {after = after} n s h =
+    subst (Holds after) (λ j. put (n j) (shows-tree s j) (with-root (add-one (X .head .height) j) (n j) (taken X))) h
+
+-- the root as an entry became g; the bytes then are `after`
+pub record Root-cut (t : ℕ) (X : Image) (g : Grown) (after : List ℕ) : Type 0 where
+  pub becomes : became (root-entry X) g ≡ from-root t X .became
+  pub holds : Holds after (from-root t X .image)
+
+pub root-told : {t : ℕ} {X : Image} {g g′ : Grown} {after : List ℕ} → g ≡ g′ → Root-cut t X g after → Root-cut t X g′ after
+root-told {X = X} same r = record { becomes = ap (became (root-entry X)) (sym same) ∙ r .becomes; holds = r .holds }
+
+pub root-cut : (t : ℕ) (X : Image) {g : Grown} {after : List ℕ} → 1 ≤ X .head .height
+    → Makes (X .head .root) (λ e. cut-entry 12 t (suc (X .head .height - 1)) e X) g after → Root-cut t X g after
+unfolding root-entry
+root-cut t X {after = after} some m =
+    let level : suc (X .head .height - 1) ≡ X .head .height = omega arith in
+    let same : cut-entry 12 t (suc (X .head .height - 1)) (root-entry X) X ≡ from-root t X =
+    ap (λ l. cut-entry 12 t l (root-entry X) X) level
+    in
+    record {
+      becomes = m .becomes (root-entry X) refl ∙ ap (λ k. k .became) same;
+      holds = subst (λ k. Holds after (k .image)) same (m .holds (root-entry X) refl);
+    }
+
+module _ {t : ℕ} {X : Image} {after : List ℕ} where
+  pub root-same : t < END → Root-cut t X Same after → Holds after (cut 12 t X)
+  unfolding became
+  root-same l r = subst (Holds after) (sym (cut-inside t X l ∙ grown-one (from-root t X) (ap length (sym (r .becomes))))) (r .holds)
+
+  module _ {start q : ℕ} (r : Root-cut t X (Split start q) after) where
+    pub root-raisable : Root-cuttable t X → Raisable (from-root t X .image)
+    unfolding became
+    root-raisable ready =
+        let two : length (from-root t X .became) ≡ 2 = ap length (sym (r .becomes)) in
+        record {
+          takable = ready .room (omega arith);
+          low = omega (arith, ready .low, height-kept 12 t (X .head .height) (root-entry X) X);
+        }
+
+    pub root-two : {then : List ℕ} → t < END
+        → Holds then (raised (entry 0 none (X .head .root) ∷ entry start none q ∷ []) (from-root t X .image)) → Holds then (cut 12 t X)
+    unfolding became root-entry
+    root-two {then} l h =
+        let n : length (from-root t X .became) ≡ 2 = ap length (sym (r .becomes)) in
+        subst (Holds then)
+        (ap (λ es. raised es (from-root t X .image)) (r .becomes) ∙ sym (cut-inside t X l ∙ grown-two (from-root t X) (λ one. omega arith)))
+        h

@@ -1,0 +1,15 @@
+-- `cut::root::new_root` meets its contract by computation. Assumes nothing.
+use mathlib.Core.Path.{refl}
+use borrow.Author.Needs.{needs}
+use Rattle.rule.specs.Pairs.{none}
+use Rattle.page.specs.Layout.{listed}
+use Rattle.page.specs.Decoded.{shown-at, shown}
+use Rattle.cut.proofs.root.new_root.Statement.{statement}
+use Rattle.cut.proofs.root.new_root.Tie as tie
+
+returns : tie.Need-returns
+unfolding shown shown-at listed
+returns c = record { level = refl; entries = refl }
+
+pub new-root-spec : {M : Type 1} → statement M
+new-root-spec = tie.close (tie.spec (λ c. search needs) (λ c. search needs) (λ c. search needs) returns)

@@ -1,0 +1,68 @@
+-- `cut::root::raise` meets its contract: the page that is taken is the root, and is written last. Assumes nothing.
+use mathlib.Core.Path.{ap}
+use native.Mathlib.Omega.{arith}
+use borrow.Author.Needs.{needs}
+use mathlib.Core.List.{[], _∷_}
+use Rattle.rule.specs.Pairs.{none}
+use Rattle.page.specs.Entries.{entry}
+use Rattle.steps.specs.Cut.{raised}
+use Rattle.edit.proofs.Edits.{shows-number}
+use Rattle.store.specs.Holding.{Holds}
+use Rattle.store.proofs.Supplying.{by-head, Headed, some-headed, within-rooted}
+use Rattle.cut.specs.Ready.{Raisable}
+use Rattle.cut.proofs.Settling.{spare-within}
+use Rattle.cut.proofs.Raising.{raised-holds}
+use Rattle.cut.proofs.root.raise.Statement.{statement}
+use Rattle.cut.proofs.root.raise.Tie as tie
+
+headed : (c : tie.After-head-of) → Headed (c .before .before .before .args .img .now) (c .head-of .result) Raisable
+headed c = some-headed (c .before .before .before .pre) (c .head-of .ensures)
+
+set-root-requires : tie.Need-set-root-requires
+set-root-requires c κs =
+    let taking = c .before .before .before .before in
+    let k = headed (taking .before .before) in
+    record { image = _; holds = taking .take .ensures _ (k .holds) (k .ready .takable) .1; ready = tt }
+
+save-requires : tie.Need-save-requires
+save-requires c κs =
+    let rooted = c .before .before .before .before in
+    let taking = rooted .before .before .before .before .before in
+    let k = headed (taking .before .before) in
+    let q = taking .take .ensures _ (k .holds) (k .ready .takable) in (
+      record {
+        image = _;
+        holds = rooted .set-root .ensures _ (q .1) tt;
+        ready = within-rooted (spare-within (q .0) (k .ready .takable)) _ _;
+      },
+      (omega (arith, c .new-root .ensures .level, k .ready .low), omega (arith, shows-number (c .new-root .ensures))),
+    )
+
+returns : tie.Need-returns
+returns c X h r =
+    let saved = c .before .before in
+    let made = saved .before in
+    let rooted = made .before .before .before .before in
+    let taking = rooted .before .before .before .before .before in
+    let read = taking .before .before in
+    let args = read .before .before .before .args in
+    let es = entry 0 none (args .root) ∷ entry (args .start) none (args .q) ∷ [] in
+    by-head (λ Y. Holds (args .img .now) Y → Raisable Y → Holds (saved .save .last .0) (raised es Y)) (read .head-of .ensures X h tt)
+    (λ k ready.
+    let q = taking .take .ensures _ k (ready .takable) in
+    raised-holds _ _ (q .0) (made .new-root .ensures)
+    (saved .save .ensures _ (rooted .set-root .ensures _ (q .1) tt) (within-rooted (spare-within (q .0) (ready .takable)) _ _)))
+    h r
+
+pub raise-spec : {M : Type 1} → statement M
+raise-spec =
+    tie.close
+    (tie.spec
+    (λ c κs. search needs)
+    (λ c κs. search needs)
+    (λ c. omega (arith, headed (c .before .before .before .before .before .before) .ready .low))
+    set-root-requires
+    (λ c κs. search needs)
+    save-requires
+    (λ c. search needs)
+    returns)

@@ -1,0 +1,68 @@
+-- `cut::settle::split` meets its contract: a page is taken, then each half is saved. Assumes nothing.
+use mathlib.Core.Path.{ap}
+use native.Mathlib.Omega.{arith}
+use borrow.Author.Needs.{needs}
+use Rattle.store.proofs.Supplying.{within-put, within-taken}
+use Rattle.cut.proofs.Settling.{left-number, right-number, spare-within, split-makes}
+use Rattle.cut.proofs.settle.split.Statement.{statement}
+use Rattle.cut.proofs.settle.split.Tie as tie
+
+save-requires : tie.Need-save-requires
+save-requires c κs =
+    let first = c .before in
+    let taking = first .before .before .before in
+    let start = taking .before .before .before in
+    let s = start .pre .0 in
+    let left = first .first-of .ensures in (
+      record { image = _; holds = taking .take .ensures _ (s .holds) (s .ready .takable) .1; ready = within-taken (s .ready .within) },
+      (omega (arith, left .level), omega (arith, left-number (start .args .page) (start .pre .1 .1) left)),
+    )
+
+save-requires-2 : tie.Need-save-requires-2
+save-requires-2 c κs =
+    let rest = c .before in
+    let saved = rest .before .before .before in
+    let taking = saved .before .before .before .before .before in
+    let start = taking .before .before .before in
+    let s = start .pre .0 in
+    let q = taking .take .ensures _ (s .holds) (s .ready .takable) in
+    let right = rest .rest-of .ensures in (
+      record {
+        image = _;
+        holds = saved .save .ensures _ (q .1) (within-taken (s .ready .within));
+        ready = within-put (spare-within (q .0) (s .ready .takable)) _ _;
+      },
+      (omega (arith, right .level), omega (arith, right-number (start .args .page) (start .pre .1 .1) right)),
+    )
+
+entry-at-requires : tie.Need-entry-at-requires
+entry-at-requires c κs =
+    let rest = c .before .before .before .before in
+    let start = rest .before .before .before .before .before .before .before .before .before .before .before in
+    let n = right-number (start .args .page) (start .pre .1 .1) (rest .rest-of .ensures) in
+    (omega arith, omega arith)
+
+returns : tie.Need-returns
+returns c X h r =
+    let saved2 = c .before .before .before in
+    let rest = saved2 .before .before in
+    let saved = rest .before .before .before in
+    let first = saved .before .before in
+    let taking = first .before .before .before in
+    let q = taking .take .ensures X h (r .takable) in
+    split-makes _ _ _ _ (first .first-of .ensures) (rest .rest-of .ensures) (q .0) (ap (λ e. e .start) (c .entry-at .ensures))
+    (saved2 .save2 .ensures _ (saved .save .ensures _ (q .1) (within-taken (r .within)))
+    (within-put (spare-within (q .0) (r .takable)) _ _))
+
+pub split-spec : {M : Type 1} → statement M
+split-spec =
+    tie.close
+    (tie.spec
+    (λ c κs. search needs)
+    (λ c κs. search needs)
+    save-requires
+    (λ c κs. search needs)
+    save-requires-2
+    entry-at-requires
+    (λ c. search needs)
+    returns)

@@ -1,0 +1,24 @@
+-- What a page that was cut became for its parent. Assumes nothing.
+use Prim.Native.Nat.{ℕ}
+use mathlib.Core.Path.{_≡_}
+use mathlib.Core.List.{List, [], _∷_}
+use Rattle.page.specs.declared.Entry.{Entry}
+use Rattle.page.specs.Entries.{entry, at, splice}
+use Rattle.steps.specs.Cut.{Cutting}
+use Rattle.store.specs.Holding.{Holds}
+use Rattle.cut.specs.declared.Grown.{Grown}
+use Rattle.cut.specs.declared.Grown.the-variants.{Same, Split}
+
+-- the page's entry e; where the page was split, "the parent gains an entry with the same pair"
+unfoldable pub became : Entry → Grown → List Entry
+became e Same = e ∷ []
+became e (Split start q) = e ∷ entry start (e .pair) q ∷ []
+
+-- the entries of a page whose i-th becomes two
+unfoldable pub doubled : ℕ → ℕ → ℕ → List Entry → List Entry
+doubled i start child es = splice i (became (at es i) (Split start child)) es
+
+-- Page p became r and the bytes then are `after`, as `cutting` says of every entry that leads to the page.
+pub record Makes (p : ℕ) (cutting : Entry → Cutting) (r : Grown) (after : List ℕ) : Type 0 where
+  pub becomes : (e : Entry) → e .child ≡ p → became e r ≡ cutting e .became
+  pub holds : (e : Entry) → e .child ≡ p → Holds after (cutting e .image)
