@@ -31,14 +31,10 @@ use Rattle.view.specs.Change.{after-A, after-B, after-C, after-D, after-E, Pass
 use Rattle.view.proofs.Change.{Changed, change-is}
 use Rattle.view.proofs.Formed.{formed-passable}
 use Rattle.view.proofs.Limits.{change-fits}
-use Rattle.state.specs.Good.{Bounds, Good}
+use Rattle.state.specs.Good.{Bounds, Good, Effective}
+use Rattle.state.proofs.To.Known.{good-once}
 
 -- ---- the effect of a booking that rows 13 and 22 don't turn back
-
-pub record Effective (kind : ℕ) (p : Pair) : Type 0 where
-  pub sum : natAbs (p .sum) ≤ most-value
-  pub count : natAbs (p .count) ≤ 1
-  pub value : eqb kind 1 ≡ false → value-or-none p ≡ true
 
 pub effective : (kind : ℕ) (side : Side) (v : ℤ) → value-ok v ≡ true → withdraws side && not (eqb kind 1) ≡ false → Effective kind (effect side v)
 unfolding effect withdraws
@@ -58,11 +54,6 @@ module _ {half : ℕ} (two : 2 ≤ half) (s e : ℕ) (p : Pair) {X : Image} {Y :
   abbrev rule : Pair → Pair → Pair
   rule = combine (X .head .kind)
 
-  pub good-once : Once Y
-  unfolding Once
-  good-once zero = omega (arith, g .head-apart)
-  good-once (suc q) = omega (arith, g .once (suc q) (omega arith))
-
   pub good-passable : Passable half rule s e p Y
   unfolding tree-cuts
   good-passable =
@@ -77,7 +68,7 @@ module _ {half : ℕ} (two : 2 ≤ half) (s e : ℕ) (p : Pair) {X : Image} {Y :
 
   -- the five steps on the image are the five on the tree
   pub good-changed : Changed half rule s e p X Y
-  good-changed = change-is half rule s e p X Y (g .shown) good-once good-passable
+  good-changed = change-is half rule s e p X Y (g .shown) (good-once g) good-passable
 
   -- the tree afterwards
   abbrev pub next : State
@@ -109,7 +100,7 @@ module _ {half : ℕ} (two : 2 ≤ half) (s e : ℕ) (p : Pair) {X : Image} {Y :
   good-change f few enough =
       let c = good-changed in
       let r = g .ranges in
-      let m = change-fits half rule s e p X Y (g .shown) good-once good-passable (r .mark-most) enough in
+      let m = change-fits half rule s e p X Y (g .shown) (good-once g) good-passable (r .mark-most) enough in
       record {
         shown = c .shown;
         formed = next-formed;

@@ -34,6 +34,7 @@ use Rattle.view.proofs.Cut.{cut-is}
 use Rattle.view.proofs.Formed.{formed-full}
 use Rattle.state.specs.Good.{Good}
 use Rattle.state.proofs.From.Good.{sound-good}
+use Rattle.state.proofs.To.Known.{good-once}
 use Rattle.needs.specs.declared.Need.{Need}
 use Rattle.needs.specs.Needs.{together, settle, one, apart, both, asked, with-new-root, pages-needed}
 use Rattle.needs.proofs.Counts.{one-in, both-in}
@@ -122,11 +123,6 @@ module _ {half : ℕ} (two : 2 ≤ half) {B : Asked (Kid 0)} (cutting : Cuttable
 
   pub needed : pages-needed half s e X ≡ pages-taken X (cuts half s e X)
   needed = ⊎-elim needed-first needed-both (le-or-lt END e)
-
-good-once : {half : ℕ} {X : Image} {Y : State} → Good half X Y → Once Y
-unfolding Once
-good-once g zero = omega (arith, g .head-apart)
-good-once g (suc q) = omega (arith, g .once (suc q) (omega arith))
 
 -- of a good state
 pub needed-good : {half : ℕ} → 2 ≤ half → (s e : ℕ) → s < e → e ≤ END → {X : Image} {Y : State} → Good half X Y

@@ -41,16 +41,11 @@ use Rattle.view.proofs.Cut.{cut-is}
 use Rattle.view.proofs.Order.{spread-is}
 use Rattle.view.proofs.Heal.{heal-is}
 use Rattle.view.proofs.Formed.{formed-full, formed-gapless}
-use Rattle.state.specs.Good.{Bounds, Ranges, Good}
+use Rattle.state.specs.Good.{Bounds, Ranges, Good, Effective}
+use Rattle.state.proofs.To.Known.{good-once}
 
 abbrev pub Going : ℕ → Image → State → Type 0
 Going half X Y = Good half (counted X) Y
-
--- no page is held twice
-pub good-once : {half : ℕ} {X : Image} {Y : State} → Good half X Y → Once Y
-unfolding Once
-good-once g zero = omega (arith, g .head-apart)
-good-once g (suc q) = omega (arith, g .once (suc q) (omega arith))
 
 -- ---- the bounds of the pairs
 
@@ -79,13 +74,6 @@ module _ (half kind n : ℕ) where
         counts = λ k. heal-within (counts-bounded kind k) n half t Y (b .counts k);
         values = λ k. heal-within (values-bounded kind k) 0 half t Y (b .values k);
       }
-
--- ---- what a change that no row turns back combines with
-
-pub record Effective (kind : ℕ) (p : Pair) : Type 0 where
-  pub sum : natAbs (p .sum) ≤ most-value
-  pub count : natAbs (p .count) ≤ 1
-  pub value : eqb kind 1 ≡ false → value-or-none p ≡ true
 
 spread-bounds : (kind n s e : ℕ) (p : Pair) (Y : State) → Effective kind p → Bounds kind n (Y .tree) → Bounds kind (suc n) (spread (combine kind) s e p Y .tree)
 spread-bounds kind n s e p Y f b =

@@ -48,3 +48,9 @@ pub record Good (half : ℕ) (X : Image) (Y : State) : Type 0 where
   pub head-apart : held 0 Y ≡ 0
   pub bounds : Bounds (X .head .kind) (X .head .changes) (Y .tree)
   pub ranges : Ranges (X .head)
+
+-- What a change that rows 13 and 22 don't turn back combines with.
+pub record Effective (kind : ℕ) (p : Pair) : Type 0 where
+  pub sum : natAbs (p .sum) ≤ most-value
+  pub count : natAbs (p .count) ≤ 1
+  pub value : eqb kind 1 ≡ false → value-or-none p ≡ true

@@ -18,7 +18,7 @@ use Rattle.image.proofs.Cells.{kept-free, kept-never}
 use Rattle.tree.specs.Tree.{over, pages-under}
 use Rattle.tree.specs.Cut.{State, root-ent}
 use Rattle.tree.specs.Held.{times-below, times-spare, held}
-use Rattle.view.specs.View.{Shows, Linked, ends, leads}
+use Rattle.view.specs.View.{Shows, Linked, ends, leads, Once}
 use Rattle.view.proofs.Lists.{hit, hit-self}
 use Rattle.audit.proofs.Times.{times-none, times-same, times-other, times-cons, short-of-once}
 use Rattle.state.specs.Good.{Good}
@@ -54,6 +54,12 @@ module _ {pages : ℕ → Cell} (n : ℕ) (some : 1 ≤ n) where
 -- ---- a good state
 
 module _ {half : ℕ} {X : Image} {Y : State} (g : Good half X Y) where
+  -- no page is held twice
+  pub good-once : Once Y
+  unfolding Once
+  good-once zero = omega (arith, g .head-apart)
+  good-once (suc p) = omega (arith, g .once (suc p) (omega arith))
+
   -- as often as the tree has it
   abbrev pub in-tree : ℕ → ℕ
   in-tree p = hit p (Y .tree .root) + times-below (Y .tree .level) p (Y .tree .ents)
