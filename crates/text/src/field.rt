@@ -1,0 +1,40 @@
+// The fields behind the sign: a value and two instants.
+use super::digits::number_from;
+use super::digits::number_read;
+ghost use mathlib.Core.Path.{_≡_};
+ghost use mathlib.Core.Bool.{true};
+ghost use Rattle.calls.specs.Program.{number-read, instant-read, value-read, value-from};
+
+// Document 01: "s and e at most END"
+pub fn instant_read(ds: &[u8]) -> bool
+    ensures { λ r. ⌜ r ≡ instant-read (now (ds .entry)) ⌝ }
+{
+    if !number_read(ds) {
+        return false;
+    }
+    number_from(ds) <= 4294967295
+}
+
+// Document 01: "v may have a minus"
+pub fn value_read(ds: &[u8]) -> bool
+    ensures { λ r. ⌜ r ≡ value-read (now (ds .entry)) ⌝ }
+{
+    if ds.len() == 0 {
+        return false;
+    }
+    if ds[0] == 45 {
+        return number_read(&ds[1..]);
+    }
+    number_read(ds)
+}
+
+// The value: ten digits and a minus fit an i64.
+pub fn value_from(ds: &[u8]) -> i64
+    requires { ⌜ value-read (now ds) ≡ true ⌝ }
+    ensures { λ r. ⌜ r ≡ value-from (now (ds .entry)) ⌝ }
+{
+    if ds[0] == 45 {
+        return -(number_from(&ds[1..]) as i64);
+    }
+    number_from(ds) as i64
+}

@@ -1,0 +1,14 @@
+// The program's text: lines of bookings read, numbers and runs printed.
+// Document 01, "Marks from the test rack": "The program reads lines `+ v s e` or `- v s e` from standard input".
+
+pub mod digits;
+pub mod field;
+pub mod parse;
+pub mod scan;
+
+// What a line is: a booking to enter or to withdraw, with its value and its span, or "any other form".
+pub enum Parsed {
+    Enter(i64, u32, u32),
+    Withdraw(i64, u32, u32),
+    Unread,
+}
