@@ -1,7 +1,6 @@
 // Numbers in decimal.
 use super::bytes::put_byte;
 use rule::numbers::magnitude;
-ghost use mathlib.Core.List.{[], _∷_, _++_};
 ghost use Prim.Native.Nat.{_+_, _<_, _≤_};
 ghost use lib.ListN.{length};
 ghost use Rattle.calls.specs.Program.{decimal, integer};

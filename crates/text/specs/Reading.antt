@@ -1,12 +1,13 @@
 -- Reading a line: where a byte stands next, and which line an answer of `parse` is. Assumes nothing.
-use Prim.Native.Nat.{ℕ, suc, _+_, _≤_}
+use Prim.Native.Nat.{ℕ, suc, _+_, _≤_, min}
 use mathlib.Core.Path.{_≡_}
 use mathlib.Core.Bool.{Bool, true, false, cond}
 use mathlib.Core.List.{List, [], _∷_}
-use lib.ListN.{length, drop}
+use lib.ListN.{length, take, drop}
 use lib.Dec.{eqb}
 use Rattle.calls.specs.Changes.{Side, entering, withdrawing}
 use Rattle.calls.specs.Program.{Line, booking, unread}
+use Rattle.text.specs.declared.Fed.{Fed}
 use Rattle.text.specs.declared.Parsed.{Parsed}
 use Rattle.text.specs.declared.Parsed.the-variants.{Enter, Withdraw, Unread}
 
@@ -30,3 +31,8 @@ line-of Unread = unread
 unfoldable pub side-of : Bool → Side
 side-of true = entering
 side-of false = withdrawing
+
+-- what is kept of a line: its first 36 bytes, and how many of them there are
+pub record Holds (f : Fed) (line : List ℕ) : Type 0 where
+  pub count : f .length ≡ min (length line) 36
+  pub same : take (f .length) (f .bytes) ≡ take 36 line

@@ -3,7 +3,7 @@ use super::digits::number_from;
 use super::digits::number_read;
 ghost use mathlib.Core.Path.{_≡_};
 ghost use mathlib.Core.Bool.{true};
-ghost use Rattle.calls.specs.Program.{number-read, instant-read, value-read, value-from};
+ghost use Rattle.calls.specs.Program.{instant-read, value-read, value-from};
 
 // Document 01: "s and e at most END"
 pub fn instant_read(ds: &[u8]) -> bool

@@ -2,7 +2,9 @@
 // Document 01, "Marks from the test rack": "The program reads lines `+ v s e` or `- v s e` from standard input".
 
 pub mod digits;
+pub mod feed;
 pub mod field;
+pub mod lines;
 pub mod parse;
 pub mod scan;
 
@@ -11,4 +13,11 @@ pub enum Parsed {
     Enter(i64, u32, u32),
     Withdraw(i64, u32, u32),
     Unread,
+}
+
+// The line that is being read, byte by byte: its first 36 bytes and how many of them there are.
+// A booking has 35 bytes at most, so that a line of any length is told from one by these.
+pub struct Fed {
+    pub bytes: [u8; 36],
+    pub length: usize,
 }

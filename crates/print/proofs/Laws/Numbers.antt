@@ -5,7 +5,7 @@ use Prim.Native.Nat.{ℕ, zero, suc, _+_, _*_, _/_, _%_, _^_, _≤_, _<_}
 use native.Mathlib.Nat.{pow-succ'}
 use native.Mathlib.Decide.{decLt}
 use native.Mathlib.Omega.{arith}
-use mathlib.Core.List.{List, [], _∷_, _++_, append-assoc}
+use mathlib.Core.List.{[], _∷_, _++_, append-assoc}
 use lib.ListN.{length, length-append}
 use lib.IntN.{ℤ, pos, negsuc, natAbs}
 use lib.Signed.{ltZ}
@@ -33,7 +33,8 @@ in-enough (suc k) n h =
     let p : 10 ^ suc (suc k) ≡ 10 * 10 ^ suc k = pow-succ' 10 (suc k) in
     step (decLt n 10) (in-enough k (n / 10) (omega arith))
   where
-    step : Dec (n < 10) → decimal-in (suc k) (n / 10) ≡ decimal-in (suc (suc k)) (n / 10) → decimal-in (suc (suc k)) n ≡ decimal-in (suc (suc (suc k))) n
+    step : Dec (n < 10) → decimal-in (suc k) (n / 10) ≡ decimal-in (suc (suc k)) (n / 10)
+        → decimal-in (suc (suc k)) n ≡ decimal-in (suc (suc (suc k))) n
     step (yes l) e = in-one (suc k) n l ∙ sym (in-one (suc (suc k)) n l)
     step (no g) e =
         let l : 10 ≤ n = omega arith in
@@ -110,7 +111,8 @@ length-two-decimals n =
 pub length-average : (a : Average) → length (average-text a) ≤ 24
 unfolding average-text
 length-average (Hundredths z) =
-    omega (arith, ap length (average-signed z), length-append (sign-text z) (two-decimals (natAbs z)), length-sign z, length-two-decimals (natAbs z))
+    let m : ℕ = natAbs z in
+    omega (arith, ap length (average-signed z), length-append (sign-text z) (two-decimals m), length-sign z, length-two-decimals m)
 length-average Nothing = omega arith
 length-average Beyond = omega arith
 
@@ -124,7 +126,7 @@ length-amount z = omega (arith, length-append (integer z) (32 ∷ []), length-in
 
 -- six things make the line of a run
 pub run-pieces : (r : Run) (end : ℕ) {z y : ℤ} {a : Average} → z ≡ r .pair .sum → y ≡ r .pair .count → a ≡ average 1 (r .pair)
-    → (decimal (r .start) ++ (32 ∷ [])) ++ ((decimal end ++ (32 ∷ [])) ++ ((integer z ++ (32 ∷ [])) ++ ((integer y ++ (32 ∷ [])) ++ (average-text a ++ (10 ∷ [])))))
-    ≡ run-text r end
+    → (decimal (r .start) ++ (32 ∷ [])) ++ ((decimal end ++ (32 ∷ [])) ++ ((integer z ++ (32 ∷ []))
+    ++ ((integer y ++ (32 ∷ [])) ++ (average-text a ++ (10 ∷ []))))) ≡ run-text r end
 unfolding run-text
 run-pieces r end e f g = rw (e, f, g) (simp append-assoc)

@@ -1,6 +1,6 @@
 -- Printing one thing behind another. Assumes nothing.
 use mathlib.Core.Path.{_≡_, refl, sym, ap, _∙_}
-use Prim.Native.Nat.{ℕ, zero, suc, _+_, _≤_, _<_}
+use Prim.Native.Nat.{ℕ, _+_, _≤_, _<_}
 use native.Mathlib.Numerals.{add-one}
 use native.Mathlib.Omega.{arith}
 use mathlib.Core.List.{List, [], _∷_, _++_}
@@ -59,7 +59,8 @@ copied-more {s} {at} {text} {i} {now} h l f =
     put-as e (put-then (f .put) (put-one now (at + i) (getD text i 0) p)) in
     record { within = omega arith; put = record { room = q .room; written = q .written; place = omega (arith, q .place) } }
 
-pub copied-all : {s : List ℕ} {at : ℕ} {text : List ℕ} {i : ℕ} {now : List ℕ} → length text ≤ i → Copied s at text i now → Put s at text now (at + i)
+pub copied-all : {s : List ℕ} {at : ℕ} {text : List ℕ} {i : ℕ} {now : List ℕ} → length text ≤ i
+    → Copied s at text i now → Put s at text now (at + i)
 copied-all {s} {at} {text} {i} {now} l f =
     let e : i ≡ length text = omega (arith, f .within) in
     put-as (ap (λ k. take k text) e ∙ take-length text) (f .put)

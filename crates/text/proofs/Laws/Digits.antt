@@ -1,11 +1,11 @@
 -- The digits of a number, as a loop passes them. Assumes nothing.
 use mathlib.Core.Path.{_≡_, refl, sym, ap, _∙_}
 use mathlib.Core.Bool.{Bool, true, false, _&&_, and-eq-true-iff, and-true, and-assoc}
-use Prim.Native.Nat.{ℕ, zero, suc, _+_, _*_, _-_, _^_, _≤_, _<_}
+use Prim.Native.Nat.{ℕ, _+_, _*_, _-_, _^_, _≤_, _<_}
 use native.Mathlib.Nat.{pow-succ', pow-le-pow-right}
 use native.Mathlib.Numerals.{add-one}
 use native.Mathlib.Omega.{arith}
-use mathlib.Core.List.{List, [], _∷_}
+use mathlib.Core.List.{List}
 use lib.ListN.{length, getD, drop}
 use lib.Seq.{drop-cons, drop-length}
 use lib.Dec.{leb}
@@ -14,10 +14,12 @@ use Rattle.calls.specs.Program.{all-digits, number-read, number-from}
 
 -- ---- whether all bytes are digits
 
-digits-first : (ds : List ℕ) (i : ℕ) → i < length ds → all-digits (drop i ds) ≡ leb 48 (getD ds i 0) && (leb (getD ds i 0) 57 && all-digits (drop (i + 1) ds))
+digits-first : (ds : List ℕ) (i : ℕ) → i < length ds
+    → all-digits (drop i ds) ≡ leb 48 (getD ds i 0) && (leb (getD ds i 0) 57 && all-digits (drop (i + 1) ds))
 unfolding all-digits
 digits-first ds i h =
-    ap all-digits (drop-cons ds i 0 h) ∙ ap (λ k. leb 48 (getD ds i 0) && (leb (getD ds i 0) 57 && all-digits (drop k ds))) (sym (add-one i))
+    ap all-digits (drop-cons ds i 0 h)
+    ∙ ap (λ k. leb 48 (getD ds i 0) && (leb (getD ds i 0) 57 && all-digits (drop k ds))) (sym (add-one i))
 
 -- the loop's invariant: what was passed, and what is left
 pub record Tested (ds : List ℕ) (i : ℕ) (ok : Bool) : Type 0 where
@@ -60,7 +62,8 @@ read-long ds h =
 pub read-digits : (ds : List ℕ) → 1 ≤ length ds → length ds ≤ 10 → all-digits ds ≡ number-read ds
 unfolding number-read
 read-digits ds h k =
-    sym (ap (λ t. t && (leb (length ds) 10 && all-digits ds)) (le-leb 1 (length ds) h) ∙ ap (λ t. t && all-digits ds) (le-leb (length ds) 10 k))
+    sym (ap (λ t. t && (leb (length ds) 10 && all-digits ds)) (le-leb 1 (length ds) h)
+    ∙ ap (λ t. t && all-digits ds) (le-leb (length ds) 10 k))
 
 -- ---- which number it is
 
@@ -93,9 +96,10 @@ pub record Digit (d : ℕ) : Type 0 where
 
 rest : {ds : List ℕ} {i n : ℕ} → Summed ds i n → i < length ds → Digit (getD ds i 0) × (all-digits (drop (i + 1) ds) ≡ true)
 rest {ds} {i} {n} h l =
-    let e = and-eq-true-iff (leb 48 (getD ds i 0)) (leb (getD ds i 0) 57 && all-digits (drop (i + 1) ds)) .0 (sym (digits-first ds i l) ∙ h .left) in
-    let f = and-eq-true-iff (leb (getD ds i 0) 57) (all-digits (drop (i + 1) ds)) .0 (e .1) in
-    (record { least = leb-true 48 (getD ds i 0) (e .0); most = leb-true (getD ds i 0) 57 (f .0) }, f .1)
+    let d : ℕ = getD ds i 0 in
+    let e = and-eq-true-iff (leb 48 d) (leb d 57 && all-digits (drop (i + 1) ds)) .0 (sym (digits-first ds i l) ∙ h .left) in
+    let f = and-eq-true-iff (leb d 57) (all-digits (drop (i + 1) ds)) .0 (e .1) in
+    (record { least = leb-true 48 d (e .0); most = leb-true d 57 (f .0) }, f .1)
 
 pub summed-digit : {ds : List ℕ} {i n : ℕ} → Summed ds i n → i < length ds → Digit (getD ds i 0)
 summed-digit h l = rest h l .0

@@ -1,10 +1,9 @@
 -- The fields of a line: a law for each way out of the functions that read it. Assumes nothing.
 use mathlib.Core.Path.{_≡_, refl, sym, ap, ap₂, _∙_}
-use mathlib.Core.Bool.{Bool, true, false, cond, _&&_, and-eq-true-iff, false≢true}
-use Prim.Native.Nat.{ℕ, zero, suc, _+_, _-_, _^_, _≤_, _<_}
-use native.Mathlib.Numerals.{add-one}
+use mathlib.Core.Bool.{Bool, true, false, cond, _&&_, and-eq-true-iff, and-false, false≢true}
+use Prim.Native.Nat.{ℕ, suc, _+_, _-_, _^_, _≤_, _<_}
 use native.Mathlib.Omega.{arith}
-use mathlib.Core.List.{List, [], _∷_, _++_}
+use mathlib.Core.List.{List, [], _∷_}
 use lib.ListN.{length, getD, take, drop, length-drop}
 use lib.Seq.{take-all, drop-drop}
 use lib.Dec.{eqb, leb}
@@ -17,7 +16,8 @@ use mir.ValLaws.{toZ-pos}
 use Rattle.rule.specs.Time.{END}
 use Rattle.rule.proofs.Signed.{sfits-natAbs, natAbs-neg}
 use Rattle.calls.specs.Changes.{Side, entering, withdrawing}
-use Rattle.calls.specs.Program.{Line, booking, unread, cut-at, number-read, number-from, instant-read, value-read, value-from, line-with, signed-line, line-from}
+use Rattle.calls.specs.Program.{Line, booking, unread, cut-at, line-with, signed-line, line-from}
+use Rattle.calls.specs.Program.{number-read, number-from, instant-read, value-read, value-from}
 use Rattle.text.specs.Reading.{ahead, Found}
 use Rattle.text.proofs.Laws.Cuts.{cut-there, cut-whole, cut-some}
 
@@ -85,20 +85,22 @@ value-some (d ∷ ds) h = omega arith
 -- ---- three fields
 
 module _ (side : Side) (v s e : List ℕ) where
+  abbrev test : Bool → Line
+  test t = cond t (booking side (value-from v) (number-from 0 s) (number-from 0 e)) unread
+
   with-tests : {a b c : Bool} → value-read v ≡ a → instant-read s ≡ b → instant-read e ≡ c
-      → line-with side v s e ≡ cond (a && (b && c)) (booking side (value-from v) (number-from 0 s) (number-from 0 e)) unread
+      → line-with side v s e ≡ test (a && (b && c))
   unfolding line-with
-  with-tests f g h =
-      ap (λ t. cond t (booking side (value-from v) (number-from 0 s) (number-from 0 e)) unread) (ap₂ _&&_ f (ap₂ _&&_ g h))
+  with-tests f g h = ap test (ap₂ _&&_ f (ap₂ _&&_ g h))
 
   pub not-value : value-read v ≡ false → line-with side v s e ≡ unread
   not-value f = with-tests f refl refl
 
-  pub not-start : value-read v ≡ true → instant-read s ≡ false → line-with side v s e ≡ unread
-  not-start f g = with-tests f g refl
+  pub not-start : instant-read s ≡ false → line-with side v s e ≡ unread
+  not-start g = with-tests refl g refl ∙ ap test (and-false (value-read v))
 
-  pub not-end : value-read v ≡ true → instant-read s ≡ true → instant-read e ≡ false → line-with side v s e ≡ unread
-  not-end f g h = with-tests f g h
+  pub not-end : instant-read e ≡ false → line-with side v s e ≡ unread
+  not-end h = with-tests refl refl h ∙ ap test (ap (λ t. value-read v && t) (and-false (instant-read s)) ∙ and-false (value-read v))
 
   all-read : value-read v ≡ true → instant-read s ≡ true → instant-read e ≡ true
       → line-with side v s e ≡ booking side (value-from v) (number-from 0 s) (number-from 0 e)
@@ -168,7 +170,8 @@ module _ (s : List ℕ) {i : ℕ} (f : Found s 32 0 i) where
     module _ {k : ℕ} (q : j < length s) (m : Found s 32 (j + 1) k) where
       pub three-fields : length s ≤ k → line-from (cut-at 32 s) ≡ unread
       unfolding line-from
-      three-fields h = two-cut (field-there s g (omega arith) q ∙ ap (λ r. midOf (i + 1) (j - (i + 1)) s ∷ r) (field-last s m (omega arith) h))
+      three-fields h =
+          two-cut (field-there s g (omega arith) q ∙ ap (λ r. midOf (i + 1) (j - (i + 1)) s ∷ r) (field-last s m (omega arith) h))
 
       module _ {l : ℕ} (t : k < length s) (u : Found s 32 (k + 1) l) where
         four-cut : {r : List (List ℕ)} → cut-at 32 (drop (k + 1) s) ≡ r
@@ -185,7 +188,8 @@ module _ (s : List ℕ) {i : ℕ} (f : Found s 32 0 i) where
             four-cut (field-there s u (omega arith) h ∙ ap (λ r. midOf (k + 1) (l - (k + 1)) s ∷ r) (e .same))
 
         pub four-fields : length s ≤ l → {r : Line}
-            → r ≡ signed-line (take i s) (midOf (i + 1) (j - (i + 1)) s) (midOf (j + 1) (k - (j + 1)) s) (midOf (k + 1) (length s - (k + 1)) s)
+            → r
+            ≡ signed-line (take i s) (midOf (i + 1) (j - (i + 1)) s) (midOf (j + 1) (k - (j + 1)) s) (midOf (k + 1) (length s - (k + 1)) s)
             → r ≡ line-from (cut-at 32 s)
         unfolding line-from
         four-fields h e = e ∙ sym (four-cut (field-last s u (omega arith) h ∙ ap (λ r. r ∷ []) (sym (lent-rest s (k + 1)))))

@@ -4,7 +4,7 @@ use native.Mathlib.Omega.{arith}
 use lib.ListN.{length}
 use borrow.Author.Needs.{needs}
 use Rattle.calls.specs.Program.{two-decimals}
-use Rattle.print.proofs.Laws.Puts.{put-then, put-room}
+use Rattle.print.proofs.Laws.Puts.{put-then, put-room, put-length}
 use Rattle.print.proofs.Laws.Numbers.{length-decimal}
 use Rattle.print.proofs.averages.put_hundredths.Statement.{statement}
 use Rattle.print.proofs.averages.put_hundredths.Tie as tie
@@ -28,7 +28,8 @@ returns c =
     let tenths = last .before .before .before .before in
     let point = tenths .before .before .before .before in
     let number = point .before .before .before .before in
-    put-then (number .put-decimal .ensures) (put-then (point .put-byte .ensures) (put-then (tenths .put-byte2 .ensures) (last .put-byte3 .ensures)))
+    put-then (number .put-decimal .ensures)
+    (put-then (point .put-byte .ensures) (put-then (tenths .put-byte2 .ensures) (last .put-byte3 .ensures)))
 
 pub put-hundredths-spec : {M : Type 1} → statement M
 put-hundredths-spec =
@@ -42,5 +43,5 @@ put-hundredths-spec =
     (λ c. search needs)
     (λ c. search needs)
     (λ c κs. omega (arith, behind-tenths (c .before .before .before)))
-    (λ c. search needs)
+    (λ c. put-length (returns c))
     returns)

@@ -23,4 +23,10 @@ put-byte-requires c κs =
     omega (arith, put-room 21 1 (number n) (length-integer (entry n .args .z)) (entry n .pre))
 
 pub put-amount-spec : {M : Type 1} → statement M
-put-amount-spec = tie.close (tie.spec (λ c κs. search needs) put-byte-requires (λ c. search needs) (λ c. put-then (number (c .before .before .before .before .before .before)) (c .before .before .put-byte .ensures)))
+put-amount-spec =
+    tie.close
+    (tie.spec
+    (λ c κs. search needs)
+    put-byte-requires
+    (λ c. search needs)
+    (λ c. put-then (number (c .before .before .before .before .before .before)) (c .before .before .put-byte .ensures)))

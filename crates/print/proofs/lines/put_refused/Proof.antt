@@ -4,7 +4,7 @@ use native.Mathlib.Omega.{arith}
 use lib.ListN.{length}
 use borrow.Author.Needs.{needs}
 use Rattle.calls.specs.Program.{refused-text}
-use Rattle.print.proofs.Laws.Puts.{put-then, put-room}
+use Rattle.print.proofs.Laws.Puts.{put-then, put-room, put-length}
 use Rattle.print.proofs.Laws.Numbers.{length-decimal}
 use Rattle.print.proofs.lines.put_refused.Statement.{statement}
 use Rattle.print.proofs.lines.put_refused.Tie as tie
@@ -49,5 +49,5 @@ put-refused-spec =
     (λ c κs. omega (arith, behind-number (c .before .before .before .before)))
     (λ c κs. omega (arith, behind-refused (c .before .before .before)))
     (λ c κs. omega (arith, behind-which (c .before .before .before)))
-    (λ c. search needs)
+    (λ c. put-length (returns c))
     returns)

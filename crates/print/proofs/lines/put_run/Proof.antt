@@ -1,5 +1,5 @@
 -- `print::lines::put_run` meets its contract: six things, one behind the other. Assumes nothing.
-use mathlib.Core.Path.{ap, _∙_}
+use mathlib.Core.Path.{_≡_, ap, _∙_}
 use Prim.Native.Nat.{_+_, _≤_}
 use native.Mathlib.Omega.{arith}
 use lib.ListN.{length}
@@ -7,7 +7,7 @@ use borrow.Author.Needs.{needs}
 use mir.Syntax.{w32, w64}
 use mir.Val.{SFits, toZ, ofZ}
 use mir.Facts.{toZ-ofZ, sfits-widen}
-use Rattle.print.proofs.Laws.Puts.{put-as, put-then, put-room}
+use Rattle.print.proofs.Laws.Puts.{put-as, put-then, put-room, put-length}
 use Rattle.print.proofs.Laws.Numbers.{length-instant, length-amount, length-average, run-pieces}
 use Rattle.print.proofs.lines.put_run.Statement.{statement}
 use Rattle.print.proofs.lines.put_run.Tie as tie
@@ -37,6 +37,11 @@ count-fits c = search needs
 wide : (c : tie.After-put-instant) → SFits w64 (c .before .before .before .before .before .args .pair .count)
 wide c = sfits-widen tt (count-fits c)
 
+passed-count : (c : tie.After-put-instant)
+    → toZ w64 (ofZ w64 (toZ w32 (ofZ w32 (c .before .before .before .before .before .args .pair .count))))
+    ≡ c .before .before .before .before .before .args .pair .count
+passed-count c = ap (λ z. toZ w64 (ofZ w64 z)) (toZ-ofZ (count-fits c)) ∙ toZ-ofZ (wide c)
+
 cast-put-amount : tie.Need-cast-put-amount
 cast-put-amount c =
     let start = c .before .before .before .before .before .before .before .before .before .before .before in
@@ -50,7 +55,7 @@ returns c =
     let sum = count .before .before .before .before in
     let end = sum .before .before .before .before in
     let start = end .before .before .before .before in
-    put-as (run-pieces _ _ (toZ-ofZ (sum-fits start)) (ap (λ z. toZ w64 (ofZ w64 z)) (toZ-ofZ (count-fits start)) ∙ toZ-ofZ (wide start)) (mean .before .average .ensures))
+    put-as (run-pieces _ _ (toZ-ofZ (sum-fits start)) (passed-count start) (mean .before .average .ensures))
     (put-then (start .put-instant .ensures) (put-then (end .put-instant2 .ensures) (put-then (sum .put-amount .ensures)
     (put-then (count .put-amount2 .ensures) (put-then (mean .put-average .ensures) (last .put-byte .ensures))))))
 
@@ -66,5 +71,5 @@ put-run-spec =
     (λ c κs. search needs)
     (λ c κs. omega (arith, behind-count (c .before .before .before .before)))
     (λ c κs. omega (arith, behind-average (c .before .before .before)))
-    (λ c. search needs)
+    (λ c. put-length (returns c))
     returns)

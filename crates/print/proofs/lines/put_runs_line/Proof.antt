@@ -2,7 +2,7 @@
 use native.Mathlib.Omega.{arith}
 use borrow.Author.Needs.{needs}
 use Rattle.print.specs.Written.{runs-line}
-use Rattle.print.proofs.Laws.Puts.{put-then, put-room}
+use Rattle.print.proofs.Laws.Puts.{put-then, put-room, put-length}
 use Rattle.print.proofs.Laws.Numbers.{length-decimal}
 use Rattle.print.proofs.lines.put_runs_line.Statement.{statement}
 use Rattle.print.proofs.lines.put_runs_line.Tie as tie
@@ -12,7 +12,8 @@ put-byte-requires c κs =
     let number = c .before .before .before in
     let runs = number .before .before .before .before in
     let start = runs .before .before .before .before in
-    omega (arith, put-room 20 1 (number .put-decimal .ensures) (length-decimal (start .args .count)) (put-room 5 21 (runs .put-text .ensures) (omega arith) (start .pre)))
+    let behind-runs = put-room 5 21 (runs .put-text .ensures) (omega arith) (start .pre) in
+    omega (arith, put-room 20 1 (number .put-decimal .ensures) (length-decimal (start .args .count)) behind-runs)
 
 returns : tie.Need-returns
 unfolding runs-line
@@ -30,5 +31,5 @@ put-runs-line-spec =
     (λ c κs. search needs)
     (λ c κs. search needs)
     put-byte-requires
-    (λ c. search needs)
+    (λ c. put-length (returns c))
     returns)

@@ -2,7 +2,7 @@
 use native.Mathlib.Omega.{arith}
 use borrow.Author.Needs.{needs}
 use Rattle.calls.specs.Program.{unread-text}
-use Rattle.print.proofs.Laws.Puts.{put-then, put-room}
+use Rattle.print.proofs.Laws.Puts.{put-then, put-room, put-length}
 use Rattle.print.proofs.Laws.Numbers.{length-decimal}
 use Rattle.print.proofs.lines.put_unread.Statement.{statement}
 use Rattle.print.proofs.lines.put_unread.Tie as tie
@@ -12,7 +12,8 @@ put-text-requires-2 c κs =
     let number = c .before .before .before .before in
     let line = number .before .before .before .before in
     let start = line .before .before .before .before in
-    put-room 20 8 (number .put-decimal .ensures) (length-decimal (start .args .k)) (put-room 5 28 (line .put-text .ensures) (omega arith) (start .pre))
+    let behind-line = put-room 5 28 (line .put-text .ensures) (omega arith) (start .pre) in
+    put-room 20 8 (number .put-decimal .ensures) (length-decimal (start .args .k)) behind-line
 
 returns : tie.Need-returns
 unfolding unread-text
@@ -31,5 +32,5 @@ put-unread-spec =
     (λ c κs. search needs)
     (λ c. search needs)
     put-text-requires-2
-    (λ c. search needs)
+    (λ c. put-length (returns c))
     returns)

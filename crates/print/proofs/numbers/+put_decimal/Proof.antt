@@ -44,7 +44,8 @@ last-requires : (t : ℕ) → put-decimal-lts.Need-put-byte-requires-2 (
 ) (put-decimal-at t) put-decimal.Post
 last-requires t c κs =
     let others = c .before .before .before in
-    omega (arith, others .put-decimal .ensures .place, others .put-decimal .kept .0, length-before _ (others .before .before .if1 .left) (omega arith))
+    let before = length-before _ (others .before .before .if1 .left) (omega arith) in
+    omega (arith, others .put-decimal .ensures .place, others .put-decimal .kept .0)
 
 returns-2 : (t : ℕ) → put-decimal-lts.Need-returns-2 (
   put-byte-reads.Asked,
@@ -55,7 +56,8 @@ returns-2 : (t : ℕ) → put-decimal-lts.Need-returns-2 (
 returns-2 t c =
     let call = c .before .before in
     let others = call .before .before .before .before in
-    put-as (sym (decimal-more _ (others .before .before .if1 .left) (omega arith))) (put-then (others .put-decimal .ensures) (call .put-byte2 .ensures))
+    put-as (sym (decimal-more _ (others .before .before .if1 .left) (omega arith)))
+    (put-then (others .put-decimal .ensures) (call .put-byte2 .ensures))
 
 pub +put-decimal-spec : {M : Type 1} → statement M
 +put-decimal-spec = close μ-put-decimal λ t. put-decimal-lts.spec (

@@ -6,7 +6,7 @@ use borrow.Author.Needs.{needs}
 use mir.Facts.{toZ-ofZ}
 use Rattle.calls.specs.Program.{decimal}
 use Rattle.print.specs.Written.{Put, sign-text}
-use Rattle.print.proofs.Laws.Puts.{put-as, put-then, put-room}
+use Rattle.print.proofs.Laws.Puts.{put-as, put-then, put-room, put-length}
 use Rattle.print.proofs.Laws.Numbers.{integer-signed, length-sign}
 use Rattle.print.proofs.numbers.put_integer.Statement.{statement}
 use Rattle.print.proofs.numbers.put_integer.Tie as tie
@@ -28,9 +28,10 @@ returns c =
     let number = c .before .before in
     let s = number .before .before .before .before .before in
     let size = number .before .magnitude .ensures ∙ ap natAbs (toZ-ofZ (entry s .fits .z)) in
-    put-as (ap (λ n. sign-text (entry s .args .z) ++ decimal n) size ∙ integer-signed (entry s .args .z)) (put-then (sign s) (number .put-decimal .ensures))
+    put-as (ap (λ n. sign-text (entry s .args .z) ++ decimal n) size ∙ integer-signed (entry s .args .z))
+    (put-then (sign s) (number .put-decimal .ensures))
 
 pub put-integer-spec : {M : Type 1} → statement M
 put-integer-spec =
     tie.close
-    (tie.spec (λ c κs. search needs) (λ c κs. search needs) put-decimal-requires (λ c. search needs) returns)
+    (tie.spec (λ c κs. search needs) (λ c κs. search needs) put-decimal-requires (λ c. put-length (returns c)) returns)

@@ -12,7 +12,8 @@ Inv-loop ds n₀ i₀ n i = Summed ds i n
 abbrev μ-loop : tie.MeasureT-loop
 μ-loop ds n₀ i₀ n i = length ds - i
 
-digit : (c : tie.After-shared-slice-known Inv-loop μ-loop) → Digit (getD (c .before .before .before .args .ds .now) (c .before .before .loop .i) 0)
+digit : (c : tie.After-shared-slice-known Inv-loop μ-loop)
+    → Digit (getD (c .before .before .before .args .ds .now) (c .before .before .loop .i) 0)
 digit c = summed-digit (c .before .before .loop .inv) (c .before .loop-test .taken)
 
 mul-n : tie.Need-mul-n Inv-loop μ-loop

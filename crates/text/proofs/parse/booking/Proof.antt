@@ -33,13 +33,11 @@ returns c = sym (not-value _ _ _ _ (sym (c .before .value-read .ensures) ∙ not
 
 returns-2 : tie.Need-returns-2
 unfolding line-of
-returns-2 c = sym (not-start _ _ _ _ (value (c .before .before)) (sym (c .before .instant-read .ensures) ∙ not-true _ (c .if2 .taken)))
+returns-2 c = sym (not-start _ _ _ _ (sym (c .before .instant-read .ensures) ∙ not-true _ (c .if2 .taken)))
 
 returns-3 : tie.Need-returns-3
 unfolding line-of
-returns-3 c =
-    let s = c .before .before in
-    sym (not-end _ _ _ _ (value (s .before .before)) (start s) (sym (c .before .instant-read2 .ensures) ∙ not-true _ (c .if3 .taken)))
+returns-3 c = sym (not-end _ _ _ _ (sym (c .before .instant-read2 .ensures) ∙ not-true _ (c .if3 .taken)))
 
 cast-start : tie.Need-cast-start
 cast-start c = omega (arith, c .number-from .ensures .0, instant-most _ (start (c .before .before .before .before)))
@@ -49,7 +47,8 @@ cast-end c = omega (arith, c .number-from2 .ensures .0, instant-most _ (end (c .
 
 -- the numbers that were read, on the side of the sign
 read : (c : tie.After-number-from2) {given : Side} → side-of (entry c .args .entering) ≡ given
-    → Line.booking given (toZ w64 (ofZ w64 (c .before .before .value-from .result))) (c .before .number-from .result) (c .number-from2 .result)
+    → Line.booking given (toZ w64 (ofZ w64 (c .before .before .value-from .result)))
+    (c .before .number-from .result) (c .number-from2 .result)
     ≡ line-with (side-of (entry c .args .entering)) (entry c .args .v .now) (entry c .args .s .now) (entry c .args .e .now)
 read c side =
     let test = c .before .before .before in

@@ -17,7 +17,8 @@ first c = omega (arith, c .before .find-byte .ensures .within)
 second : (c : tie.Else2) → c .before .find-byte2 .result < length (c .before .before .before .before .before .args .line .now)
 second c = omega (arith, c .before .find-byte2 .ensures .within)
 
-third : (c : tie.Else3) → c .before .find-byte3 .result < length (c .before .before .before .before .before .before .before .args .line .now)
+third : (c : tie.Else3)
+    → c .before .find-byte3 .result < length (c .before .before .before .before .before .before .before .args .line .now)
 third c = omega (arith, c .before .find-byte3 .ensures .within)
 
 returns : tie.Need-returns
@@ -35,7 +36,8 @@ unfolding line-of
 returns-3 c =
     let b = c .before .before in
     let a = b .before .before in
-    sym (three-fields _ (a .before .find-byte .ensures) (first a) (b .before .find-byte2 .ensures) (second b) (c .before .find-byte3 .ensures) (omega arith))
+    sym (three-fields _ (a .before .find-byte .ensures) (first a) (b .before .find-byte2 .ensures) (second b)
+    (c .before .find-byte3 .ensures) (omega arith))
 
 returns-4 : tie.Need-returns-4
 unfolding line-of

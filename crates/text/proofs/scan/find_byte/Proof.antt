@@ -1,4 +1,4 @@
--- `text::scan::find_byte` meets its contract. The loop's invariant: what is looked for stands as far ahead as at the start. Assumes nothing.
+-- `text::scan::find_byte` meets its contract. The loop's invariant: what is looked for stands where it stood. Assumes nothing.
 use mathlib.Core.Path.{_≡_, ap, _∙_}
 use Prim.Native.Nat.{_+_, _-_, _≤_}
 use native.Mathlib.Omega.{arith}
