@@ -15,9 +15,9 @@ fn put_hundredths(out: &mut [u8], at: usize, n: u64) -> usize
     ensures { λ r. ⌜ Put (now (out .entry)) at (two-decimals n) (now (out .exit)) r ⌝ }
 {
     let next = put_decimal(out, at, n / 100);
-    let tenths = put_byte(out, next, 46);
-    let last = put_byte(out, tenths, 48 + (n / 10 % 10) as u8);
-    put_byte(out, last, 48 + (n % 10) as u8)
+    let tenths = put_byte(out, next, b'.');
+    let last = put_byte(out, tenths, b'0' + (n / 10 % 10) as u8);
+    put_byte(out, last, b'0' + (n % 10) as u8)
 }
 
 pub fn put_average(out: &mut [u8], at: usize, average: Average) -> usize
@@ -29,7 +29,7 @@ pub fn put_average(out: &mut [u8], at: usize, average: Average) -> usize
             let next = put_sign(out, at, h);
             put_hundredths(out, next, magnitude(h))
         }
-        Average::Nothing => put_byte(out, at, 45),
-        Average::Beyond => put_byte(out, at, 45),
+        Average::Nothing => put_byte(out, at, b'-'),
+        Average::Beyond => put_byte(out, at, b'-'),
     }
 }

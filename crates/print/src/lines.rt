@@ -21,7 +21,7 @@ pub fn put_refused(out: &mut [u8], at: usize, k: u64, number: u32) -> usize
     let refused = put_decimal(out, line, k);
     let which = put_text(out, refused, b" refused ");
     let end = put_decimal(out, which, number as u64);
-    put_byte(out, end, 10)
+    put_byte(out, end, b'\n')
 }
 
 // "`line K unread` for any other form"
@@ -41,7 +41,7 @@ pub fn put_runs_line(out: &mut [u8], at: usize, count: u64) -> usize
 {
     let runs = put_text(out, at, b"runs ");
     let end = put_decimal(out, runs, count);
-    put_byte(out, end, 10)
+    put_byte(out, end, b'\n')
 }
 
 // An instant of a run, and the space behind it.
@@ -50,7 +50,7 @@ fn put_instant(out: &mut [u8], at: usize, t: u32) -> usize
     ensures { λ r. ⌜ Put (now (out .entry)) at (decimal t ++ (32 ∷ [])) (now (out .exit)) r ⌝ }
 {
     let next = put_decimal(out, at, t as u64);
-    put_byte(out, next, 32)
+    put_byte(out, next, b' ')
 }
 
 // A sum or a count, and the space behind it.
@@ -59,7 +59,7 @@ fn put_amount(out: &mut [u8], at: usize, z: i64) -> usize
     ensures { λ r. ⌜ Put (now (out .entry)) at (integer z ++ (32 ∷ [])) (now (out .exit)) r ⌝ }
 {
     let next = put_integer(out, at, z);
-    put_byte(out, next, 32)
+    put_byte(out, next, b' ')
 }
 
 // "each run as start, end, sum, count, average"
@@ -74,5 +74,5 @@ pub fn put_run(out: &mut [u8], at: usize, start: u32, end: u32, pair: Pair) -> u
     let fourth = put_amount(out, third, sum);
     let fifth = put_amount(out, fourth, count as i64);
     let last = put_average(out, fifth, average(1, pair));
-    put_byte(out, last, 10)
+    put_byte(out, last, b'\n')
 }

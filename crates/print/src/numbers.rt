@@ -12,10 +12,10 @@ pub fn put_decimal(out: &mut [u8], at: usize, n: u64) -> usize
     ensures { λ r. ⌜ Put (now (out .entry)) at (decimal n) (now (out .exit)) r ⌝ }
 {
     if n < 10 {
-        return put_byte(out, at, 48 + n as u8);
+        return put_byte(out, at, b'0' + n as u8);
     }
     let next = put_decimal(out, at, n / 10);
-    put_byte(out, next, 48 + (n % 10) as u8)
+    put_byte(out, next, b'0' + (n % 10) as u8)
 }
 
 // "a minus if below zero"
@@ -24,7 +24,7 @@ pub(crate) fn put_sign(out: &mut [u8], at: usize, z: i64) -> usize
     ensures { λ r. ⌜ Put (now (out .entry)) at (sign-text z) (now (out .exit)) r ⌝ }
 {
     if z < 0 {
-        return put_byte(out, at, 45);
+        return put_byte(out, at, b'-');
     }
     at
 }

@@ -11,7 +11,7 @@ fn all_digits(ds: &[u8]) -> bool
     let mut ok = true;
     let mut i = 0;
     while i < ds.len() {
-        ok = ok & (48 <= ds[i]) & (ds[i] <= 57);
+        ok = ok & (b'0' <= ds[i]) & (ds[i] <= b'9');
         i += 1;
     }
     ok
@@ -39,7 +39,7 @@ pub fn number_from(ds: &[u8]) -> u64
     let mut n: u64 = 0;
     let mut i = 0;
     while i < ds.len() {
-        n = 10 * n + (ds[i] - 48) as u64;
+        n = 10 * n + (ds[i] - b'0') as u64;
         i += 1;
     }
     n

@@ -16,16 +16,16 @@ pub fn instant_read(ds: &[u8]) -> bool
 }
 
 // Document 01: "v may have a minus"
-pub fn value_read(ds: &[u8]) -> bool
-    ensures { λ r. ⌜ r ≡ value-read (now (ds .entry)) ⌝ }
+pub fn value_read(v: &[u8]) -> bool
+    ensures { λ r. ⌜ r ≡ value-read (now (v .entry)) ⌝ }
 {
-    if ds.len() == 0 {
+    if v.len() == 0 {
         return false;
     }
-    if ds[0] == 45 {
-        return number_read(&ds[1..]);
+    if v[0] == b'-' {
+        return number_read(&v[1..]);
     }
-    number_read(ds)
+    number_read(v)
 }
 
 // The value: ten digits and a minus fit an i64.
@@ -33,7 +33,7 @@ pub fn value_from(ds: &[u8]) -> i64
     requires { ⌜ value-read (now ds) ≡ true ⌝ }
     ensures { λ r. ⌜ r ≡ value-from (now (ds .entry)) ⌝ }
 {
-    if ds[0] == 45 {
+    if ds[0] == b'-' {
         return -(number_from(&ds[1..]) as i64);
     }
     number_from(ds) as i64

@@ -9,5 +9,5 @@ pub fn line_end(text: &[u8], from: usize) -> usize
     requires { ⌜ from ≤ length (now text) ⌝ }
     ensures { λ r. ⌜ Found (now (text .entry)) 10 from r ⌝ }
 {
-    find_byte(text, 10, from)
+    find_byte(text, b'\n', from)
 }

@@ -32,7 +32,7 @@ fn booking(entering: bool, v: &[u8], s: &[u8], e: &[u8]) -> Parsed
     }
 }
 
-// A line of four fields, the first of them the sign + (43) or - (45), alone.
+// A line of four fields, the first of them the sign, alone.
 fn signed_line(sign: &[u8], v: &[u8], s: &[u8], e: &[u8]) -> Parsed
     ensures { λ r. ⌜ line-of r ≡ signed-line (now (sign .entry)) (now (v .entry)) (now (s .entry)) (now (e .entry)) ⌝ }
 {
@@ -40,10 +40,10 @@ fn signed_line(sign: &[u8], v: &[u8], s: &[u8], e: &[u8]) -> Parsed
         return Parsed::Unread;
     }
     let c = sign[0];
-    if c == 43 {
+    if c == b'+' {
         return booking(true, v, s, e);
     }
-    if c == 45 {
+    if c == b'-' {
         return booking(false, v, s, e);
     }
     Parsed::Unread
@@ -54,22 +54,22 @@ pub fn parse(line: &[u8]) -> Parsed
     ensures { λ r. ⌜ line-of r ≡ line-from (cut-at 32 (now (line .entry))) ⌝ }
 {
     let n = line.len();
-    let a = find_byte(line, 32, 0);
+    let a = find_byte(line, b' ', 0);
     if a == n {
         return Parsed::Unread;
     }
     let v = a + 1;
-    let b = find_byte(line, 32, v);
+    let b = find_byte(line, b' ', v);
     if b == n {
         return Parsed::Unread;
     }
     let s = b + 1;
-    let c = find_byte(line, 32, s);
+    let c = find_byte(line, b' ', s);
     if c == n {
         return Parsed::Unread;
     }
     let e = c + 1;
-    if find_byte(line, 32, e) < n {
+    if find_byte(line, b' ', e) < n {
         return Parsed::Unread;
     }
     signed_line(&line[..a], &line[v..b], &line[s..c], &line[e..])

@@ -10,7 +10,7 @@ pub number-read-spec : {M : Type 1} → statement M
 number-read-spec =
     tie.close
     (tie.spec
-    (λ c. read-none _ (c .if1 .taken))
-    (λ c. read-long _ (c .if2 .taken))
+    (λ c. read-none _ (omega arith))
+    (λ c. read-long _ (omega arith))
     (λ c κs. search needs)
     (λ c. c .all-digits .ensures ∙ read-digits _ (omega arith) (omega arith)))
