@@ -1,2 +1,2 @@
--- The laws of what is read and of what is printed.
+-- The laws of what is read.
 pub mod Laws

@@ -1,4 +1,4 @@
-// The program's text: lines of bookings read, numbers and runs printed.
+// The program's input: lines of bookings, parsed where they lie or as they come byte by byte.
 // Document 01, "Marks from the test rack": "The program reads lines `+ v s e` or `- v s e` from standard input".
 
 pub mod digits;
