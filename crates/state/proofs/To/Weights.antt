@@ -54,13 +54,13 @@ within-here norm Each most zero above x w = w
 within-here norm Each most (suc l) above x w = (w .0, w .1)
 
 module _ (h : Head) (l sums counts : ℕ) (x : Ent (Kid l)) (w : Weighed h l sums counts x) where
-  sum-here : eqb (h .kind) 1 ≡ true → sums + natAbs (x .entry .pair .sum) ≤ most-value * h .changes
+  pub sum-here : eqb (h .kind) 1 ≡ true → sums + natAbs (x .entry .pair .sum) ≤ most-value * h .changes
   sum-here e = within-here (λ p. natAbs (p .sum)) Any (most-value * h .changes) l sums x (w .by-sum e) .1
 
-  count-here : eqb (h .kind) 1 ≡ true → counts + natAbs (x .entry .pair .count) ≤ h .changes
+  pub count-here : eqb (h .kind) 1 ≡ true → counts + natAbs (x .entry .pair .count) ≤ h .changes
   count-here e = within-here (λ p. natAbs (p .count)) Any (h .changes) l counts x (w .by-count e) .1
 
-  value-here : eqb (h .kind) 1 ≡ false → value-or-none (x .entry .pair) ≡ true
+  pub value-here : eqb (h .kind) 1 ≡ false → value-or-none (x .entry .pair) ≡ true
   value-here e = within-here (λ p. 0) Value-or-none 0 l 0 x (w .by-value e) .0
 
   pub pair-passes : (at : Place) → at .sums ≡ sums → at .counts ≡ counts → pair-ok h at (x .entry .pair) ≡ true
