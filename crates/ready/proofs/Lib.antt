@@ -3,3 +3,4 @@
 pub mod Going
 pub mod Held
 pub mod Pairs
+pub mod Spreads

@@ -64,7 +64,7 @@ ends-within s e l q within hi (x ∷ xs) =
     let r : times q (sent-below s e l hi xs) ≤ times-below l q xs = ends-within s e l q within hi xs in
     omega (arith, times-append q (sent-in s e l end x) (sent-below s e l hi xs), within end x, below-cons l q x xs)
 
-sent-within : (s e l q hi : ℕ) (x : Ent (Kid l)) → times q (sent-in s e l hi x) ≤ times q (pages-under l x)
+pub sent-within : (s e l q hi : ℕ) (x : Ent (Kid l)) → times q (sent-in s e l hi x) ≤ times q (pages-under l x)
 unfolding sent-in
 sent-within s e zero q hi x = omega (arith, times-none q)
 sent-within s e (suc l) q hi x =
@@ -77,7 +77,7 @@ sent-within s e (suc l) q hi x =
 
 module _ (_⊕_ : Pair → Pair → Pair) (s e : ℕ) (effect : Pair) where
   -- what a page of level l sends below
-  unfoldable below-of : ℕ → ℕ → ℕ → Image → Image
+  unfoldable pub below-of : ℕ → ℕ → ℕ → Image → Image
   below-of zero end q Y = Y
   below-of (suc l) end q Y = spread-page _⊕_ s e effect l end q Y
 
@@ -106,7 +106,7 @@ module _ (_⊕_ : Pair → Pair → Pair) (s e : ℕ) (effect : Pair) where
       ap (λ (r : List Entry). took _⊕_ s e effect end (x .entry) ∷ r) (became-is l hi xs (sent _⊕_ s e effect (below-of l) end (x .entry) X))
       ∙ ap (λ (y : Entry). y ∷ bare (new l hi xs)) (sym (entry-same l end x))
 
-  abbrev SentIs : (l hi : ℕ) → Ent (Kid l) → Image → Type 0
+  abbrev pub SentIs : (l hi : ℕ) → Ent (Kid l) → Image → Type 0
   SentIs l hi x X = Sent l X (sent _⊕_ s e effect (below-of l) hi (x .entry) X) x (spread-ent _⊕_ s e effect l hi x) (sent-in s e l hi x)
 
   abbrev WalkIs : (l hi : ℕ) → Ents l → Image → Type 0
@@ -226,7 +226,7 @@ module _ (_⊕_ : Pair → Pair → Pair) (s e : ℕ) (effect : Pair) where
       go false true = below
       go false false = still
 
-  sent-is : (l hi : ℕ) (x : Ent (Kid l)) (X : Image) → Shows l (X .page) x → ((q : ℕ) → times q (pages-under l x) ≤ 1) → SentIs l hi x X
+  pub sent-is : (l hi : ℕ) (x : Ent (Kid l)) (X : Image) → Shows l (X .page) x → ((q : ℕ) → times q (pages-under l x) ≤ 1) → SentIs l hi x X
   sent-is zero hi x X shown once = sent-none hi x X
   sent-is (suc l) hi x X shown once =
       sent-up l hi x X shown

@@ -1,0 +1,155 @@
+-- Before step C each page that it meets is ready, in the image as it is then: the pages written by then are others. Assumes nothing.
+use Prim.Native.Nat.{ℕ, zero, suc, _+_, _-_, _≤_, _<_}
+use mathlib.Core.Path.{_≡_, refl, sym, ap, _∙_, subst, subst⁻¹}
+use mathlib.Core.Bool.{cond}
+use mathlib.Core.List.{List, [], _∷_}
+use native.Mathlib.Omega.{arith}
+use lib.IntN.{natAbs}
+use Rattle.rule.specs.declared.Pair.{Pair}
+use Rattle.rule.specs.Pairs.{combine}
+use Rattle.rule.specs.Bounds.{Combinable}
+use Rattle.rule.specs.Time.{END}
+use Rattle.page.specs.declared.Entry.{Entry}
+use Rattle.page.specs.declared.Head.{Head}
+use Rattle.page.specs.Fit.{most-changes}
+use Rattle.image.specs.Images.{Image, tree}
+use Rattle.image.specs.Sound.{times}
+use Rattle.steps.specs.Supply.{entries, counted}
+use Rattle.steps.specs.Spread.{start-of, sent}
+use Rattle.spread.specs.declared.Task.{Task}
+use Rattle.spread.specs.Ready.{inside-by, meets-by, below-by, sent-by, Entries-ready, Below-ready, Page-ready, Spreadable}
+use Rattle.tree.specs.Tree.{Ent, Kid, Ents, bare, pages-under}
+use Rattle.tree.specs.Cut.{State, root-ent}
+use Rattle.tree.specs.Spread.{spread-ent}
+use Rattle.tree.specs.Held.{All, times-below}
+use Rattle.view.specs.View.{Shows}
+use Rattle.view.proofs.Lists.{hit-self, all-head, all-tail, under-suc, below-cons}
+use Rattle.view.proofs.Moves.{all-shows}
+use Rattle.view.proofs.Stepped.{once-is}
+use Rattle.view.proofs.Ways.{entries-are, kids-shown}
+use Rattle.view.proofs.Spread.{Sent, sent-in, sent-within, below-of, sent-is}
+use Rattle.state.proofs.To.Weights.{Weighed, weighed-all, weighed-below}
+use Rattle.state.proofs.To.Known.{held-is, tree-inside}
+use Rattle.state.proofs.To.Height.{height-most}
+use Rattle.ready.proofs.Going.{Going, Effective, good-once}
+use Rattle.ready.proofs.Pairs.{effect-combinable}
+
+-- A count of pages by which none is there twice, and each that is there is one of n but the head.
+record Apart (n : ℕ) (count : ℕ → ℕ) : Type 0 where
+  once : (p : ℕ) → count p ≤ 1
+  inside : (p : ℕ) → 1 ≤ count p → (1 ≤ p) × (p < n)
+
+fewer : {n : ℕ} {count least : ℕ → ℕ} → Apart n count → ((p : ℕ) → least p ≤ count p) → Apart n least
+fewer a h = record { once = λ p. omega (arith, a .once p, h p); inside = λ p m. a .inside p (omega (arith, h p)) }
+
+-- those of the tree
+tree-apart : {half : ℕ} (X : Image) {Y : State} → Going half X Y
+    → Apart (X .head .pages) (λ p. times p (pages-under (suc (Y .tree .level)) (root-ent (Y .tree))))
+unfolding counted root-ent
+tree-apart X {Y} g =
+    let l = Y .tree .level in
+    let x = root-ent (Y .tree) in
+    record {
+      once = λ p. omega (arith, under-suc l p x, held-is g p, once-is Y (good-once g) p);
+      inside = λ p m. omega (arith, tree-inside g p (omega (arith, under-suc l p x)), g .ranges .mark-most);
+    }
+
+module _ (q : Task) where
+  abbrev rule : Pair → Pair → Pair
+  rule = combine (q .kind)
+
+  -- ---- what an entry sends below, in the words of images and trees
+
+  below-same : (l hi p : ℕ) (X : Image) → below-of rule (q .s) (q .e) (q .effect) l hi p X ≡ below-by q l hi p X
+  unfolding below-of below-by
+  below-same zero hi p X = refl
+  below-same (suc l) hi p X = refl
+
+  sent-same : (l hi : ℕ) (x : Entry) (X : Image)
+      → sent rule (q .s) (q .e) (q .effect) (below-of rule (q .s) (q .e) (q .effect) l) hi x X ≡ sent-by q l hi x X
+  unfolding sent
+  sent-same l hi x X = ap (λ (Z : Image). cond (inside-by q hi x) X (cond (meets-by q hi x) Z X)) (below-same l hi (x .child) X)
+
+  -- the image Z is what x leaves of X
+  abbrev SentTo : (l hi : ℕ) → Ent (Kid l) → Image → Image → Type 0
+  SentTo l hi x X Z = Sent l X Z x (spread-ent rule (q .s) (q .e) (q .effect) l hi x) (sent-in (q .s) (q .e) l hi x)
+
+  sent-on : (l hi : ℕ) (x : Ent (Kid l)) (X : Image) → Shows l (X .page) x → ((p : ℕ) → times p (pages-under l x) ≤ 1)
+      → SentTo l hi x X (sent-by q l hi (x .entry) X)
+  sent-on l hi x X a once =
+      subst (λ (Z : Image). SentTo l hi x X Z) (sent-same l hi (x .entry) X) (sent-is rule (q .s) (q .e) (q .effect) l hi x X a once)
+
+  -- ---- a page, by the pages below its entries, each of which is W
+
+  module _ (n l : ℕ) (W : Ent (Kid l) → Type 0) (combines : (y : Ent (Kid l)) → W y → Combinable (y .entry .pair) (q .effect))
+      (below : (hi : ℕ) (y : Ent (Kid l)) (Z : Image) → W y → Shows l (Z .page) y → Apart n (λ p. times p (pages-under l y))
+      → Z .head .pages ≡ n → Below-ready q l hi (y .entry .child) Z) where
+    entries-ready : (hi : ℕ) (es : Ents l) (Z : Image) → All W es → All (λ y. Shows l (Z .page) y) es → Apart n (λ p. times-below l p es)
+        → Z .head .pages ≡ n → Entries-ready q (Below-ready q l) l hi (bare es) Z
+    unfolding Entries-ready
+    entries-ready hi [] Z w a o m = tt
+    entries-ready hi (x ∷ xs) Z w a o m =
+        let end = start-of hi (bare xs) in
+        let here : Apart n (λ p. times p (pages-under l x)) = fewer o (λ p. omega (arith, below-cons l p x xs)) in
+        let later : Apart n (λ p. times-below l p xs) = fewer o (λ p. omega (arith, below-cons l p x xs)) in
+        let u = sent-on l end x Z (all-head a) (here .once) in
+        let still : All (λ y. Shows l (sent-by q l end (x .entry) Z .page) y) xs =
+        all-shows l (λ p. times p (sent-in (q .s) (q .e) l end x)) (u .frame) (all-tail a)
+        (λ p. omega (arith, o .once p, below-cons l p x xs, sent-within (q .s) (q .e) l p end x)) in (
+          record { combines = λ h. combines x (all-head w) },
+          record { ready = λ h k. below end x Z (all-head w) (all-head a) here m },
+          entries-ready hi xs (sent-by q l end (x .entry) Z) (all-tail w) still later (ap (λ (h : Head). h .pages) (u .head) ∙ m),
+        )
+
+    page-ready : (hi : ℕ) (x : Ent (Kid (suc l))) (Z : Image) → All W (x .kid) → Shows (suc l) (Z .page) x
+        → Apart n (λ p. times p (pages-under (suc l) x)) → Z .head .pages ≡ n → Page-ready q l hi (x .entry .child) Z
+    unfolding Shows
+    page-ready hi x Z w a o m =
+        let c = x .entry .child in
+        let e : entries Z c ≡ bare (x .kid) = entries-are l Z x a in
+        let i : (1 ≤ c) × (c < n) = o .inside c (omega (arith, under-suc l c x, hit-self c)) in
+        record {
+          within = record { least = i .0; below = omega (arith, i .1, m) };
+          is = a .0 ∙ ap (λ (es : List Entry). tree l es) (sym e);
+          each =
+              subst⁻¹ (λ (es : List Entry). Entries-ready q (Below-ready q l) l hi es Z) e
+              (entries-ready hi (x .kid) Z w (kids-shown l Z x a) (fewer o (λ p. omega (arith, under-suc l p x))) m);
+        }
+
+  -- ---- down the levels
+
+  module _ (h : Head) (few : h .changes ≤ most-changes) (f : Effective (h .kind) (q .effect)) where
+    under-ready : (l sums counts hi : ℕ) (x : Ent (Kid l)) (Z : Image) → Weighed h l sums counts x → Shows l (Z .page) x
+        → Apart (h .pages) (λ p. times p (pages-under l x)) → Z .head .pages ≡ h .pages → Below-ready q l hi (x .entry .child) Z
+    unfolding Below-ready
+    under-ready zero sums counts hi x Z w a o m = tt
+    under-ready (suc l) sums counts hi x Z w a o m =
+        let s : ℕ = sums + natAbs (x .entry .pair .sum) in
+        let c : ℕ = counts + natAbs (x .entry .pair .count) in
+        page-ready (h .pages) l (λ y. Weighed h l s c y) (λ y v. effect-combinable h few l s c y (q .effect) v f)
+        (λ end y U v b r k. under-ready l s c end y U v b r k)
+        hi x Z (weighed-below h l sums counts x w) a o m
+
+  -- ---- from the root, over any capacity of a page
+
+  pub root-ready : {half : ℕ} (X : Image) {Y : State} → Effective (X .head .kind) (q .effect) → Going half X Y
+      → Page-ready q (X .head .height - 1) END (X .head .root) X
+  unfolding counted root-ent
+  root-ready X {Y} f g =
+      let l : ℕ = Y .tree .level in
+      let h : Head = counted X .head in
+      let few : h .changes ≤ most-changes = g .ranges .changes-most in
+      let e : X .head .height - 1 ≡ l = omega (arith, g .shown .height) in
+      let b = g .bounds in
+      let all : All (λ y. Weighed h l 0 0 y) (Y .tree .ents) = weighed-all h l 0 0 (Y .tree .ents) (b .sums) (b .counts) (b .values) in
+      subst⁻¹ (λ (n : ℕ). Page-ready q n END (X .head .root) X) e
+      (subst⁻¹ (λ (p : ℕ). Page-ready q l END p X) (g .shown .root)
+      (page-ready (h .pages) l (λ y. Weighed h l 0 0 y) (λ y w. effect-combinable h few l 0 0 y (q .effect) w f)
+      (λ hi y Z w a o m. under-ready h few f l 0 0 hi y Z w a o m)
+      END (root-ent (Y .tree)) X all (g .shown .below) (tree-apart X g) refl))
+
+-- The image that step C finds is ready for it, whatever the task's span, if its effect is one of the image's kind.
+pub spreadable : {X : Image} {Y : State} (q : Task) → Effective (X .head .kind) (q .effect) → Going 12 X Y → Spreadable q X
+unfolding counted
+spreadable {X} {Y} q f g =
+    record { least = omega (arith, g .shown .height); most = height-most (counted X) Y g; root = root-ready q X f g }
