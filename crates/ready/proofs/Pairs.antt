@@ -15,7 +15,7 @@ use Rattle.tree.specs.Tree.{Ent, Kid}
 use Rattle.tree.specs.Held.{All}
 use Rattle.held.proofs.Places.{all-weaken}
 use Rattle.state.proofs.To.Weights.{Weighed, weighed-below, sum-here, count-here, value-here}
-use Rattle.ready.proofs.Going.{Effective}
+use Rattle.state.specs.Good.{Effective}
 
 -- Two pairs that are met together in an index of this kind after so many changes and one more: for kind 1 their absolute values add to
 -- at most what these can add to, for kinds 2 and 3 each is a value or none.

@@ -31,7 +31,9 @@ use Rattle.view.proofs.Spread.{Sent, sent-in, sent-within, below-of, sent-is}
 use Rattle.state.proofs.To.Weights.{Weighed, weighed-all, weighed-below}
 use Rattle.state.proofs.To.Known.{held-is, tree-inside}
 use Rattle.state.proofs.To.Height.{height-most}
-use Rattle.ready.proofs.Going.{Going, Effective, good-once}
+use Rattle.state.specs.Good.{Effective}
+use Rattle.state.proofs.To.Known.{good-once}
+use Rattle.ready.proofs.Going.{Going}
 use Rattle.ready.proofs.Pairs.{effect-combinable}
 
 -- A count of pages by which none is there twice, and each that is there is one of n but the head.
