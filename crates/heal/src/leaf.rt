@@ -1,0 +1,41 @@
+// "Heal at t: only if t starts a leaf entry that isn't first in its page, with the same pair as the one before; it goes."
+use edit::entry::entry_at;
+use edit::remove::remove;
+use page::Page;
+use rule::combine::same_pair;
+use store::pages::load;
+use store::pages::save;
+use store::places::place_of;
+ghost use mathlib.Core.Path.{_≡_};
+ghost use Prim.Native.Nat.{_<_, _≤_};
+ghost use Rattle.page.specs.Decoded.{shown};
+ghost use Rattle.steps.specs.Heal.{heals};
+ghost use Rattle.store.specs.Holding.{Holds, Some, Each};
+ghost use Rattle.heal.specs.Ready.{Leaf-healable, healed-leaf};
+
+// Whether the i-th entry goes.
+fn heals(page: Page, i: usize, t: u32) -> bool
+    requires { ⌜ (i < page .number) × (page .number ≤ 25) ⌝ }
+    ensures { λ r. ⌜ r ≡ heals t (shown page) i ⌝ }
+{
+    if i == 0 {
+        return false;
+    }
+    let e = entry_at(page, i);
+    let before = entry_at(page, i - 1);
+    let pair = e.pair;
+    let other = before.pair;
+    (e.start == t) & same_pair(pair, other)
+}
+
+// The leaf p. Nothing is written where no entry goes.
+pub fn heal_leaf(img: &mut [u8], p: u32, t: u32)
+    requires { ⌜ Some (now img) (Leaf-healable t p) ⌝ }
+    ensures { λ _. ⌜ Each (now (img .entry)) (Leaf-healable t p) (λ X. Holds (now (img .exit)) (healed-leaf t p X)) ⌝ }
+{
+    let i = place_of(img, p, t);
+    let page = load(img, p);
+    if heals(page, i, t) {
+        save(img, p, remove(page, i));
+    }
+}

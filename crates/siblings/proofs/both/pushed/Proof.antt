@@ -1,0 +1,24 @@
+-- `siblings::both::pushed` meets its contract: the page is read, and the pair is combined into what it shows. Assumes nothing.
+use Rattle.rule.specs.Pairs.{combine}
+use Rattle.siblings.proofs.Families.{loaded-pushable, loaded-pushed}
+use Rattle.siblings.proofs.both.pushed.Statement.{statement}
+use Rattle.siblings.proofs.both.pushed.Tie as tie
+
+load-requires : tie.Need-load-requires
+load-requires c κs =
+    let pre = c .before .before .pre in
+    record { image = pre .image; holds = pre .holds; ready = pre .ready .ready .treed .within }
+
+push-requires : tie.Need-push-requires
+push-requires c κs =
+    let pre = c .before .before .before .pre in
+    let s = pre .ready .ready in
+    loaded-pushable (c .before .before .before .args .e) (pre .image) (c .load .ensures (pre .image) (pre .holds) (s .treed .within) _ _ (s .treed .page)) s
+
+returns : tie.Need-returns
+returns c X h any l s =
+    let args = c .before .before .before .before .args in
+    loaded-pushed (args .e) X (c .before .load .ensures X h (s .treed .within) _ _ (s .treed .page)) (combine (args .kind)) (c .push .ensures)
+
+pub pushed-spec : {M : Type 1} → statement M
+pushed-spec = tie.close (tie.spec load-requires push-requires returns)

@@ -1,0 +1,112 @@
+-- `siblings::merge::merge` meets its contract: both pages join in the left one, and the right one is given back. Assumes nothing.
+use mathlib.Core.Path.{_≡_, sym, subst}
+use Prim.Native.Nat.{ℕ}
+use borrow.Author.Needs.{needs}
+use native.Mathlib.Omega.{arith}
+use Rattle.image.specs.Images.{Image}
+use Rattle.store.specs.Holding.{Holds, Within}
+use Rattle.store.specs.Supplying.{Givable}
+use Rattle.store.proofs.Supplying.{within-put, within-given}
+use Rattle.steps.specs.Supply.{put}
+use Rattle.siblings.specs.declared.Family.{Family}
+use Rattle.siblings.specs.Ready.{Mergeable}
+use Rattle.siblings.specs.Opened.{Opened, united}
+use Rattle.siblings.proofs.Families.{left-number, right-number, opened-two, shows-both, shows-above, above-few}
+use Rattle.siblings.proofs.Outcomes.{Joint, writable, joint-all, joint-parent, merge-is, givable-put}
+use Rattle.siblings.proofs.merge.merge.Statement.{statement}
+use Rattle.siblings.proofs.merge.merge.Tie as tie
+
+both-requires : tie.Need-both-requires
+both-requires c κs =
+    let pre = c .before .before .pre in
+    record { image = pre .image; holds = pre .holds; ready = pre .ready .siblings }
+
+append-requires : tie.Need-append-requires
+append-requires c κs =
+    let pre = c .before .before .before .before .before .pre in
+    let opened = c .before .before .both .ensures (pre .image) (pre .holds) (pre .ready .siblings) in
+    omega (arith, left-number opened, right-number opened, pre .ready .few)
+
+united-requires : tie.Need-united-requires
+united-requires c κs =
+    let pre = c .before .before .before .before .before .before .pre in
+    opened-two (c .before .before .before .both .ensures (pre .image) (pre .holds) (pre .ready .siblings)) (pre .ready .siblings)
+
+abbrev start : tie.After-united → tie.Start
+start c = c .before .before .before .before .before .before .before
+
+-- what is written, of every image that the bytes hold
+module _ (c : tie.After-united) (X : Image) (h : Holds (start c .args .img .now) X)
+    (s : Mergeable (start c .args .level) (start c .args .p) (start c .args .l) X) where
+  abbrev family : Family
+  family = c .before .before .before .before .both .result
+
+  opened : Opened (start c .args .kind) (start c .args .level) (start c .args .p) (start c .args .l) X family
+  opened = c .before .before .before .before .both .ensures X h (s .siblings)
+
+  joint : Joint (start c .args .kind) (start c .args .level) (start c .args .p) (start c .args .l) X (c .before .append .result) (c .united .result)
+  joint =
+      record {
+        all = shows-both opened (λ es. es) (c .before .append .ensures);
+        parent = shows-above opened (united (start c .args .l)) (c .united .ensures);
+      }
+
+  left-within : Within (family .a .child) X
+  left-within = subst (λ e. Within (e .child) X) (sym (opened .a)) (s .siblings .left .treed .within)
+
+  right-givable : Givable (family .b .child) X
+  right-givable =
+      record { within = subst (λ e. Within (e .child) X) (sym (opened .b)) (s .siblings .right .treed .within); room = s .room }
+
+save-requires : tie.Need-save-requires
+save-requires c κs =
+    let pre = start (c .before) .pre in
+    let w = left-within (c .before) (pre .image) (pre .holds) (pre .ready) in
+    (record { image = pre .image; holds = pre .holds; ready = w }, writable (joint-all (joint (c .before) (pre .image) (pre .holds) (pre .ready)) (pre .ready)))
+
+give-back-requires : tie.Need-give-back-requires
+give-back-requires c κs =
+    let at = c .before .before .before .before .before in
+    let pre = start at .pre in
+    let w = left-within at (pre .image) (pre .holds) (pre .ready) in
+    record {
+      image = _;
+      holds = c .before .before .before .save .ensures (pre .image) (pre .holds) w;
+      ready = givable-put (right-givable at (pre .image) (pre .holds) (pre .ready)) _ _;
+    }
+
+save-requires-2 : tie.Need-save-requires-2
+save-requires-2 c κs =
+    let at = c .before .before .before .before .before .before .before .before .before in
+    let pre = start at .pre in
+    let w = left-within at (pre .image) (pre .holds) (pre .ready) in
+    let v = right-givable at (pre .image) (pre .holds) (pre .ready) in (
+      record {
+        image = _;
+        holds = c .before .before .before .give-back .ensures _ (c .before .before .before .before .before .before .before .save .ensures (pre .image) (pre .holds) w) (givable-put v _ _);
+        ready = within-given (within-put (pre .ready .siblings .parent .within) _ _) _;
+      },
+      writable (joint-parent (joint at (pre .image) (pre .holds) (pre .ready)) (pre .ready) (above-few (opened at (pre .image) (pre .holds) (pre .ready)))),
+    )
+
+returns : tie.Need-returns
+returns c X h s =
+    let at = c .before .before .before .before .before .before .before .before .before .before .before .before in
+    let o = opened at X h s in
+    let w = left-within at X h s in
+    let v = right-givable at X h s in
+    subst (Holds _) (merge-is (joint at X h s) (o .a) (o .b))
+    (c .before .before .save2 .ensures _ (c .before .before .before .before .before .before .give-back .ensures _ (c .before .before .before .before .before .before .before .before .before .before .save .ensures X h w) (givable-put v _ _)) (within-given (within-put (s .siblings .parent .within) _ _) _))
+
+pub merge-spec : {M : Type 1} → statement M
+merge-spec =
+    tie.close
+    (tie.spec
+    both-requires
+    append-requires
+    united-requires
+    save-requires
+    give-back-requires
+    save-requires-2
+    (λ c. search needs)
+    returns)

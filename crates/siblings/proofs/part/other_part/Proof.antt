@@ -1,0 +1,32 @@
+-- `siblings::part::other_part` meets its contract: what is left of p and of q. Assumes nothing.
+use mathlib.Core.Path.{_≡_, sym, ap, _∙_}
+use Prim.Native.Nat.{ℕ, _-_, min}
+use borrow.Author.Needs.{needs}
+use native.Mathlib.Omega.{arith}
+use lib.ListN.{length, length-drop}
+use Rattle.page.specs.Decoded.{shown}
+use Rattle.page.proofs.Laws.Decoded.{length-shown}
+use Rattle.edit.proofs.Edits.{shows-number}
+use Rattle.siblings.proofs.Parts.{drop-part}
+use Rattle.siblings.proofs.Families.{shows-joined}
+use Rattle.siblings.proofs.part.other_part.Statement.{statement}
+use Rattle.siblings.proofs.part.other_part.Tie as tie
+
+append-requires : tie.Need-append-requires
+append-requires c κs =
+    let args = c .before .before .before .args in
+    let m : ℕ = c .before .before .lesser .result in
+    omega (arith, length-shown (args .p), length-shown (args .q), shows-number (c .before .rest-of .ensures), length-drop m (shown (args .p)), shows-number (c .rest-of2 .ensures), length-drop (args .k - m) (shown (args .q)))
+
+returns : tie.Need-returns
+returns c =
+    let args = c .before .before .before .before .args in
+    let m : ℕ = c .before .before .before .lesser .result in
+    let e : m ≡ min (args .k) (length (shown (args .p))) = c .before .before .before .lesser .ensures ∙ ap (min (args .k)) (sym (length-shown (args .p))) in
+    shows-joined (c .before .before .rest-of .ensures) (c .before .rest-of2 .ensures) (c .append .ensures)
+    (sym (drop-part (args .k) (shown (args .p)) (shown (args .q)) m e))
+
+pub other-part-spec : {M : Type 1} → statement M
+other-part-spec =
+    tie.close
+    (tie.spec (λ c κs. search needs) (λ c κs. search needs) (λ c. search needs) (λ c κs. search needs) append-requires returns)
