@@ -1,7 +1,7 @@
 -- A page on the way to an instant: what was read of it, and what it becomes. Assumes nothing.
 use Prim.Native.Nat.{ℕ, zero, suc, _+_, _-_, _≤_, _<_}
 use mathlib.Core.Path.{_≡_, refl, sym, ap, _∙_, subst}
-use mathlib.Core.Bool.{Bool, true, false, cond}
+use mathlib.Core.Bool.{cond}
 use mathlib.Core.List.{List, [], _∷_}
 use native.Mathlib.Omega.{arith}
 use lib.ListN.{length}
@@ -9,7 +9,7 @@ use lib.Dec.{leb, eqb}
 use borrow.Author.Tests.{eq-eqb, ne-eqb}
 use Rattle.page.specs.declared.Entry.{Entry}
 use Rattle.page.specs.declared.Page.{Page}
-use Rattle.page.specs.Entries.{entry, at, last-from, place, splice}
+use Rattle.page.specs.Entries.{at, last-from, place, splice}
 use Rattle.page.specs.Layout.{capacity}
 use Rattle.page.specs.Decoded.{shown}
 use Rattle.page.proofs.Laws.Decoded.{length-shown}
@@ -19,25 +19,20 @@ use Rattle.steps.specs.Cut.{Cutting, cut-leaf-entry, kept, split, settled, cut-
 use Rattle.edit.specs.Shows.{Shows}
 use Rattle.store.specs.Holding.{Holds, Each, Within, Loaded}
 use Rattle.store.specs.Places.{Sought}
-use Rattle.store.specs.Supplying.{Takable}
 use Rattle.store.proofs.Supplying.{within-put, within-taken}
 use Rattle.cut.specs.declared.Grown.{Grown}
 use Rattle.cut.specs.declared.Grown.the-variants.{Same, Split}
-use Rattle.cut.specs.Answers.{became, doubled, Makes}
+use Rattle.cut.specs.Answers.{became, doubled, Cut-as, Makes}
 use Rattle.cut.specs.Ready.{Settlable, entry-for, below, Page-ready, Page-cuttable}
-use Rattle.cut.proofs.Settling.{makes-as}
+use Rattle.cut.proofs.Settling.{either, makes-as}
 
 -- ---- what a cutting leaves as it is: all that putting a page and taking one do
 
 module _ (P : Image → Type 0) (puts : (p : ℕ) (c : Cell) (X : Image) → P X → P (put p c X)) (takes : (X : Image) → P X → P (taken X)) where
-  either : (b : Bool) (x y : Cutting) → P (x .image) → P (y .image) → P (cond b x y .image)
-  either true x y p q = p
-  either false x y p q = q
-
   settled-keeps : (half level : ℕ) (e : Entry) (es : List Entry) (X : Image) → P X → P (settled half level e es X .image)
   unfolding settled kept split
   settled-keeps half level e es X h =
-      either (leb (length es) (capacity half)) (kept level e es X) (split half level e es X) (puts _ _ _ h)
+      either (λ (c : Cutting). P (c .image)) (leb (length es) (capacity half)) (kept level e es X) (split half level e es X) (puts _ _ _ h)
       (puts _ _ _ (puts _ _ _ (takes _ h)))
 
   pub cut-keeps : (half t l : ℕ) (e : Entry) (X : Image) → P X → P (cut-entry half t l e X .image)
@@ -48,7 +43,7 @@ module _ (P : Image → Type 0) (puts : (p : ℕ) (c : Cell) (X : Image) → P X
       let i : ℕ = place t es in
       let r : Cutting = cut-entry half t l (at es i) X in
       let k : P (r .image) = cut-keeps half t l (at es i) X h in
-      either (eqb (length (r .became)) 1) _ _ k (settled-keeps half l e (splice i (r .became) es) (r .image) k)
+      either (λ (c : Cutting). P (c .image)) (eqb (length (r .became)) 1) _ _ k (settled-keeps half l e (splice i (r .became) es) (r .image) k)
 
 pub cut-within : {q : ℕ} (half t l : ℕ) (e : Entry) (X : Image) → Within q X → Within q (cut-entry half t l e X .image)
 cut-within {q} half t l e X w = cut-keeps (Within q) (λ p c Y v. within-put v p c) (λ Y v. within-taken v) half t l e X w
@@ -78,37 +73,13 @@ module _ (l p t : ℕ) (X : Image) (e : Entry) (c : e .child ≡ p) where
   cut-two : length (below l p t X .became) ≡ 2 → cut-entry 12 t (suc l) e X ≡ settled 12 l e (gained l p t X) (below l p t X .image)
   cut-two n = by-child ∙ rw (ne-eqb (length (below l p t X .became)) 1 (λ one. omega arith))
 
--- the entry a, which has t in page p, became g; the bytes then are `after`
-pub record Cut-below (l p t : ℕ) (X : Image) (a : Entry) (g : Grown) (after : List ℕ) : Type 0 where
-  pub becomes : became a g ≡ below l p t X .became
-  pub holds : Holds after (below l p t X .image)
-
-pub told : {l p t : ℕ} {X : Image} {a : Entry} {g g′ : Grown} {after : List ℕ} → g ≡ g′ → Cut-below l p t X a g after
-    → Cut-below l p t X a g′ after
-told {a = a} same b = record { becomes = ap (became a) (sym same) ∙ b .becomes; holds = b .holds }
-
-module _ {l p t : ℕ} {X : Image} {a : Entry} {after : List ℕ} where
-  pub same-makes : Cut-below l p t X a Same after → Makes p (λ e. cut-entry 12 t (suc l) e X) Same after
-  unfolding became
-  same-makes b =
-      makes-as (λ e c. sym (cut-one l p t X e c (ap length (sym (b .becomes))))) (record { becomes = λ e c. refl; holds = λ e c. b .holds })
-
-  two-makes : {start q : ℕ} {r : Grown} {then : List ℕ} → Cut-below l p t X a (Split start q) after
-      → Makes p (λ e. settled 12 l e (gained l p t X) (below l p t X .image)) r then → Makes p (λ e. cut-entry 12 t (suc l) e X) r then
-  unfolding became
-  two-makes b m = makes-as (λ e c. sym (cut-two l p t X e c (ap length (sym (b .becomes))))) m
-
 -- ---- the place of an instant
-
-picked : (b : Bool) (i k n : ℕ) → i < n → k < n → cond b i k < n
-picked true i k n l m = l
-picked false i k n l m = m
 
 last-below : (t i k n : ℕ) (es : List Entry) → k < n → i + length es ≤ n → last-from t i k es < n
 unfolding last-from
 last-below t i k n [] h m = h
 last-below t i k n (e ∷ es) h m =
-    last-below t (suc i) (cond (leb (e .start) t) i k) n es (picked (leb (e .start) t) i k n (omega arith) h) (omega arith)
+    last-below t (suc i) (cond (leb (e .start) t) i k) n es (either (λ m. m < n) (leb (e .start) t) i k (omega arith) h) (omega arith)
 
 place-below : (t : ℕ) (es : List Entry) → 1 ≤ length es → place t es < length es
 unfolding place
@@ -164,48 +135,53 @@ module _ {l p t : ℕ} {X : Image} {page : Page} {i : ℕ} (f : Found l p t X pa
           subst (λ m. Page-cuttable m (entry-for t p X .child) t X) n (h .1)
 
   pub found-below : {g : Grown} {after : List ℕ} → (l ≡ 0 → ⊥) → Makes (a .child) (λ x. cut-entry 12 t (suc (l - 1)) x X) g after
-      → Cut-below l p t X a g after
-  found-below {after = after} d m =
+      → Cut-as a (below l p t X) g after
+  found-below {g} {after} d m =
       let level : suc (l - 1) ≡ l = omega arith in
-      let same : cut-entry 12 t (suc (l - 1)) a X ≡ below l p t X = λ j. cut-entry 12 t (level j) (found-entry j) X in
-      record {
-        becomes = m .becomes a refl ∙ ap (λ k. k .became) same;
-        holds = subst (λ k. Holds after (k .image)) same (m .holds a refl);
-      }
+      subst (λ c. Cut-as a c g after) (λ j. cut-entry 12 t (level j) (found-entry j) X) (m .each a refl)
 
-  module _ {start q : ℕ} {after : List ℕ} (b : Cut-below l p t X a (Split start q) after) where
-    -- the page can be written
-    pub found-settlable : Page-ready l p t X → Settlable p (suc (page .number)) (below l p t X .image)
+  -- the entry stayed one, and so does the page
+  pub found-same : {after : List ℕ} → Cut-as a (below l p t X) Same after → Makes p (λ x. cut-entry 12 t (suc l) x X) Same after
+  unfolding became
+  found-same b =
+      makes-as (λ x c. sym (cut-one l p t X x c (ap length (sym (b .becomes)))))
+      (record { each = λ x c. record { becomes = refl; holds = b .holds } })
+
+  module _ {start q : ℕ} {after : List ℕ} (b : Cut-as a (below l p t X) (Split start q) after) where
+    two : length (below l p t X .became) ≡ 2
     unfolding became
+    two = ap length (sym (b .becomes))
+
+    -- it became two: the page can be written
+    pub found-settlable : Page-ready l p t X → Settlable p (suc (page .number)) (below l p t X .image)
     found-settlable ready =
-        let two : length (below l p t X .became) ≡ 2 = ap length (sym (b .becomes)) in
         record {
           within = cut-within 12 t l (entry-for t p X) X (ready .sought .within);
-          room = λ n. ready .room (omega arith) (omega (arith, f .number));
+          room = λ n. ready .room (omega (arith, two)) (omega (arith, f .number));
         }
+
+    found-gained : doubled i start q (shown page) ≡ gained l p t X
+    unfolding doubled
+    found-gained =
+        let both : became (at (shown page) i) (Split start q) ≡ below l p t X .became = ap (λ x. became x (Split start q)) (sym e) ∙ b .becomes in
+        λ j. splice (f .placed j) (both j) (f .shows .entries j)
 
     -- and becomes what the cutting says
     pub found-makes : {r : Grown} {then : List ℕ}
         → Makes p (λ x. settled 12 (page .level) x (doubled i start q (shown page)) (below l p t X .image)) r then
         → Makes p (λ x. cut-entry 12 t (suc l) x X) r then
-    unfolding doubled
-    found-makes m = two-makes b (makes-as (λ x c. (λ j. settled 12 (f .shows .level j) x (found-gained j) (below l p t X .image))) m)
-      where
-        found-gained : doubled i start q (shown page) ≡ gained l p t X
-        found-gained =
-            let two : became (at (shown page) i) (Split start q) ≡ below l p t X .became =
-            ap (λ x. became x (Split start q)) (sym e) ∙ b .becomes
-            in
-            λ j. splice (f .placed j) (two j) (f .shows .entries j)
+    found-makes m =
+        makes-as
+        (λ x c. (λ j. settled 12 (f .shows .level j) x (found-gained j) (below l p t X .image)) ∙ sym (cut-two l p t X x c two)) m
 
 -- ---- a leaf's entry
 
 module _ {p t : ℕ} {X : Image} {page : Page} {i : ℕ} (f : Found 0 p t X page i) {a : Entry} (e : a ≡ at (shown page) i) {img : List ℕ}
     (h : Holds img X) where
-  pub leaf-same : a .start ≡ t → Cut-below 0 p t X a Same img
+  pub leaf-same : a .start ≡ t → Cut-as a (below 0 p t X) Same img
   unfolding became cut-entry cut-leaf-entry
   leaf-same s = record { becomes = sym (rw (eq-eqb (a .start) t s)) ∙ ap (cut-leaf-entry t) (found-entry f e); holds = h }
 
-  pub leaf-two : (a .start ≡ t → ⊥) → Cut-below 0 p t X a (Split t (a .child)) img
+  pub leaf-two : (a .start ≡ t → ⊥) → Cut-as a (below 0 p t X) (Split t (a .child)) img
   unfolding became cut-entry cut-leaf-entry
   leaf-two s = record { becomes = sym (rw (ne-eqb (a .start) t s)) ∙ ap (cut-leaf-entry t) (found-entry f e); holds = h }

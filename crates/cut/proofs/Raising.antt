@@ -1,7 +1,7 @@
 -- The root: it is cut as an entry, and where it becomes two it gets a new root. Assumes nothing.
 use Prim.Native.Nat.{ℕ, suc, _+_, _-_, _≤_, _<_}
 use mathlib.Core.Path.{_≡_, refl, sym, ap, _∙_, subst}
-use mathlib.Core.Bool.{Bool, true, false, cond}
+use mathlib.Core.Bool.{cond}
 use mathlib.Core.List.{List, [], _∷_}
 use native.Mathlib.Numerals.{add-one}
 use native.Mathlib.Omega.{arith}
@@ -20,12 +20,11 @@ use Rattle.steps.specs.Supply.{put, with-supply, spare, taken, with-root}
 use Rattle.steps.specs.Cut.{Cutting, cut-entry, root-entry, raised, grown, cut}
 use Rattle.edit.specs.Shows.{Shows}
 use Rattle.store.specs.Holding.{Holds}
-use Rattle.store.specs.Supplying.{Takable}
 use Rattle.cut.specs.declared.Grown.{Grown}
 use Rattle.cut.specs.declared.Grown.the-variants.{Same, Split}
-use Rattle.cut.specs.Answers.{became, Makes}
+use Rattle.cut.specs.Answers.{became, Cut-as, Makes}
 use Rattle.cut.specs.Ready.{Raisable, from-root, Root-cuttable}
-use Rattle.cut.proofs.Settling.{shows-tree}
+use Rattle.cut.proofs.Settling.{either, shows-tree}
 use Rattle.cut.proofs.Cutting.{cut-keeps}
 
 pub cut-end : (t : ℕ) (X : Image) → END ≤ t → cut 12 t X ≡ X
@@ -45,13 +44,9 @@ unfolding grown
 grown-two r n = rw (ne-eqb (length (r .became)) 1 n)
 
 -- no cutting alters the height
-either-height : (h : ℕ) (b : Bool) (x y : Head) → x .height ≡ h → y .height ≡ h → cond b x y .height ≡ h
-either-height h true x y e f = e
-either-height h false x y e f = f
-
 height-taken : (h : ℕ) (X : Image) → X .head .height ≡ h → taken X .head .height ≡ h
 unfolding taken with-supply
-height-taken h X e = either-height h (eqb (X .head .chain) 0) _ _ e e
+height-taken h X e = either (λ (k : Head). k .height ≡ h) (eqb (X .head .chain) 0) _ _ e e
 
 height-kept : (half t l : ℕ) (e : Entry) (X : Image) → cut-entry half t l e X .image .head .height ≡ X .head .height
 unfolding put
@@ -66,39 +61,30 @@ unfolding raised
 raised-holds X es {after = after} n s h =
     subst (Holds after) (λ j. put (n j) (shows-tree s j) (with-root (add-one (X .head .height) j) (n j) (taken X))) h
 
--- the root as an entry became g; the bytes then are `after`
-pub record Root-cut (t : ℕ) (X : Image) (g : Grown) (after : List ℕ) : Type 0 where
-  pub becomes : became (root-entry X) g ≡ from-root t X .became
-  pub holds : Holds after (from-root t X .image)
+-- ---- the root as an entry
 
-pub root-told : {t : ℕ} {X : Image} {g g′ : Grown} {after : List ℕ} → g ≡ g′ → Root-cut t X g after → Root-cut t X g′ after
-root-told {X = X} same r = record { becomes = ap (became (root-entry X)) (sym same) ∙ r .becomes; holds = r .holds }
+module _ (t : ℕ) (X : Image) where
+  pub root-cut : {g : Grown} {after : List ℕ} → 1 ≤ X .head .height
+      → Makes (X .head .root) (λ e. cut-entry 12 t (suc (X .head .height - 1)) e X) g after → Cut-as (root-entry X) (from-root t X) g after
+  unfolding root-entry
+  root-cut {g} {after} some m =
+      let level : suc (X .head .height - 1) ≡ X .head .height = omega arith in
+      subst (λ c. Cut-as (root-entry X) c g after) (ap (λ l. cut-entry 12 t l (root-entry X) X) level) (m .each (root-entry X) refl)
 
-pub root-cut : (t : ℕ) (X : Image) {g : Grown} {after : List ℕ} → 1 ≤ X .head .height
-    → Makes (X .head .root) (λ e. cut-entry 12 t (suc (X .head .height - 1)) e X) g after → Root-cut t X g after
-unfolding root-entry
-root-cut t X {after = after} some m =
-    let level : suc (X .head .height - 1) ≡ X .head .height = omega arith in
-    let same : cut-entry 12 t (suc (X .head .height - 1)) (root-entry X) X ≡ from-root t X =
-    ap (λ l. cut-entry 12 t l (root-entry X) X) level
-    in
-    record {
-      becomes = m .becomes (root-entry X) refl ∙ ap (λ k. k .became) same;
-      holds = subst (λ k. Holds after (k .image)) same (m .holds (root-entry X) refl);
-    }
-
-module _ {t : ℕ} {X : Image} {after : List ℕ} where
-  pub root-same : t < END → Root-cut t X Same after → Holds after (cut 12 t X)
+  pub root-same : {after : List ℕ} → t < END → Cut-as (root-entry X) (from-root t X) Same after → Holds after (cut 12 t X)
   unfolding became
-  root-same l r = subst (Holds after) (sym (cut-inside t X l ∙ grown-one (from-root t X) (ap length (sym (r .becomes))))) (r .holds)
+  root-same {after} l r =
+      subst (Holds after) (sym (cut-inside t X l ∙ grown-one (from-root t X) (ap length (sym (r .becomes))))) (r .holds)
 
-  module _ {start q : ℕ} (r : Root-cut t X (Split start q) after) where
-    pub root-raisable : Root-cuttable t X → Raisable (from-root t X .image)
+  module _ {start q : ℕ} {after : List ℕ} (r : Cut-as (root-entry X) (from-root t X) (Split start q) after) where
+    two : length (from-root t X .became) ≡ 2
     unfolding became
+    two = ap length (sym (r .becomes))
+
+    pub root-raisable : Root-cuttable t X → Raisable (from-root t X .image)
     root-raisable ready =
-        let two : length (from-root t X .became) ≡ 2 = ap length (sym (r .becomes)) in
         record {
-          takable = ready .room (omega arith);
+          takable = ready .room (omega (arith, two));
           low = omega (arith, ready .low, height-kept 12 t (X .head .height) (root-entry X) X);
         }
 
@@ -106,7 +92,7 @@ module _ {t : ℕ} {X : Image} {after : List ℕ} where
         → Holds then (raised (entry 0 none (X .head .root) ∷ entry start none q ∷ []) (from-root t X .image)) → Holds then (cut 12 t X)
     unfolding became root-entry
     root-two {then} l h =
-        let n : length (from-root t X .became) ≡ 2 = ap length (sym (r .becomes)) in
         subst (Holds then)
-        (ap (λ es. raised es (from-root t X .image)) (r .becomes) ∙ sym (cut-inside t X l ∙ grown-two (from-root t X) (λ one. omega arith)))
+        (ap (λ es. raised es (from-root t X .image)) (r .becomes)
+        ∙ sym (cut-inside t X l ∙ grown-two (from-root t X) (λ one. omega (arith, two))))
         h

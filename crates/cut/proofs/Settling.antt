@@ -1,8 +1,8 @@
 -- A page that gained an entry, written as one page or as two. Assumes nothing.
 use Prim.Native.Nat.{ℕ, suc, _+_, _≤_, _<_}
 use mathlib.Core.Path.{_≡_, refl, sym, ap, _∙_, subst}
-use mathlib.Core.Bool.{true, false, cond}
-use mathlib.Core.List.{List, [], _∷_, _++_}
+use mathlib.Core.Bool.{Bool, true, false, cond}
+use mathlib.Core.List.{List, [], _∷_}
 use native.Mathlib.Numerals.{add-one}
 use native.Mathlib.Omega.{arith}
 use lib.ListN.{length, take, drop, length-append, length-drop}
@@ -24,16 +24,21 @@ use Rattle.store.specs.Supplying.{Takable}
 use Rattle.store.proofs.Supplying.{within-taken}
 use Rattle.cut.specs.declared.Grown.{Grown}
 use Rattle.cut.specs.declared.Grown.the-variants.{Same, Split}
-use Rattle.cut.specs.Answers.{became, doubled, Makes}
+use Rattle.cut.specs.Answers.{became, doubled, Cut-as, Makes}
+
+-- what holds of both holds of either
+pub either : {A : Type 0} (P : A → Type 0) (b : Bool) (x y : A) → P x → P y → P (cond b x y)
+either P true x y p q = p
+either P false x y p q = q
 
 -- the same cutting of every entry that leads to the page
 pub makes-as : {p : ℕ} {f g : Entry → Cutting} {r : Grown} {after : List ℕ} → ((e : Entry) → e .child ≡ p → f e ≡ g e)
     → Makes p f r after → Makes p g r after
-makes-as {after = after} same m =
-    record {
-      becomes = λ e c. m .becomes e c ∙ ap (λ k. k .became) (same e c);
-      holds = λ e c. subst (λ k. Holds after (k .image)) (same e c) (m .holds e c);
-    }
+makes-as {r = r} {after} same m = record { each = λ e c. subst (λ k. Cut-as e k r after) (same e c) (m .each e c) }
+
+-- the answer that a match has told
+pub told : {e : Entry} {c : Cutting} {g g′ : Grown} {after : List ℕ} → g ≡ g′ → Cut-as e c g after → Cut-as e c g′ after
+told {e} {c} {after = after} same m = subst (λ r. Cut-as e c r after) same m
 
 pub shows-tree : {l : ℕ} {es : List Entry} {r : Page} → Shows l es r → tree (r .level) (shown r) ≡ tree l es
 shows-tree s = λ j. tree (s .level j) (s .entries j)
@@ -73,7 +78,8 @@ module _ (p level : ℕ) (es : List Entry) (X : Image) {after : List ℕ} where
   saved-makes few h = makes-as (λ e c. sym (settled-kept 12 level e es X few)) kept-makes
     where
       kept-makes : Makes p (λ e. kept level e es X) Same after
-      kept-makes = record { becomes = λ e c. refl; holds = λ e c. subst (λ q. Holds after (put q (tree level es) X)) (sym c) h }
+      kept-makes =
+          record { each = λ e c. record { becomes = refl; holds = subst (λ q. Holds after (put q (tree level es) X)) (sym c) h } }
 
   -- "the page keeps 12, a taken page gets 13, the parent gains an entry with the same pair"
   pub split-makes : {q start : ℕ} {left right : Page} → Shows level (take 12 es) left → Shows level (drop 12 es) right
@@ -84,8 +90,12 @@ module _ (p level : ℕ) (es : List Entry) (X : Image) {after : List ℕ} where
   split-makes {q} {start} l r n s h =
       let first : start ≡ at (drop 12 es) 0 .start = s ∙ ap (λ xs. at xs 0 .start) (r .entries) in
       record {
-        becomes = λ e c. (λ j. e ∷ entry (first j) (e .pair) (n j) ∷ []);
-        holds = λ e c. subst (Holds after) (λ j. put (n j) (shows-tree r j) (put (sym c j) (shows-tree l j) (taken X))) h;
+        each =
+            λ e c.
+            record {
+              becomes = λ j. e ∷ entry (first j) (e .pair) (n j) ∷ [];
+              holds = subst (Holds after) (λ j. put (n j) (shows-tree r j) (put (sym c j) (shows-tree l j) (taken X))) h;
+            };
       }
 
   pub halved-makes : {r : Grown} → 24 < length es → Makes p (λ e. split 12 level e es X) r after

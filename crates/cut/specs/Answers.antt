@@ -18,7 +18,11 @@ became e (Split start q) = e ∷ entry start (e .pair) q ∷ []
 unfoldable pub doubled : ℕ → ℕ → ℕ → List Entry → List Entry
 doubled i start child es = splice i (became (at es i) (Split start child)) es
 
--- Page p became r and the bytes then are `after`, as `cutting` says of every entry that leads to the page.
+-- The page under e became r and the bytes then are `after`, as the cutting of e says.
+pub record Cut-as (e : Entry) (c : Cutting) (r : Grown) (after : List ℕ) : Type 0 where
+  pub becomes : became e r ≡ c .became
+  pub holds : Holds after (c .image)
+
+-- So it is for every entry that leads to page p.
 pub record Makes (p : ℕ) (cutting : Entry → Cutting) (r : Grown) (after : List ℕ) : Type 0 where
-  pub becomes : (e : Entry) → e .child ≡ p → became e r ≡ cutting e .became
-  pub holds : (e : Entry) → e .child ≡ p → Holds after (cutting e .image)
+  pub each : (e : Entry) → e .child ≡ p → Cut-as e (cutting e) r after

@@ -8,7 +8,8 @@ use Rattle.steps.specs.Cut.{cut}
 use Rattle.store.specs.Holding.{Holds}
 use Rattle.store.proofs.Supplying.{by-head, Headed, some-headed}
 use Rattle.cut.specs.Ready.{Cuttable}
-use Rattle.cut.proofs.Raising.{cut-end, root-cut, root-told, root-same, root-raisable, root-two}
+use Rattle.cut.proofs.Settling.{told}
+use Rattle.cut.proofs.Raising.{cut-end, root-cut, root-same, root-raisable, root-two}
 use Rattle.cut.proofs.cut.cut.Statement.{statement}
 use Rattle.cut.proofs.cut.cut.Tie as tie
 
@@ -44,8 +45,8 @@ returns-2 c X h r =
     (read .head-of .ensures X h tt)
     (λ k ready.
     let root = ready .root (inside else) in
-    let r = root-told (c .enum-told .given .1) (root-cut (args .t) _ (root .some) (call .cut-page .ensures _ k (root .page))) in
-    root-same (inside else) r)
+    let r = told (c .enum-told .given .1) (root-cut (args .t) _ (root .some) (call .cut-page .ensures _ k (root .page))) in
+    root-same (args .t) _ (inside else) r)
     h r
 
 raise-requires : tie.Need-raise-requires
@@ -57,8 +58,8 @@ raise-requires c κs =
     let k = headed read in
     let root = k .ready .root (inside else) in
     let t = else .before .before .args .t in
-    let r = root-told (known .start .given .1) (root-cut t _ (root .some) (call .cut-page .ensures _ (k .holds) (root .page))) in
-    record { image = _; holds = r .holds; ready = root-raisable r root }
+    let r = told (known .start .given .1) (root-cut t _ (root .some) (call .cut-page .ensures _ (k .holds) (root .page))) in
+    record { image = _; holds = r .holds; ready = root-raisable _ _ r root }
 
 returns-3 : tie.Need-returns-3
 returns-3 c X h r =
@@ -72,8 +73,8 @@ returns-3 c X h r =
     (read .head-of .ensures X h tt)
     (λ k ready.
     let root = ready .root (inside else) in
-    let r = root-told (known .start .given .1) (root-cut (args .t) _ (root .some) (call .cut-page .ensures _ k (root .page))) in
-    root-two r (inside else) (raising .raise .ensures _ (r .holds) (root-raisable r root)))
+    let r = told (known .start .given .1) (root-cut (args .t) _ (root .some) (call .cut-page .ensures _ k (root .page))) in
+    root-two _ _ r (inside else) (raising .raise .ensures _ (r .holds) (root-raisable _ _ r root)))
     h r
 
 pub cut-spec : {M : Type 1} → statement M

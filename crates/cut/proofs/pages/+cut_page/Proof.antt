@@ -9,7 +9,8 @@ use Rattle.steps.specs.Cut.{cut-entry}
 use Rattle.store.specs.Holding.{Some}
 use Rattle.cut.specs.Answers.{Makes}
 use Rattle.cut.specs.Ready.{Page-cuttable}
-use Rattle.cut.proofs.Cutting.{told, same-makes, found, cuttable-ready, found-cuttable, found-below, found-settlable, found-makes}
+use Rattle.cut.proofs.Settling.{told}
+use Rattle.cut.proofs.Cutting.{found, cuttable-ready, found-cuttable, found-below, found-same, found-settlable, found-makes}
 use Rattle.cut.proofs.pages.cut_page.Reads as cut-page
 use Rattle.cut.proofs.pages.cut_page.Kinds as cut-page-kinds
 use Rattle.cut.proofs.pages.+cut_page.Lts-cut_page as cut-page-lts
@@ -108,7 +109,7 @@ pub +cut-page-spec : {M : Type 1} → statement M
     let f = found (cuttable-ready r) h (load .load .ensures) (place .place-of .ensures) in
     let e = entry .entry-at .ensures in
     let cut = call .cut-page .ensures X h (found-cuttable f e left r) in
-    same-makes (told (c .enum-told .given .1) (found-below f e left cut)))
+    found-same f e (told (c .enum-told .given .1) (found-below f e left cut)))
     -- double-requires
     (λ c κs.
     let known = c .before .before in

@@ -4,7 +4,7 @@ use borrow.Author.Needs.{needs}
 use Rattle.image.specs.Images.{Image}
 use Rattle.store.specs.Holding.{Holds}
 use Rattle.cut.specs.Ready.{Page-cuttable}
-use Rattle.cut.proofs.Cutting.{same-makes, Found, found, cuttable-ready, found-settlable, found-makes, leaf-same, leaf-two}
+use Rattle.cut.proofs.Cutting.{Found, found, cuttable-ready, found-same, found-settlable, found-makes, leaf-same, leaf-two}
 use Rattle.cut.proofs.pages.cut_leaf.Statement.{statement}
 use Rattle.cut.proofs.pages.cut_leaf.Tie as tie
 
@@ -36,7 +36,8 @@ entry-at-requires c κs =
 returns : tie.Need-returns
 returns c X h r =
     let entry = c .before .before in
-    same-makes (leaf-same (read (entry .before) h r) (entry .entry-at .ensures) h (c .if1 .taken))
+    let f = read (entry .before) h r in
+    found-same f (entry .entry-at .ensures) (leaf-same f (entry .entry-at .ensures) h (c .if1 .taken))
 
 double-requires : tie.Need-double-requires
 double-requires c κs =

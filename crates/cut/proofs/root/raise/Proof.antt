@@ -1,5 +1,4 @@
 -- `cut::root::raise` meets its contract: the page that is taken is the root, and is written last. Assumes nothing.
-use mathlib.Core.Path.{ap}
 use native.Mathlib.Omega.{arith}
 use borrow.Author.Needs.{needs}
 use mathlib.Core.List.{[], _∷_}
