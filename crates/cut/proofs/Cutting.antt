@@ -43,7 +43,8 @@ module _ (P : Image → Type 0) (puts : (p : ℕ) (c : Cell) (X : Image) → P X
       let i : ℕ = place t es in
       let r : Cutting = cut-entry half t l (at es i) X in
       let k : P (r .image) = cut-keeps half t l (at es i) X h in
-      either (λ (c : Cutting). P (c .image)) (eqb (length (r .became)) 1) _ _ k (settled-keeps half l e (splice i (r .became) es) (r .image) k)
+      either (λ (c : Cutting). P (c .image)) (eqb (length (r .became)) 1) _ _ k
+      (settled-keeps half l e (splice i (r .became) es) (r .image) k)
 
 pub cut-within : {q : ℕ} (half t l : ℕ) (e : Entry) (X : Image) → Within q X → Within q (cut-entry half t l e X .image)
 cut-within {q} half t l e X w = cut-keeps (Within q) (λ p c Y v. within-put v p c) (λ Y v. within-taken v) half t l e X w
@@ -163,7 +164,8 @@ module _ {l p t : ℕ} {X : Image} {page : Page} {i : ℕ} (f : Found l p t X pa
     found-gained : doubled i start q (shown page) ≡ gained l p t X
     unfolding doubled
     found-gained =
-        let both : became (at (shown page) i) (Split start q) ≡ below l p t X .became = ap (λ x. became x (Split start q)) (sym e) ∙ b .becomes in
+        let x : Entry = at (shown page) i in
+        let both : became x (Split start q) ≡ below l p t X .became = ap (λ y. became y (Split start q)) (sym e) ∙ b .becomes in
         λ j. splice (f .placed j) (both j) (f .shows .entries j)
 
     -- and becomes what the cutting says
