@@ -3,6 +3,7 @@ use Prim.Native.Nat.{ℕ}
 use mathlib.Core.Path.{_≡_}
 use mathlib.Core.List.{List}
 use lib.IntN.{ℤ, pos}
+use Rattle.rule.specs.declared.Pair.{Pair}
 use Rattle.rule.specs.declared.Average.{Average}
 use Rattle.rule.specs.declared.Average.the-variants.{Hundredths, Nothing, Beyond}
 use Rattle.calls.specs.Calls.{Instant, Averaged, Listed}
@@ -13,6 +14,10 @@ use Rattle.luwhenoka.specs.declared.ListingAnswer.{ListingAnswer}
 -- the numbers of an instant call's answer
 unfoldable pub instant-answer : Instant → InstantAnswer
 instant-answer r = record { number = r .number; pages = r .pages; sum = r .pair .sum; count = r .pair .count }
+
+-- its pair
+abbrev pub pair-of : InstantAnswer → Pair
+pair-of r = record { sum = r .sum; count = r .count }
 
 -- case by case: no average, one in hundredths, a sum that no fit page can show
 unfoldable pub average-answer : ℕ → Average → AverageAnswer

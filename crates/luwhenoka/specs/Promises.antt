@@ -5,7 +5,8 @@ use mathlib.Core.Path.{_≡_}
 use mathlib.Core.List.{List}
 use lib.IntN.{ℤ}
 use Rattle.rule.specs.Averages.{average}
-use Rattle.calls.specs.Calls.{format, instant, average-at, listing, audit}
+use Rattle.calls.specs.Changes.{Side}
+use Rattle.calls.specs.Calls.{format, book, instant, average-at, listing, audit}
 use Rattle.luwhenoka.specs.declared.InstantAnswer.{InstantAnswer}
 use Rattle.luwhenoka.specs.declared.AverageAnswer.{AverageAnswer}
 use Rattle.luwhenoka.specs.declared.ListingAnswer.{ListingAnswer}
@@ -14,6 +15,10 @@ use Rattle.luwhenoka.specs.Answers.{instant-answer, average-answer, aver
 -- format of an image returned r and left it as `after`
 abbrev pub Formats : ℕ → ℕ → List ℕ → ℕ → List ℕ → Type 0
 Formats kind window img r after = record { number = r; image = after } ≡ format 12 kind window img
+
+-- enter or withdraw of v on [s, e), with image and scratch before and after
+abbrev pub Books : Side → ℤ → ℕ → ℕ → List ℕ → List ℕ → ℕ → List ℕ → List ℕ → Type 0
+Books side v s e img scratch r after left = record { number = r; image = after; scratch = left } ≡ book 12 side v s e img scratch
 
 -- instant
 abbrev pub Answers : ℕ → List ℕ → InstantAnswer → Type 0

@@ -1,0 +1,58 @@
+-- `change::apply::apply` meets its contract: each step finds what the one before left. Assumes nothing.
+use borrow.Author.Needs.{needs}
+use Rattle.change.proofs.Chain.{some-B, some-C, some-D, some-E, some-count, changed}
+use Rattle.change.proofs.apply.apply.Statement.{statement}
+use Rattle.change.proofs.apply.apply.Tie as tie
+
+spread-requires : tie.Need-spread-requires
+spread-requires c κs =
+    let b = c .before .before .before in
+    let a = b .before .before .before .before in
+    some-C _ _ _ _ (a .cut .ensures) (b .cut2 .ensures) (a .before .before .before .pre)
+
+heal-requires : tie.Need-heal-requires
+heal-requires c κs =
+    let d = c .before .before .before in
+    let b = d .before .before .before .before in
+    let a = b .before .before .before .before in
+    some-D _ _ _ _ (a .cut .ensures) (b .cut2 .ensures) (d .spread .ensures) (a .before .before .before .pre)
+
+heal-requires-2 : tie.Need-heal-requires-2
+heal-requires-2 c κs =
+    let f = c .before .before .before in
+    let d = f .before .before .before .before in
+    let b = d .before .before .before .before in
+    let a = b .before .before .before .before in
+    some-E _ _ _ _ (a .cut .ensures) (b .cut2 .ensures) (d .spread .ensures) (f .heal .ensures) (a .before .before .before .pre)
+
+count-change-requires : tie.Need-count-change-requires
+count-change-requires c κs =
+    let g = c .before .before .before in
+    let f = g .before .before .before .before in
+    let d = f .before .before .before .before in
+    let b = d .before .before .before .before in
+    let a = b .before .before .before .before in
+    some-count _ _ _ _ (a .cut .ensures) (b .cut2 .ensures) (d .spread .ensures) (f .heal .ensures) (g .heal2 .ensures) (a .before .before .before .pre)
+
+returns : tie.Need-returns
+returns c =
+    let k = c .before .before in
+    let g = k .before .before .before .before in
+    let f = g .before .before .before .before in
+    let d = f .before .before .before .before in
+    let b = d .before .before .before .before in
+    let a = b .before .before .before .before in
+    changed _ _ _ _ (a .cut .ensures) (b .cut2 .ensures) (d .spread .ensures) (f .heal .ensures) (g .heal2 .ensures) (k .count-change .ensures)
+
+pub apply-spec : {M : Type 1} → statement M
+apply-spec =
+    tie.close
+    (tie.spec
+    (λ c κs. search needs)
+    (λ c κs. let a = c .before .before .before in some-B _ _ _ _ (a .cut .ensures) (a .before .before .before .pre))
+    spread-requires
+    heal-requires
+    heal-requires-2
+    count-change-requires
+    (λ c. search needs)
+    returns)

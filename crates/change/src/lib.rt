@@ -1,0 +1,2 @@
+// One change in five steps, on the bytes of an image.
+pub mod apply;
