@@ -3,7 +3,7 @@ use Prim.Native.Nat.{ℕ, zero, suc, _+_, _<_}
 use mathlib.Core.Path.{_≡_, refl, ap}
 use mathlib.Core.List.{List, [], _∷_, _++_, map}
 use native.Mathlib.Omega.{arith}
-use lib.ListN.{length, take, drop, getD, take-append-drop}
+use lib.ListN.{length, take, drop, getD, length-append, take-append-drop}
 use Rattle.page.specs.Entries.{splice}
 use Rattle.held.specs.Counts.{sum}
 
@@ -47,8 +47,11 @@ module _ {A : Type 0} (f : A → ℕ) where
   sum-splice-two zero xs ys (a ∷ b ∷ es) d h = omega (arith, sum-append xs (ys ++ es), sum-append ys es)
   sum-splice-two (suc i) xs ys (e ∷ es) d h = omega (arith, sum-splice-two i xs ys es d (omega arith))
 
-pub length-splice-one : {A : Type 0} (i : ℕ) (x : A) (es : List A) → i < length es → length (splice i (x ∷ []) es) ≡ length es
+pub length-splice : {A : Type 0} (i : ℕ) (xs es : List A) → i < length es → length (splice i xs es) + 1 ≡ length xs + length es
 unfolding splice
-length-splice-one i x [] h = absurd (omega arith)
-length-splice-one zero x (e ∷ es) h = refl
-length-splice-one (suc i) x (e ∷ es) h = omega (arith, length-splice-one i x es (omega arith))
+length-splice i xs [] h = absurd (omega arith)
+length-splice zero xs (e ∷ es) h = omega (arith, length-append xs es)
+length-splice (suc i) xs (e ∷ es) h = omega (arith, length-splice i xs es (omega arith))
+
+pub length-splice-one : {A : Type 0} (i : ℕ) (x : A) (es : List A) → i < length es → length (splice i (x ∷ []) es) ≡ length es
+length-splice-one i x es h = omega (arith, length-splice i (x ∷ []) es h)

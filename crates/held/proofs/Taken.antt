@@ -14,11 +14,11 @@ use Rattle.held.specs.Counts.{pages-of, taken}
 use Rattle.held.proofs.Cut.{cut-taken}
 use Rattle.held.proofs.Pages.{cut-pages}
 
-record One-less (S T : Supply) : Type 0 where
-  chain : T .chain ≡ drop 1 (S .chain)
-  mark : T .mark ≡ S .mark + (1 - length (S .chain))
+pub record One-less (S T : Supply) : Type 0 where
+  pub chain : T .chain ≡ drop 1 (S .chain)
+  pub mark : T .mark ≡ S .mark + (1 - length (S .chain))
 
-one-less : (S : Supply) → One-less S (without-next S)
+pub one-less : (S : Supply) → One-less S (without-next S)
 unfolding without-next
 one-less S = go (S .chain) (S .mark)
   where

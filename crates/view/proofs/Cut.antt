@@ -135,7 +135,7 @@ module _ (half t l : ℕ) (x : Ent (Kid (suc l))) (X : Image) (S : Supply)
         (further (settled-x half l (x .entry) (bare new) (r .image)) (settled half x new (r′ .supply))
         (settles half l x new (r .image) (r′ .supply) new-shown (g .supplied) (λ q. let m = room q in omega arith))))
 
-abbrev CutIs : (half t l : ℕ) → Ent (Kid l) → Image → Supply → Type 0
+abbrev pub CutIs : (half t l : ℕ) → Ent (Kid l) → Image → Supply → Type 0
 CutIs half t l x X S =
     Grew l (x .entry) X S (λ q. times q (pages-under l x)) (λ q. times q (way-in t l x)) (cut-entry half t l (x .entry) X) (cut-ent half t l x S)
 
@@ -188,7 +188,7 @@ once-there : (t l : ℕ) (x : Ent (Kid (suc l))) (S : Supply)
     → times q (pages-under l (there l t (x .kid))) + times-spare q S ≤ 1
 once-there t l x S stock once q = omega (arith, once q, under-suc l q x, below-at l q (place t (bare (x .kid))) (x .kid) (has-place l t x stock))
 
-cut-ent-is : (half t l : ℕ) (x : Ent (Kid l)) (X : Image) (S : Supply)
+pub cut-ent-is : (half t l : ℕ) (x : Ent (Kid l)) (X : Image) (S : Supply)
     → Shows l (X .page) x
     → Stocked l x
     → Supplied X S

@@ -1,0 +1,282 @@
+-- Every image before a cut of a change that no row turns back can be cut. Assumes nothing.
+use Prim.Native.Nat.{ℕ, zero, suc, _+_, _-_, _≤_, _<_}
+use mathlib.Core.Path.{_≡_, refl, ap, _∙_, subst⁻¹}
+use mathlib.Core.Bool.{cond}
+use mathlib.Core.List.{List, [], _∷_}
+use native.Mathlib.Omega.{arith}
+use lib.ListN.{length, length-map}
+use borrow.Author.Tests.{ne-eqb, lt-leb}
+use Rattle.rule.specs.Time.{END}
+use Rattle.rule.specs.Pairs.{none, combine}
+use Rattle.page.specs.declared.Entry.{Entry}
+use Rattle.page.specs.Fit.{most-height}
+use Rattle.page.specs.Layout.{capacity}
+use Rattle.page.specs.Entries.{entry, place}
+use Rattle.image.specs.Images.{Image}
+use Rattle.image.specs.Sound.{times}
+use Rattle.steps.specs.Supply.{entries, counted}
+use Rattle.steps.specs.Cut.{Cutting as CuttingX, cut-entry, root-entry, cut as cut-x}
+use Rattle.steps.specs.Change.{cut-names}
+use Rattle.store.specs.Holding.{Within}
+use Rattle.store.specs.Supplying.{Takable}
+use Rattle.cut.specs.Ready.{entry-for, from-root, Page-ready, Page-cuttable, Root-cuttable, Cuttable}
+use Rattle.tree.specs.Tree.{Ent, Kid, bare, ent-of, pages-under}
+use Rattle.tree.specs.Supply.{Supply, without-next}
+use Rattle.tree.specs.Cut.{Cutting, kept, split, settled, cut-ent, State, root-ent, grown, cut}
+use Rattle.tree.specs.Shape.{Seg, Shaped, Leaf}
+use Rattle.tree.specs.Held.{times-spare, held}
+use Rattle.tree.proofs.Find.{find-ent}
+use Rattle.held.proofs.Sums.{length-splice}
+use Rattle.held.proofs.Cut.{inner, inner-ents, cut-case}
+use Rattle.view.specs.View.{Shows, Supplied, Shown, Stocked, Full}
+use Rattle.view.proofs.Lists.{hit-self, under-suc, below-at}
+use Rattle.view.proofs.Taking.{firsts, later-held}
+use Rattle.view.proofs.Stepped.{Stepped, steady-of, held-is}
+use Rattle.view.proofs.Settle.{Grew}
+use Rattle.view.proofs.Cut.{CutIs, cut-ent-is, cut-is}
+use Rattle.view.proofs.Ways.{there, entries-are, at-bare, has-place, stocked-on, shows-on}
+use Rattle.view.proofs.Formed.{formed-full}
+use Rattle.state.proofs.To.Known.{good-once}
+use Rattle.state.proofs.To.Height.{height-most}
+use Rattle.ready.proofs.Going.{Going}
+use Rattle.ready.proofs.Places.{searched}
+use Rattle.ready.proofs.Spares.{Single, below-mark, next-mark, takable}
+
+-- ---- the supply, level by level
+
+-- from the image that the cut of an entry leaves, if the high mark then stays within the image
+grew-takable : {l : ℕ} {e : Entry} {X : Image} {S : Supply} {before W : ℕ → ℕ} {r : CuttingX} {r′ : Cutting (Kid l)}
+    → Grew l e X S before W r r′
+    → Single (λ q. times-spare q S)
+    → without-next (r′ .supply) .mark ≤ X .head .pages
+    → Takable (r .image)
+grew-takable {S = S} {r′ = r′} g single h =
+    let k : (q : ℕ) → times q (firsts (g .took) S) + times-spare q (r′ .supply) ≡ times-spare q S =
+    λ q. rw (g .rest) (later-held q (g .took) S) in
+    takable (g .supplied) (λ q. omega (arith, single q, k q)) (omega (arith, steady-of (g .head) .pages))
+
+module _ (t l : ℕ) (x : Ent (Kid (suc l))) (S : Supply) where
+  -- the high mark is never lower than what the pages below left
+  inner-mark : inner 12 t l x S .supply .mark ≤ cut-ent 12 t (suc l) x S .supply .mark
+  unfolding kept split
+  inner-mark =
+      let R = inner 12 t l x S .supply in
+      cut-case 12 t l x S (λ C. R .mark ≤ C .supply .mark) (omega arith) (next-mark R)
+
+  -- "25 entries split": the page takes one more
+  splits : Stocked (suc l) x → 1 < length (inner 12 t l x S .became) → 24 ≤ length (x .kid)
+      → cut-ent 12 t (suc l) x S .supply ≡ without-next (inner 12 t l x S .supply)
+  unfolding cut-ent settled split
+  splits k two full =
+      let r = inner 12 t l x S in
+      let es = inner-ents 12 t l x S in
+      let n : length es + 1 ≡ length (r .became) + length (x .kid) =
+      length-splice (place t (bare (x .kid))) (r .became) (x .kid) (has-place l t x k) in
+      ap (λ b. cond b (kept x es (r .supply)) (settled 12 x es (r .supply)) .supply) (ne-eqb (length (r .became)) 1 (λ e. omega arith))
+      ∙ ap (λ b. cond b (kept x es (r .supply)) (split 12 x es (r .supply)) .supply) (lt-leb (length es) (capacity 12) (omega arith))
+
+-- ---- the pages on the way
+
+-- Entry x leads to a page of level l on the way to t, whose entries follow each other from lo to hi.
+record Leads (t : ℕ) (X : Image) (S : Supply) (l : ℕ) (x : Ent (Kid (suc l))) : Type 0 where
+  lo : ℕ
+  hi : ℕ
+  shown : Shows (suc l) (X .page) x
+  stocked : Stocked (suc l) x
+  spans : Seg (λ a b y. Shaped 12 Leaf l a b y) lo hi (x .kid)
+  begun : lo ≤ t
+  ends : t < hi
+  single : Single (λ q. times q (pages-under (suc l) x) + times-spare q S)
+
+module _ (t : ℕ) {X : Image} {S : Supply} (s : Supplied X S) (marked : X .head .mark ≤ X .head .pages) where
+  module _ (l : ℕ) (x : Ent (Kid (suc l))) (w : Leads t X S l x) where
+    abbrev p : ℕ
+    p = x .entry .child
+
+    abbrev y : Ent (Kid l)
+    y = there l t (x .kid)
+
+    within : Within p X
+    within =
+        let n = under-suc l p x in
+        let b : p < S .mark = below-mark S p (omega (arith, w .single p, hit-self p)) in
+        record { least = omega (arith, w .single p, hit-self p); below = omega (arith, s .mark) }
+
+    single-there : Single (λ q. times q (pages-under l y) + times-spare q S)
+    single-there q =
+        omega (arith, w .single q, under-suc l q x, below-at l q (place t (bare (x .kid))) (x .kid) (has-place l t x (w .stocked)))
+
+    entry-there : entry-for t p X ≡ y .entry
+    entry-there = rw (entries-are l X x (w .shown)) (at-bare l (x .kid) (place t (bare (x .kid))))
+
+    grew : CutIs 12 t l y X S
+    grew =
+        cut-ent-is 12 t l y X S (shows-on l t x (w .stocked) X (w .shown)) (stocked-on l t x (w .stocked)) s
+        (λ q. omega (arith, single-there q))
+
+    -- where the page below became two in a page of 24, a page can be taken
+    abbrev Room : Entry → Type 0
+    Room e = 1 < length (cut-entry 12 t l e X .became) → 24 ≤ length (entries X p) → Takable (cut-entry 12 t l e X .image)
+
+    page-room : cut-ent 12 t (suc l) x S .supply .mark ≤ X .head .pages → Room (y .entry)
+    page-room m two full =
+        let k : length (cut-entry 12 t l (y .entry) X .became) ≡ length (inner 12 t l x S .became) =
+        ap length (grew .same) ∙ length-map (inner 12 t l x S .became) (λ z. z .entry) in
+        let n : length (entries X p) ≡ length (x .kid) = ap length (entries-are l X x (w .shown)) ∙ length-map (x .kid) (λ z. z .entry) in
+        let e = splits t l x S (w .stocked) (omega arith) (omega arith) in
+        grew-takable grew (λ q. omega (arith, single-there q)) (omega (arith, ap (λ (R : Supply). R .mark) e))
+
+    page-ready : cut-ent 12 t (suc l) x S .supply .mark ≤ X .head .pages → Page-ready l p t X
+    unfolding Shows
+    page-ready m =
+        let (found, level) = searched within (w .shown .0) (w .spans) (w .begun) (w .ends) in
+        record {
+          sought = found;
+          level = level;
+          room = subst⁻¹ Room entry-there (page-room m);
+        }
+
+  -- the next page
+  leads-on : (l : ℕ) (x : Ent (Kid (suc (suc l)))) → Leads t X S (suc l) x → Leads t X S l (there (suc l) t (x .kid))
+  unfolding Shaped ent-of
+  leads-on l x w =
+      let h = find-ent (suc l) t (w .spans) (omega arith) (w .begun) in
+      record {
+        lo = there (suc l) t (x .kid) .entry .start;
+        hi = h .end;
+        shown = shows-on (suc l) t x (w .stocked) X (w .shown);
+        stocked = stocked-on (suc l) t x (w .stocked);
+        spans = h .holds .1;
+        begun = h .begun;
+        ends = h .ends (w .ends);
+        single = single-there (suc l) x w;
+      }
+
+  page-cuttable : (l : ℕ) (x : Ent (Kid (suc l))) → Leads t X S l x → cut-ent 12 t (suc l) x S .supply .mark ≤ X .head .pages
+      → Page-cuttable l (x .entry .child) t X
+  unfolding Page-cuttable
+  page-cuttable zero x w m = page-ready zero x w m
+  page-cuttable (suc l) x w m = (
+    page-ready (suc l) x w m,
+    subst⁻¹ (λ e. Page-cuttable l (e .child) t X) (entry-there (suc l) x w)
+        (page-cuttable l (there (suc l) t (x .kid)) (leads-on l x w) (omega (arith, inner-mark t (suc l) x S))),
+  )
+
+-- ---- from the root
+
+-- a new root takes a page
+grown-mark : (l : ℕ) (es : List (Ent (Kid (suc l)))) (R : Supply) → R .mark ≤ grown l es R .supply .mark
+unfolding grown
+grown-mark l [] R = omega arith
+grown-mark l (x ∷ []) R = omega arith
+grown-mark l (x ∷ y ∷ es) R = next-mark R
+
+grown-two : (l : ℕ) (es : List (Ent (Kid (suc l)))) (R : Supply) → 1 < length es → grown l es R .supply ≡ without-next R
+unfolding grown
+grown-two l [] R h = absurd (omega arith)
+grown-two l (x ∷ []) R h = absurd (omega arith)
+grown-two l (x ∷ y ∷ es) R h = refl
+
+module _ (t : ℕ) (X : Image) (Y : State) (g : Going 12 X Y) where
+  abbrev l : ℕ
+  l = Y .tree .level
+
+  abbrev x₀ : Ent (Kid (suc l))
+  x₀ = root-ent (Y .tree)
+
+  abbrev r₀ : Cutting (Kid (suc l))
+  r₀ = cut-ent 12 t (suc l) x₀ (Y .supply)
+
+  shown : Shown X Y
+  unfolding counted
+  shown =
+      let h = g .shown in
+      let u = h .supplied in
+      record {
+        height = h .height;
+        root = h .root;
+        below = h .below;
+        supplied = record { length-true = u .length-true; linked = u .linked; mark = u .mark; unused = u .unused };
+      }
+
+  low : X .head .height ≤ most-height
+  unfolding counted
+  low = height-most (counted X) Y g
+
+  marked : X .head .mark ≤ X .head .pages
+  unfolding counted
+  marked = g .ranges .mark-most
+
+  full : Full Y
+  full = formed-full 12 Leaf (omega arith) Y (g .formed)
+
+  single : Single (λ q. held q Y)
+  single zero = omega (arith, g .head-apart)
+  single (suc q) = omega (arith, g .once (suc q) (omega arith))
+
+  leads : t < END → Leads t X (Y .supply) l x₀
+  unfolding Full root-ent
+  leads h =
+      record {
+        lo = 0;
+        hi = END;
+        shown = shown .below;
+        stocked = full;
+        spans = g .formed .spans;
+        begun = omega arith;
+        ends = h;
+        single = λ q. omega (arith, single q, held-is q Y);
+      }
+
+  root-grew : CutIs 12 t (suc l) x₀ X (Y .supply)
+  unfolding Full
+  root-grew =
+      cut-ent-is 12 t (suc l) x₀ X (Y .supply) (shown .below) full (shown .supplied) (λ q. omega (arith, single q, held-is q Y))
+
+  from-root-is : from-root t X ≡ cut-entry 12 t (suc l) (x₀ .entry) X
+  unfolding root-entry root-ent
+  from-root-is =
+      ap (λ (h : ℕ). cut-entry 12 t h (entry 0 none (X .head .root)) X) (shown .height)
+      ∙ ap (λ (p : ℕ). cut-entry 12 t (suc l) (entry 0 none p) X) (shown .root)
+
+  -- the supply after the cut, where t is no END
+  cut-supply : t < END → cut 12 t Y .supply ≡ grown l (r₀ .became) (r₀ .supply) .supply
+  unfolding cut
+  cut-supply h = ap (λ b. cond b Y (grown l (r₀ .became) (r₀ .supply)) .supply) (lt-leb END t h)
+
+  abbrev Root-room : CuttingX → Type 0
+  Root-room r = 1 < length (r .became) → Takable (r .image)
+
+  root-room : grown l (r₀ .became) (r₀ .supply) .supply .mark ≤ X .head .pages → Root-room (cut-entry 12 t (suc l) (x₀ .entry) X)
+  root-room m two =
+      let k : length (cut-entry 12 t (suc l) (x₀ .entry) X .became) ≡ length (r₀ .became) =
+      ap length (root-grew .same) ∙ length-map (r₀ .became) (λ z. z .entry) in
+      let e = grown-two l (r₀ .became) (r₀ .supply) (omega arith) in
+      grew-takable root-grew (λ q. omega (arith, single q, held-is q Y)) (omega (arith, ap (λ (R : Supply). R .mark) e))
+
+  root-cuttable : t < END → cut 12 t Y .supply .mark ≤ X .head .pages → Root-cuttable t X
+  unfolding root-ent
+  root-cuttable h m =
+      let c = ap (λ (R : Supply). R .mark) (cut-supply h) in
+      let e : X .head .height - 1 ≡ l = omega (arith, shown .height) in
+      record {
+        some = omega (arith, shown .height);
+        low = omega (arith, low);
+        page =
+            subst⁻¹ (λ n. Page-cuttable n (X .head .root) t X) e
+            (subst⁻¹ (λ p. Page-cuttable l p t X) (shown .root)
+            (page-cuttable t (shown .supplied) marked l x₀ (leads h) (omega (arith, grown-mark l (r₀ .became) (r₀ .supply)))));
+        room = subst⁻¹ Root-room from-root-is (root-room (omega arith));
+      }
+
+  after : Stepped X (cut-x 12 t X) Y (cut 12 t Y) (cut-names 12 (combine 1) t X)
+  after = cut-is 12 (combine 1) t X Y shown (good-once g) full
+
+  -- An image as it is before a cut can be cut, if the high mark then stays within the image.
+  pub cuttable : cut-x 12 t X .head .mark ≤ X .head .pages → Cuttable t X
+  cuttable m = record { root = λ h. root-cuttable h (omega (arith, after .shown .supplied .mark)) }
+
+  -- so it does if the image after the cut goes on
+  pub going-cuttable : {Z : State} → Going 12 (cut-x 12 t X) Z → Cuttable t X
+  unfolding counted
+  going-cuttable h = cuttable (omega (arith, h .ranges .mark-most, after .steady .pages))
