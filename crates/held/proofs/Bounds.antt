@@ -186,7 +186,7 @@ module _ {_⊕_ : Pair → Pair → Pair} {norm : Pair → ℕ} {Each : Pair →
         (all-splice j (all-more (emptied-within l above (x .entry .start) x h all) all-none) (all-splice (suc j) all-none a))
         (ltb half n)
 
-    ents-within : (t l above : ℕ) (es : Ents l) (S : Supply) → above ≤ most → Ways norm Each most l above es
+    pub ents-within : (t l above : ℕ) (es : Ents l) (S : Supply) → above ≤ most → Ways norm Each most l above es
         → Ways norm Each most l above (heal-ents half _⊕_ t l es S .ents)
     unfolding heal-ents Within
     ents-within t zero above es S h a =

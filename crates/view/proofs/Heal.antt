@@ -32,7 +32,7 @@ use Rattle.view.proofs.Shrink.{Shrunk, shrinks}
 use Rattle.view.proofs.Turn.{Healed, weighed, neighbours, left-in, turns}
 
 -- every inner page has two entries
-stocked-two : (l : ℕ) (x : Ent (Kid (suc (suc l)))) → Stocked (suc (suc l)) x → 2 ≤ length (x .kid)
+pub stocked-two : (l : ℕ) (x : Ent (Kid (suc (suc l)))) → Stocked (suc (suc l)) x → 2 ≤ length (x .kid)
 unfolding Stocked root-least
 stocked-two l x k = k .0
 
@@ -56,7 +56,7 @@ module _ (half : ℕ) (_⊕_ : Pair → Pair → Pair) (t : ℕ) where
       rw (entries-are (suc l) X x s, at-bare (suc l) (x .kid) (place t (bare (x .kid))), at-bare (suc l) (x .kid) (neighbour (place t (bare (x .kid)))))
 
   -- how often the way and the pages turned to have a page
-  abbrev may : (l : ℕ) → Ent (Kid (suc l)) → Image → ℕ → ℕ
+  abbrev pub may : (l : ℕ) → Ent (Kid (suc l)) → Image → ℕ → ℕ
   may l x X q = times q (way-in t (suc l) x) + times q (turned-to half _⊕_ t l (x .entry .child) X)
 
   -- the page on the way and its neighbour, and what is below them, are all below one page
@@ -86,7 +86,7 @@ module _ (half : ℕ) (_⊕_ : Pair → Pair → Pair) (t : ℕ) where
   unfolding way-in
   may-here q l x X = omega (arith, times-cons q (x .entry .child) (way-in t l (there l t (x .kid))))
 
-  may-within : (q l : ℕ) (x : Ent (Kid (suc l))) (X : Image) → Shows (suc l) (X .page) x → Stocked (suc l) x → may l x X q ≤ times q (pages-under (suc l) x)
+  pub may-within : (q l : ℕ) (x : Ent (Kid (suc l))) (X : Image) → Shows (suc l) (X .page) x → Stocked (suc l) x → may l x X q ≤ times q (pages-under (suc l) x)
   may-within q zero x X s k = omega (arith, may-none q x X, under-suc 0 q x)
   may-within q (suc l) x X s k =
       let y = there (suc l) t (x .kid) in
@@ -189,7 +189,7 @@ module _ (half : ℕ) (_⊕_ : Pair → Pair → Pair) (t : ℕ) where
           most = omega (arith, once q, under-suc (suc l) q x);
         }
 
-    shown′ : Shows (suc (suc l)) (Z .page) x′
+    pub shown′ : Shows (suc (suc l)) (Z .page) x′
     unfolding Shows
     shown′ =
         let p = x .entry .child in (
@@ -267,7 +267,7 @@ module _ (half : ℕ) (_⊕_ : Pair → Pair → Pair) (t : ℕ) where
       (weighed (λ q. sym (may-up q l x X shown))
       (one-up l x X S shown stock once (heal-page half _⊕_ t l (y .entry .child) X) (heal-ents half _⊕_ t l (y .kid) S) g))
 
-  heal-ent-is : (l : ℕ) (x : Ent (Kid (suc l))) (X : Image) (S : Supply)
+  pub heal-ent-is : (l : ℕ) (x : Ent (Kid (suc l))) (X : Image) (S : Supply)
       → Shows (suc l) (X .page) x
       → Stocked (suc l) x
       → Supplied X S
