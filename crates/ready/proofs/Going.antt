@@ -272,3 +272,10 @@ module _ {half : ℕ} (two : 2 ≤ half) (s e : ℕ) (p : Pair) {X : Image} {Y :
       stepped going-A (then step-A (then step-B (then step-C (then step-D step-E)))) formed-E
       (heal-bounds half kind (suc n) e YD (heal-bounds half kind (suc n) s YC bounds-C))
       (omega (arith, heal-gives half two rule e YD formed-D .mark, mark-D, marks .1))
+
+  -- no step sets the kind
+  pub kinds : (XB .head .kind ≡ kind) × (XC .head .kind ≡ kind) × (XD .head .kind ≡ kind)
+  kinds =
+      let b = then step-A step-B in
+      let c = then b step-C in
+      (b .steady .kind, c .steady .kind, then c step-D .steady .kind)
