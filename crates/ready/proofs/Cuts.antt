@@ -9,6 +9,7 @@ use borrow.Author.Tests.{ne-eqb, lt-leb}
 use Rattle.rule.specs.Time.{END}
 use Rattle.rule.specs.Pairs.{none, combine}
 use Rattle.page.specs.declared.Entry.{Entry}
+use Rattle.page.specs.declared.Head.{Head}
 use Rattle.page.specs.Fit.{most-height}
 use Rattle.page.specs.Layout.{capacity}
 use Rattle.page.specs.Entries.{entry, place}
@@ -17,30 +18,27 @@ use Rattle.image.specs.Sound.{times}
 use Rattle.steps.specs.Supply.{entries, counted}
 use Rattle.steps.specs.Cut.{Cutting as CuttingX, cut-entry, root-entry, cut as cut-x}
 use Rattle.steps.specs.Change.{cut-names}
-use Rattle.store.specs.Holding.{Within}
 use Rattle.store.specs.Supplying.{Takable}
 use Rattle.cut.specs.Ready.{entry-for, from-root, Page-ready, Page-cuttable, Root-cuttable, Cuttable}
-use Rattle.tree.specs.Tree.{Ent, Kid, bare, ent-of, pages-under}
+use Rattle.tree.specs.Tree.{Ent, Kid, bare}
 use Rattle.tree.specs.Supply.{Supply, without-next}
 use Rattle.tree.specs.Cut.{Cutting, kept, split, settled, cut-ent, State, root-ent, grown, cut}
-use Rattle.tree.specs.Shape.{Seg, Shaped, Leaf}
-use Rattle.tree.specs.Held.{times-spare, held}
-use Rattle.tree.proofs.Find.{find-ent}
+use Rattle.tree.specs.Shape.{Leaf}
+use Rattle.tree.specs.Held.{times-spare}
 use Rattle.held.proofs.Sums.{length-splice}
 use Rattle.held.proofs.Cut.{inner, inner-ents, cut-case}
-use Rattle.view.specs.View.{Shows, Supplied, Shown, Stocked, Full}
-use Rattle.view.proofs.Lists.{hit-self, under-suc, below-at}
+use Rattle.view.specs.View.{Supplied, Shown, Stocked, Full}
 use Rattle.view.proofs.Taking.{firsts, later-held}
 use Rattle.view.proofs.Stepped.{Stepped, steady-of, held-is}
 use Rattle.view.proofs.Settle.{Grew}
-use Rattle.view.proofs.Cut.{CutIs, cut-ent-is, cut-is}
+use Rattle.view.proofs.Cut.{CutIs, once-there, cut-ent-is, cut-is}
 use Rattle.view.proofs.Ways.{there, entries-are, at-bare, has-place, stocked-on, shows-on}
 use Rattle.view.proofs.Formed.{formed-full}
 use Rattle.state.proofs.To.Known.{good-once}
 use Rattle.state.proofs.To.Height.{height-most}
 use Rattle.ready.proofs.Going.{Going}
-use Rattle.ready.proofs.Places.{searched}
-use Rattle.ready.proofs.Spares.{Single, below-mark, next-mark, takable}
+use Rattle.ready.proofs.Ways.{Known, known-sought, known-below, uncounted, going-known}
+use Rattle.ready.proofs.Spares.{Single, next-mark, takable}
 
 -- ---- the supply, level by level
 
@@ -77,89 +75,48 @@ module _ (t l : ℕ) (x : Ent (Kid (suc l))) (S : Supply) where
 
 -- ---- the pages on the way
 
--- Entry x leads to a page of level l on the way to t, whose entries follow each other from lo to hi.
-record Leads (t : ℕ) (X : Image) (S : Supply) (l : ℕ) (x : Ent (Kid (suc l))) : Type 0 where
-  lo : ℕ
-  hi : ℕ
-  shown : Shows (suc l) (X .page) x
-  stocked : Stocked (suc l) x
-  spans : Seg (λ a b y. Shaped 12 Leaf l a b y) lo hi (x .kid)
-  begun : lo ≤ t
-  ends : t < hi
-  single : Single (λ q. times q (pages-under (suc l) x) + times-spare q S)
-
-module _ (t : ℕ) {X : Image} {S : Supply} (s : Supplied X S) (marked : X .head .mark ≤ X .head .pages) where
-  module _ (l : ℕ) (x : Ent (Kid (suc l))) (w : Leads t X S l x) where
+module _ {h : Head} (t : ℕ) {X : Image} {S : Supply} (s : Supplied X S) (single : Single (λ q. times-spare q S)) where
+  module _ (l : ℕ) (x : Ent (Kid (suc l))) {lo hi sums counts : ℕ} (k : Known 12 h t X S l lo hi sums counts x) where
     abbrev p : ℕ
     p = x .entry .child
 
     abbrev y : Ent (Kid l)
     y = there l t (x .kid)
 
-    within : Within p X
-    within =
-        let n = under-suc l p x in
-        let b : p < S .mark = below-mark S p (omega (arith, w .single p, hit-self p)) in
-        record { least = omega (arith, w .single p, hit-self p); below = omega (arith, s .mark) }
-
-    single-there : Single (λ q. times q (pages-under l y) + times-spare q S)
-    single-there q =
-        omega (arith, w .single q, under-suc l q x, below-at l q (place t (bare (x .kid))) (x .kid) (has-place l t x (w .stocked)))
-
     entry-there : entry-for t p X ≡ y .entry
-    entry-there = rw (entries-are l X x (w .shown)) (at-bare l (x .kid) (place t (bare (x .kid))))
+    entry-there = rw (entries-are l X x (k .shown)) (at-bare l (x .kid) (place t (bare (x .kid))))
 
     grew : CutIs 12 t l y X S
     grew =
-        cut-ent-is 12 t l y X S (shows-on l t x (w .stocked) X (w .shown)) (stocked-on l t x (w .stocked)) s
-        (λ q. omega (arith, single-there q))
+        let n = k .stocked in
+        cut-ent-is 12 t l y X S (shows-on l t x n X (k .shown)) (stocked-on l t x n) s (once-there t l x S n (k .once))
 
-    -- where the page below became two in a page of 24, a page can be taken
+    -- where the entry below becomes two in a page of 24, a page can be taken
     abbrev Room : Entry → Type 0
     Room e = 1 < length (cut-entry 12 t l e X .became) → 24 ≤ length (entries X p) → Takable (cut-entry 12 t l e X .image)
 
     page-room : cut-ent 12 t (suc l) x S .supply .mark ≤ X .head .pages → Room (y .entry)
     page-room m two full =
-        let k : length (cut-entry 12 t l (y .entry) X .became) ≡ length (inner 12 t l x S .became) =
+        let a : length (cut-entry 12 t l (y .entry) X .became) ≡ length (inner 12 t l x S .became) =
         ap length (grew .same) ∙ length-map (inner 12 t l x S .became) (λ z. z .entry) in
-        let n : length (entries X p) ≡ length (x .kid) = ap length (entries-are l X x (w .shown)) ∙ length-map (x .kid) (λ z. z .entry) in
-        let e = splits t l x S (w .stocked) (omega arith) (omega arith) in
-        grew-takable grew (λ q. omega (arith, single-there q)) (omega (arith, ap (λ (R : Supply). R .mark) e))
+        let n : length (entries X p) ≡ length (x .kid) = ap length (entries-are l X x (k .shown)) ∙ length-map (x .kid) (λ z. z .entry) in
+        let e = splits t l x S (k .stocked) (omega arith) (omega arith) in
+        grew-takable grew single (omega (arith, ap (λ (R : Supply). R .mark) e))
 
     page-ready : cut-ent 12 t (suc l) x S .supply .mark ≤ X .head .pages → Page-ready l p t X
-    unfolding Shows
     page-ready m =
-        let (found, level) = searched within (w .shown .0) (w .spans) (w .begun) (w .ends) in
-        record {
-          sought = found;
-          level = level;
-          room = subst⁻¹ Room entry-there (page-room m);
-        }
+        let (found, level) = known-sought k in
+        record { sought = found; level = level; room = subst⁻¹ Room entry-there (page-room m) }
 
-  -- the next page
-  leads-on : (l : ℕ) (x : Ent (Kid (suc (suc l)))) → Leads t X S (suc l) x → Leads t X S l (there (suc l) t (x .kid))
-  unfolding Shaped ent-of
-  leads-on l x w =
-      let h = find-ent (suc l) t (w .spans) (omega arith) (w .begun) in
-      record {
-        lo = there (suc l) t (x .kid) .entry .start;
-        hi = h .end;
-        shown = shows-on (suc l) t x (w .stocked) X (w .shown);
-        stocked = stocked-on (suc l) t x (w .stocked);
-        spans = h .holds .1;
-        begun = h .begun;
-        ends = h .ends (w .ends);
-        single = single-there (suc l) x w;
-      }
-
-  page-cuttable : (l : ℕ) (x : Ent (Kid (suc l))) → Leads t X S l x → cut-ent 12 t (suc l) x S .supply .mark ≤ X .head .pages
+  page-cuttable : (l : ℕ) (x : Ent (Kid (suc l))) {lo hi sums counts : ℕ} → Known 12 h t X S l lo hi sums counts x
+      → cut-ent 12 t (suc l) x S .supply .mark ≤ X .head .pages
       → Page-cuttable l (x .entry .child) t X
   unfolding Page-cuttable
-  page-cuttable zero x w m = page-ready zero x w m
-  page-cuttable (suc l) x w m = (
-    page-ready (suc l) x w m,
-    subst⁻¹ (λ e. Page-cuttable l (e .child) t X) (entry-there (suc l) x w)
-        (page-cuttable l (there (suc l) t (x .kid)) (leads-on l x w) (omega (arith, inner-mark t (suc l) x S))),
+  page-cuttable zero x k m = page-ready zero x k m
+  page-cuttable (suc l) x k m = (
+    page-ready (suc l) x k m,
+    subst⁻¹ (λ e. Page-cuttable l (e .child) t X) (entry-there (suc l) x k)
+        (page-cuttable l (there (suc l) t (x .kid)) (known-below k .known) (omega (arith, inner-mark t (suc l) x S))),
   )
 
 -- ---- from the root
@@ -188,50 +145,22 @@ module _ (t : ℕ) (X : Image) (Y : State) (g : Going 12 X Y) where
   r₀ = cut-ent 12 t (suc l) x₀ (Y .supply)
 
   shown : Shown X Y
-  unfolding counted
-  shown =
-      let h = g .shown in
-      let u = h .supplied in
-      record {
-        height = h .height;
-        root = h .root;
-        below = h .below;
-        supplied = record { length-true = u .length-true; linked = u .linked; mark = u .mark; unused = u .unused };
-      }
+  shown = uncounted (g .shown)
 
   low : X .head .height ≤ most-height
   unfolding counted
   low = height-most (counted X) Y g
 
-  marked : X .head .mark ≤ X .head .pages
-  unfolding counted
-  marked = g .ranges .mark-most
-
   full : Full Y
   full = formed-full 12 Leaf (omega arith) Y (g .formed)
 
-  single : Single (λ q. held q Y)
-  single zero = omega (arith, g .head-apart)
-  single (suc q) = omega (arith, g .once (suc q) (omega arith))
-
-  leads : t < END → Leads t X (Y .supply) l x₀
-  unfolding Full root-ent
-  leads h =
-      record {
-        lo = 0;
-        hi = END;
-        shown = shown .below;
-        stocked = full;
-        spans = g .formed .spans;
-        begun = omega arith;
-        ends = h;
-        single = λ q. omega (arith, single q, held-is q Y);
-      }
+  single : Single (λ q. times-spare q (Y .supply))
+  single zero = omega (arith, held-is 0 Y, g .head-apart)
+  single (suc q) = omega (arith, held-is (suc q) Y, g .once (suc q) (omega arith))
 
   root-grew : CutIs 12 t (suc l) x₀ X (Y .supply)
   unfolding Full
-  root-grew =
-      cut-ent-is 12 t (suc l) x₀ X (Y .supply) (shown .below) full (shown .supplied) (λ q. omega (arith, single q, held-is q Y))
+  root-grew = cut-ent-is 12 t (suc l) x₀ X (Y .supply) (shown .below) full (shown .supplied) (going-known (omega arith) t g .once)
 
   from-root-is : from-root t X ≡ cut-entry 12 t (suc l) (x₀ .entry) X
   unfolding root-entry root-ent
@@ -252,7 +181,7 @@ module _ (t : ℕ) (X : Image) (Y : State) (g : Going 12 X Y) where
       let k : length (cut-entry 12 t (suc l) (x₀ .entry) X .became) ≡ length (r₀ .became) =
       ap length (root-grew .same) ∙ length-map (r₀ .became) (λ z. z .entry) in
       let e = grown-two l (r₀ .became) (r₀ .supply) (omega arith) in
-      grew-takable root-grew (λ q. omega (arith, single q, held-is q Y)) (omega (arith, ap (λ (R : Supply). R .mark) e))
+      grew-takable root-grew single (omega (arith, ap (λ (R : Supply). R .mark) e))
 
   root-cuttable : t < END → cut 12 t Y .supply .mark ≤ X .head .pages → Root-cuttable t X
   unfolding root-ent
@@ -265,7 +194,8 @@ module _ (t : ℕ) (X : Image) (Y : State) (g : Going 12 X Y) where
         page =
             subst⁻¹ (λ n. Page-cuttable n (X .head .root) t X) e
             (subst⁻¹ (λ p. Page-cuttable l p t X) (shown .root)
-            (page-cuttable t (shown .supplied) marked l x₀ (leads h) (omega (arith, grown-mark l (r₀ .became) (r₀ .supply)))));
+            (page-cuttable t (shown .supplied) single l x₀ (going-known (omega arith) t g)
+            (omega (arith, grown-mark l (r₀ .became) (r₀ .supply)))));
         room = subst⁻¹ Root-room from-root-is (root-room (omega arith));
       }
 

@@ -237,7 +237,7 @@ module _ (h : Head) (t : ℕ) (S : Supply) where
           ap (λ (es : List Entry). at es (place t es) .child) e ∙ ap (λ (z : Entry). z .child) (at-bare (suc l) (x .kid) i) in
           let settles : Settles l p i (y .entry .child) Z = record { treed = treed-after (below .known); turns = turnable } in
           record {
-            sought = known-sought k;
+            sought = known-sought k .0;
             below = subst⁻¹ (λ (q : ℕ). Page-healable (h .kind) t l q X) c w;
             settles =
                 subst⁻¹ (λ (q : ℕ). Settles l p (place t (entries X p)) q (heal-page 12 rule t l q X)) c
@@ -247,7 +247,7 @@ module _ (h : Head) (t : ℕ) (S : Supply) where
     page-heals : (l lo hi sums counts : ℕ) (x : Ent (Kid (suc l))) → l < 254 → Known 12 h t X S l lo hi sums counts x
         → Page-healable (h .kind) t l (x .entry .child) X
     unfolding Page-healable
-    page-heals zero lo hi sums counts x low k = record { sought = known-sought k; leaf = page-is 0 X x (k .shown) }
+    page-heals zero lo hi sums counts x low k = record { sought = known-sought k .0; leaf = page-is 0 X x (k .shown) }
     page-heals (suc l) lo hi sums counts x low k =
         let b = known-below k in
         inner l lo hi sums counts x low k (page-heals l (b .lo) (b .hi) _ _ (there (suc l) t (x .kid)) (omega arith) (b .known))

@@ -21,18 +21,18 @@ seg-rising (more e lt q done) i h = absurd (omega arith)
 seg-rising (more e lt q (more f lt′ q′ r)) zero h = omega arith
 seg-rising (more e lt q (more f lt′ q′ r)) (suc i) h = seg-rising (more f lt′ q′ r) i (omega arith)
 
--- A page of level l with entries from lo to hi, among which t is.
+-- A page of level l with entries from lo to hi can be searched for every t from lo on.
 pub searched : {l lo hi p t : ℕ} {X : Image} {Q : Asked (Kid l)} {es : Ents l} → Within p X → X .page p ≡ tree l (bare es)
     → Seg Q lo hi es
+    → lo < hi
     → lo ≤ t
-    → t < hi
     → (s : Sought p t X) × (s .level ≡ l)
 unfolding entries entries-in
-searched {l} {lo} {p = p} {t} {X} {es = es} within page spans low high =
+searched {l} {lo} {p = p} {t} {X} {es = es} within page spans some low =
     let e : entries X p ≡ bare es = ap entries-in page in
     let n : length (bare es) ≡ length es = length-map es (λ x. x .entry) in
-    let first : at (bare es) 0 .start ≡ lo = seg-head spans (omega arith) in
-    (over (bare es) e page (omega (arith, seg-some spans (omega arith))) (λ i h. seg-rising spans i (omega arith)) (omega arith))
+    let first : at (bare es) 0 .start ≡ lo = seg-head spans some in
+    over (bare es) e page (omega (arith, seg-some spans some)) (λ i h. seg-rising spans i (omega arith)) (omega arith)
   where
     over : (fs : List Entry) → entries X p ≡ fs → X .page p ≡ tree l fs → 1 ≤ length fs
         → ((i : ℕ) → suc i < length fs → at fs i .start < at fs (suc i) .start)

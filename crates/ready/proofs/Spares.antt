@@ -20,7 +20,7 @@ abbrev pub Single : (ℕ → ℕ) → Type 0
 Single counts = (q : ℕ) → counts q ≤ min 1 q
 
 -- a page that is in no supply lies below its high mark
-pub below-mark : (S : Supply) (q : ℕ) → times-spare q S ≡ 0 → q < S .mark
+below-mark : (S : Supply) (q : ℕ) → times-spare q S ≡ 0 → q < S .mark
 below-mark S q e = go (decLe (S .mark) q)
   where
     go : Dec (S .mark ≤ q) → q < S .mark

@@ -75,20 +75,11 @@ module _ {half : ℕ} {h : Head} {t : ℕ} {X : Image} {S : Supply} where
   some-span : {l lo hi sums counts : ℕ} {x : Ent (Kid (suc l))} → Known half h t X S l lo hi sums counts x → lo < hi
   some-span {l} {x = x} k = seg-lt (k .spans) (omega (arith, has-place l t x (k .stocked)))
 
-  -- it can be searched for t, which is no instant of it where t is END: so for its start, and for all from there on
+  -- it can be searched for t
   pub known-sought : {l lo hi sums counts : ℕ} {x : Ent (Kid (suc l))} → Known half h t X S l lo hi sums counts x
-      → Sought (x .entry .child) t X
+      → (s : Sought (x .entry .child) t X) × (s .level ≡ l)
   unfolding Shows
-  known-sought k =
-      let f = searched (here-inside k) (k .shown .0) (k .spans) (omega arith) (some-span k) .0 in
-      record {
-        within = f .within;
-        level = f .level;
-        page = f .page;
-        some = f .some;
-        rising = f .rising;
-        first = omega (arith, f .first, k .begun);
-      }
+  known-sought k = searched (here-inside k) (k .shown .0) (k .spans) (some-span k) (k .begun)
 
   -- one level down
   pub known-below : {l lo hi sums counts : ℕ} {x : Ent (Kid (suc (suc l)))} → Known half h t X S (suc l) lo hi sums counts x

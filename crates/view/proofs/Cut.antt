@@ -181,7 +181,7 @@ cut-up half t l x X S shown stock once g =
     rw (entries-are l X x shown, at-bare l (x .kid) (place t (bare (x .kid))))
     (one-up half t l x X S shown stock once (cut-entry half t l (there l t (x .kid) .entry) X) (cut-ent half t l (there l t (x .kid)) S) g)
 
-once-there : (t l : ℕ) (x : Ent (Kid (suc l))) (S : Supply)
+pub once-there : (t l : ℕ) (x : Ent (Kid (suc l))) (S : Supply)
     → Stocked (suc l) x
     → ((q : ℕ) → times q (pages-under (suc l) x) + times-spare q S ≤ 1)
     → (q : ℕ)
