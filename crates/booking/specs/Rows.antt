@@ -1,11 +1,14 @@
 -- "Turned back by the state": the rows of enter and withdraw that need the whole image. Assumes nothing.
-use Prim.Native.Nat.{ℕ}
-use mathlib.Core.Bool.{Bool, cond, not, _&&_}
+use Prim.Native.Nat.{ℕ, _<_}
+use mathlib.Core.Path.{_≡_}
+use mathlib.Core.Bool.{Bool, true, cond, not, _&&_}
 use mathlib.Core.List.{List, [], _∷_}
 use lib.Dec.{eqb}
-use Rattle.rule.specs.Time.{lengthened}
+use lib.IntN.{ℤ}
+use Rattle.rule.specs.Time.{value-ok, lengthened}
+use Rattle.page.specs.declared.Head.{Head}
 use Rattle.page.specs.Fit.{most-changes}
-use Rattle.image.specs.Images.{image-of}
+use Rattle.image.specs.Images.{length-ok, image-of}
 use Rattle.image.specs.Sound.{sound}
 use Rattle.steps.specs.Change.{lacks-pages}
 use Rattle.calls.specs.Refusals.{Row, first}
@@ -27,3 +30,10 @@ unfoldable pub judged : Side → ℕ → ℕ → List ℕ → Judged
 judged side s e img =
     let number = first (late-rows 12 side s e img) in
     cond (eqb number 0) (Accepted (head 12 img)) (Refused number)
+
+-- No row turns the booking back, and h is the image's head.
+pub record Accepts (side : Side) (v : ℤ) (s e : ℕ) (img : List ℕ) (h : Head) : Type 0 where
+  pub whole : length-ok 12 img ≡ true
+  pub span : s < e
+  pub fits : value-ok v ≡ true
+  pub judged-so : Accepted h ≡ judged side s e img

@@ -1,6 +1,8 @@
 // Enter and withdraw: the rows that turn a booking back, in document 01's order, and the change that an accepted one makes.
 use page::Head;
 
+pub mod book;
+pub mod changes;
 pub mod early;
 pub mod effects;
 pub mod judging;

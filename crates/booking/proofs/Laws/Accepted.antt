@@ -1,0 +1,100 @@
+-- What an accepted booking finds: an image that can be changed, and an effect within its bounds. Assumes nothing.
+use Prim.Native.Nat.{ℕ, _≤_, _<_}
+use mathlib.Core.Path.{_≡_, refl, _∙_, subst⁻¹}
+use mathlib.Core.Bool.{Bool, true, false, cond, not, _&&_, true≢false}
+use mathlib.Core.List.{List, [], _∷_}
+use mathlib.Core.Logic.{_≢_}
+use native.Mathlib.Omega.{arith}
+use lib.Dec.{eqb}
+use lib.IntN.{ℤ}
+use borrow.Author.Tests.{eqb-false}
+use Rattle.rule.specs.declared.Pair.{Pair}
+use Rattle.rule.specs.Time.{lengthened}
+use Rattle.rule.specs.Pairs.{combine}
+use Rattle.page.specs.declared.Head.{Head}
+use Rattle.page.specs.Fit.{most-changes}
+use Rattle.image.specs.Images.{Image, length-ok, image-of, image-bytes}
+use Rattle.image.specs.Sound.{sound}
+use Rattle.fields.proofs.Laws.Digits.{Bytes}
+use Rattle.steps.specs.Change.{lacks-pages, change}
+use Rattle.calls.specs.Refusals.{first}
+use Rattle.calls.specs.Changes.{Side, withdraws, effect}
+use Rattle.calls.specs.Calls.{head, changed}
+use Rattle.store.specs.Holding.{Holds, Some, Each}
+use Rattle.state.proofs.From.Good.{sound-good}
+use Rattle.change.specs.Ready.{Changeable}
+use Rattle.ready.proofs.Held.{sound-holds}
+use Rattle.ready.proofs.Changes.{changeable}
+use Rattle.demands.proofs.Change.{effective}
+use Rattle.booking.specs.declared.Judged.{Judged}
+use Rattle.booking.specs.declared.Judged.the-variants.{Accepted, Refused}
+use Rattle.booking.specs.Rows.{late-rows, judged, Accepts}
+
+-- the four tests are passed
+pub record Passed (unsound other full lacking : Bool) : Type 0 where
+  pub is-sound : unsound ≡ false
+  pub sided : other ≡ false
+  pub few : full ≡ false
+  pub enough : lacking ≡ false
+
+passed : (unsound other full lacking : Bool) {h g : Head}
+    → Accepted h ≡ cond (eqb (first ((21, unsound) ∷ (22, other) ∷ (23, full) ∷ (24, lacking) ∷ [])) 0) (Accepted g) (Refused (first ((21, unsound) ∷ (22, other) ∷ (23, full) ∷ (24, lacking) ∷ [])))
+    → Passed unsound other full lacking × (h ≡ g)
+unfolding first
+passed true other full lacking e = absurd (let z : _≡_ {A = ℕ} 0 1 = cc in omega arith)
+passed false true full lacking e = absurd (let z : _≡_ {A = ℕ} 0 1 = cc in omega arith)
+passed false false true lacking e = absurd (let z : _≡_ {A = ℕ} 0 1 = cc in omega arith)
+passed false false false true e = absurd (let z : _≡_ {A = ℕ} 0 1 = cc in omega arith)
+passed false false false false e = (record { is-sound = refl; sided = refl; few = refl; enough = refl }, cc)
+
+of-not : (b : Bool) → not b ≡ false → b ≡ true
+of-not true e = refl
+of-not false e = absurd (true≢false e)
+
+module _ {side : Side} {v : ℤ} {s e : ℕ} {img : List ℕ} {h : Head} (a : Accepts side v s e img h) where
+  facts : Passed (not (sound 12 img)) (withdraws side && not (eqb (head 12 img .kind) 1)) (eqb (head 12 img .changes) most-changes)
+      (lacks-pages 12 s (lengthened e (head 12 img .window)) (image-of 12 img))
+      × (h ≡ head 12 img)
+  unfolding judged
+  facts = passed _ _ _ _ (a .judged-so)
+
+  pub accepted-head : h ≡ head 12 img
+  accepted-head = facts .1
+
+  accepted-sound : sound 12 img ≡ true
+  accepted-sound = of-not _ (facts .0 .is-sound)
+
+  abbrev X : Image
+  X = image-of 12 img
+
+  -- where the effect ends
+  abbrev end : ℕ
+  end = lengthened e (head 12 img .window)
+
+  ready : Changeable (head 12 img .kind) s end (effect side v) X
+  unfolding image-of head
+  ready =
+      let g = sound-good 12 img (omega arith) (a .whole) accepted-sound in
+      let f = facts .0 in
+      let n : head 12 img .changes ≢ most-changes = eqb-false (head 12 img .changes) most-changes (f .few) in
+      changeable s end (effect side v) g (effective (head 12 img .kind) side v (a .fits) (f .sided))
+      (below (head 12 img .changes) most-changes (g .ranges .changes-most) n) (f .enough)
+    where
+      below : (m n : ℕ) → m ≤ n → m ≢ n → m < n
+      below m n l d = omega (arith, d)
+
+  module _ (bytes : Bytes img) {k to : ℕ} {p : Pair} (same-kind : k ≡ head 12 img .kind) (same-end : to ≡ end) (same-effect : p ≡ effect side v) where
+    ready-so : Changeable k s to p X
+    ready-so =
+        subst⁻¹ (λ j. Changeable j s to p X) same-kind
+        (subst⁻¹ (λ t. Changeable (head 12 img .kind) s t p X) same-end (subst⁻¹ (λ q. Changeable (head 12 img .kind) s end q X) same-effect ready))
+
+    holds : Holds img X
+    holds = sound-holds img (a .whole) bytes accepted-sound
+
+    pub accepted-some : Some img (Changeable k s to p)
+    accepted-some = record { image = X; holds = holds; ready = ready-so }
+
+    pub accepted-changed : {after : List ℕ} → Each img (Changeable k s to p) (λ Z. Holds after (change 12 (combine k) s to p Z)) → after ≡ changed 12 side v s e img
+    unfolding changed
+    accepted-changed g = g X holds ready-so .bytes ∙ (λ j. image-bytes 12 (change 12 (combine (same-kind j)) s (same-end j) (same-effect j) X))

@@ -1,0 +1,33 @@
+-- `booking::changes::make_change` meets its contract: what no row turns back can be changed. Assumes nothing.
+use mathlib.Core.Path.{ap, _∙_}
+use borrow.Author.Needs.{needs}
+use mir.Facts.{toZ-ofZ}
+use Rattle.rule.specs.Time.{lengthened}
+use Rattle.page.specs.declared.Head.{Head}
+use Rattle.booking.proofs.Laws.Accepted.{accepted-head, accepted-some, accepted-changed}
+use Rattle.booking.proofs.changes.make_change.Statement.{statement}
+use Rattle.booking.proofs.changes.make_change.Tie as tie
+
+apply-requires : tie.Need-apply-requires
+apply-requires c κs =
+    let far = c .before .before in
+    let known = far .before in
+    let start = known .before in
+    let h = accepted-head (start .pre) in
+    accepted-some (start .pre) (known .slice-known .given) (ap (λ (g : Head). g .kind) h)
+    (far .lengthened .ensures ∙ ap (λ (g : Head). lengthened (start .args .e) (g .window)) h) (rw (toZ-ofZ (start .fits .v)) at (c .effect .ensures))
+
+returns : tie.Need-returns
+returns c =
+    let did = c .before .before in
+    let effect = did .before in
+    let far = effect .before .before in
+    let known = far .before in
+    let start = known .before in
+    let h = accepted-head (start .pre) in
+    accepted-changed (start .pre) (known .slice-known .given) (ap (λ (g : Head). g .kind) h)
+    (far .lengthened .ensures ∙ ap (λ (g : Head). lengthened (start .args .e) (g .window)) h) (rw (toZ-ofZ (start .fits .v)) at (effect .effect .ensures)) (did .apply .ensures)
+
+pub make-change-spec : {M : Type 1} → statement M
+make-change-spec =
+    tie.close (tie.spec (λ c κs. search needs) (λ c κs. rw (toZ-ofZ (c .before .before .before .fits .v)) (c .before .before .before .pre .fits)) apply-requires (λ c. search needs) returns)

@@ -1,0 +1,18 @@
+// The change that an accepted booking makes.
+use crate::effects::effect;
+use change::apply::apply;
+use page::Head;
+use rule::time::lengthened;
+ghost use mathlib.Core.Path.{_≡_};
+ghost use Rattle.calls.specs.Calls.{changed};
+ghost use Rattle.booking.specs.Sides.{side-of};
+ghost use Rattle.booking.specs.Rows.{Accepts};
+
+// No row turns it back, so that every step finds its pages, and nothing overflows.
+pub fn make_change(img: &mut [u8], h: Head, withdraws: bool, v: i64, s: u32, e: u32)
+    requires { ⌜ Accepts (side-of withdraws) v s e (now img) h ⌝ }
+    ensures { λ _. ⌜ now (img .exit) ≡ changed 12 (side-of withdraws) v s e (now (img .entry)) ⌝ }
+{
+    let end = lengthened(e, h.window);
+    apply(img, h.kind, s, end, effect(withdraws, v))
+}
