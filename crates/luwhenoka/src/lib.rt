@@ -2,6 +2,7 @@
 // anything, and its contract says the number returned, the answer, and every byte of what was lent.
 pub mod audits;
 pub mod averages;
+pub mod bookings;
 pub mod formats;
 pub mod instants;
 pub mod listings;

@@ -1,0 +1,15 @@
+-- `luwhenoka::bookings::luw_enter` meets its contract. Assumes nothing.
+use borrow.Author.Needs.{needs}
+use mir.Facts.{toZ-ofZ}
+use Rattle.booking.specs.Sides.{side-of}
+use Rattle.luwhenoka.proofs.bookings.luw_enter.Statement.{statement}
+use Rattle.luwhenoka.proofs.bookings.luw_enter.Tie as tie
+
+returns : tie.Need-returns
+unfolding side-of
+returns c =
+    let did = c .before .before .before .before in
+    rw (toZ-ofZ (did .before .before .before .before .before .fits .v)) at (did .book .ensures)
+
+pub luw-enter-spec : {M : Type 1} → statement M
+luw-enter-spec = tie.close (tie.spec (λ c κs. search needs) (λ c. search needs) (λ c. search needs) returns)

@@ -1,0 +1,15 @@
+-- `luwhenoka::bookings::luw_withdraw` meets its contract. Assumes nothing.
+use borrow.Author.Needs.{needs}
+use mir.Facts.{toZ-ofZ}
+use Rattle.booking.specs.Sides.{side-of}
+use Rattle.luwhenoka.proofs.bookings.luw_withdraw.Statement.{statement}
+use Rattle.luwhenoka.proofs.bookings.luw_withdraw.Tie as tie
+
+returns : tie.Need-returns
+unfolding side-of
+returns c =
+    let did = c .before .before .before .before in
+    rw (toZ-ofZ (did .before .before .before .before .before .fits .v)) at (did .book .ensures)
+
+pub luw-withdraw-spec : {M : Type 1} → statement M
+luw-withdraw-spec = tie.close (tie.spec (λ c κs. search needs) (λ c. search needs) (λ c. search needs) returns)
