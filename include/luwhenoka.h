@@ -13,26 +13,31 @@
  * Buffers of one call must not overlap: nothing is promised where they do. Nor is it where somebody else writes one of them
  * during the call.
  *
- *   image     512 x n bytes for an n from 2 to 1,024, the pages of docs/FORMAT.md. Only luw_format writes it.
+ *   image     512 x n bytes for an n from 2 to 1,024, the pages of docs/FORMAT.md. Only luw_format,
+ *             luw_enter and luw_withdraw write it.
  *   scratch   at least n bytes, of any content.
  *   output    16 bytes for each run that a listing writes; any length.
  *
  * Numbers returned. 0 is accepted; every other number is a refusal. Where several would apply, the first of this order is
- * returned: 16, 17, 11 or 12, 14, 21, and 15 last.
+ * returned: 16, 17, 11 or 12, 13, 14, 21, 22, 23, 24, and 15 last.
  *
  *   turned back by the input
- *     11  LUW_SPAN_EMPTY      span with a >= b                                     listing
+ *     11  LUW_SPAN_EMPTY      span with s >= e, or a >= b                          enter, withdraw, listing
  *     12  LUW_INSTANT_END     instant LUW_END                                      instant, average
+ *     13  LUW_VALUE_RANGE     value outside its range                              enter, withdraw
  *     14  LUW_KIND_OR_WINDOW  kind or window outside its range                     format
  *     15  LUW_OUTPUT_SHORT    output shorter than the runs                         listing
  *     16  LUW_IMAGE_LENGTH    image length not 512 x n for an n in range           all but luw_average_of
- *     17  LUW_SCRATCH_SHORT   scratch shorter than n bytes                         audit
+ *     17  LUW_SCRATCH_SHORT   scratch shorter than n bytes                         audit, enter, withdraw
  *   turned back by the state
  *     21  LUW_UNSOUND         instant, average, listing: a page met is unfit;
- *                             audit: the image is not sound
+ *                             audit, enter, withdraw: the image is not sound
+ *     22  LUW_WITHDRAWAL_KIND the kind is 2 or 3                                   withdraw
+ *     23  LUW_CHANGES_FULL    the index has had 1,000,000,000 changes              enter, withdraw
+ *     24  LUW_PAGES_LACKING   the change takes more pages than are left            enter, withdraw
  *
  * A refusal returns its number with zeros for every answer (luw_instant: the pages read too), and image and output keep
- * their bytes. What becomes of the scratch is said at luw_audit.
+ * their bytes. What becomes of the scratch is said at luw_audit and luw_enter.
  */
 #ifndef LUWHENOKA_H
 #define LUWHENOKA_H
@@ -61,15 +66,22 @@ extern "C" {
 /* The greatest window. */
 #define LUW_MOST_WINDOW 1000000000
 
+/* The greatest value; the least is its opposite. */
+#define LUW_MOST_VALUE 1000000
+
 /* Numbers returned. */
 #define LUW_ACCEPTED 0
 #define LUW_SPAN_EMPTY 11
 #define LUW_INSTANT_END 12
+#define LUW_VALUE_RANGE 13
 #define LUW_KIND_OR_WINDOW 14
 #define LUW_OUTPUT_SHORT 15
 #define LUW_IMAGE_LENGTH 16
 #define LUW_SCRATCH_SHORT 17
 #define LUW_UNSOUND 21
+#define LUW_WITHDRAWAL_KIND 22
+#define LUW_CHANGES_FULL 23
+#define LUW_PAGES_LACKING 24
 
 /* Cases of an average. */
 #define LUW_NO_AVERAGE 0
@@ -159,6 +171,29 @@ struct luw_listing luw_listing(const uint8_t *image, size_t image_length, uint32
  * The first n bytes of the scratch are 0 after 0 and 21; any beyond keep theirs. At 16 and 17 the scratch is untouched.
  */
 uint32_t luw_audit(const uint8_t *image, size_t image_length, uint8_t *scratch, size_t scratch_length);
+
+/*
+ * Books the value v on the span [s, e): from s up to but not including e + window, or LUW_END if that is less, it counts at
+ * every instant. Kind 1 adds v to the sum and 1 to the count there; kinds 2 and 3 keep the greatest or least value.
+ *
+ * A refused change leaves every byte of the image. An accepted one leaves a sound image whose count of changes is one
+ * higher. It may cut the tree's entries at both ends of what it covers, and each cut may take a page a level, and one more
+ * for a new root, from the chain of free pages or at the high mark; 24 tells that there are not so many left.
+ *
+ * Refusals: 16, 17, 11, 13, 21, 23, 24. The first n bytes of the scratch are 0 after 0, 21, 22, 23 and 24; any beyond keep
+ * theirs. At 16, 17, 11 and 13 the scratch is untouched.
+ */
+uint32_t luw_enter(uint8_t *image, size_t image_length, uint8_t *scratch, size_t scratch_length,
+                   int64_t v, uint32_t s, uint32_t e);
+
+/*
+ * Takes the value v on the span [s, e) away again: -v and -1 are added where luw_enter would add v and 1, whether or not
+ * such a booking is live. Kind 1 only. A withdrawal may need a page too, and be refused with 24.
+ *
+ * Refusals: 16, 17, 11, 13, 21, 22, 23, 24; image and scratch as at luw_enter.
+ */
+uint32_t luw_withdraw(uint8_t *image, size_t image_length, uint8_t *scratch, size_t scratch_length,
+                      int64_t v, uint32_t s, uint32_t e);
 
 #ifdef __cplusplus
 }

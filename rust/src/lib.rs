@@ -214,7 +214,6 @@ pub fn audit(image: &[u8], scratch: &mut [u8]) -> Result<(), Refusal> {
 /// assert_eq!(instant(&image, 40)?.sum, 0);
 /// # Ok::<(), luwhenoka::Refusal>(())
 /// ```
-#[cfg(feature = "booking")]
 pub fn enter(image: &mut [u8], scratch: &mut [u8], v: i64, s: u32, e: u32) -> Result<(), Refusal> {
     Refusal::result(raw::enter(image, scratch, v, s, e))
 }
@@ -232,7 +231,6 @@ pub fn enter(image: &mut [u8], scratch: &mut [u8], v: i64, s: u32, e: u32) -> Re
 /// assert_eq!(instant(&image, 39)?.count, 0);
 /// # Ok::<(), luwhenoka::Refusal>(())
 /// ```
-#[cfg(feature = "booking")]
 pub fn withdraw(image: &mut [u8], scratch: &mut [u8], v: i64, s: u32, e: u32) -> Result<(), Refusal> {
     Refusal::result(raw::withdraw(image, scratch, v, s, e))
 }

@@ -21,7 +21,6 @@ pub mod ffi {
             output_length: usize,
         ) -> Listing;
         pub fn luw_audit(image: *const u8, image_length: usize, scratch: *mut u8, scratch_length: usize) -> u32;
-        #[cfg(feature = "booking")]
         pub fn luw_enter(
             image: *mut u8,
             image_length: usize,
@@ -31,7 +30,6 @@ pub mod ffi {
             s: u32,
             e: u32,
         ) -> u32;
-        #[cfg(feature = "booking")]
         pub fn luw_withdraw(
             image: *mut u8,
             image_length: usize,
@@ -95,12 +93,10 @@ pub fn audit(image: &[u8], scratch: &mut [u8]) -> u32 {
     unsafe { ffi::luw_audit(image.as_ptr(), image.len(), scratch.as_mut_ptr(), scratch.len()) }
 }
 
-#[cfg(feature = "booking")]
 pub fn enter(image: &mut [u8], scratch: &mut [u8], v: i64, s: u32, e: u32) -> u32 {
     unsafe { ffi::luw_enter(image.as_mut_ptr(), image.len(), scratch.as_mut_ptr(), scratch.len(), v, s, e) }
 }
 
-#[cfg(feature = "booking")]
 pub fn withdraw(image: &mut [u8], scratch: &mut [u8], v: i64, s: u32, e: u32) -> u32 {
     unsafe { ffi::luw_withdraw(image.as_mut_ptr(), image.len(), scratch.as_mut_ptr(), scratch.len(), v, s, e) }
 }

@@ -187,6 +187,47 @@ static void damage(void) {
     printf("25 entries in a page: refused with %d\n", LUW_UNSOUND);
 }
 
+/* Twelve bookings by the calls make the image that was laid down by hand; withdrawn in turn, one entry is left. */
+static void changes(void) {
+    static uint8_t expected[sizeof image];
+    twelve_bookings();
+    memcpy(expected, image, sizeof image);
+    CHECK(luw_format(image, sizeof image, LUW_TOTALS, 0) == LUW_ACCEPTED);
+    for (uint32_t i = 1; i <= 12; i++) {
+        CHECK(luw_enter(image, sizeof image, scratch, PAGES, 1, 10 * i, 10 * i + 5) == LUW_ACCEPTED);
+    }
+    CHECK(memcmp(image, expected, sizeof image) == 0);
+    CHECK(luw_withdraw(image, 3 * 512, scratch, PAGES, 1, 10, 15) == LUW_UNSOUND);
+    CHECK(memcmp(image, expected, sizeof image) == 0);
+    for (uint32_t i = 12; i >= 1; i--) {
+        CHECK(luw_withdraw(image, sizeof image, scratch, PAGES, 1, 10 * i, 10 * i + 5) == LUW_ACCEPTED);
+    }
+    CHECK(luw_audit(image, sizeof image, scratch, PAGES) == LUW_ACCEPTED);
+    CHECK(listed(luw_listing(image, sizeof image, 0, LUW_END, output, sizeof output), LUW_ACCEPTED, 1));
+    printf("12 entered and withdrawn: %" PRIu64 " changes, height %" PRIu64 "\n", get(image + 32, 4), get(image + 4, 4));
+}
+
+static void refused_changes(void) {
+    memset(scratch, 9, sizeof scratch);
+    CHECK(luw_enter(image, 511, scratch, PAGES, 1, 1, 2) == LUW_IMAGE_LENGTH);
+    CHECK(luw_enter(image, sizeof image, scratch, PAGES - 1, 1, 5, 5) == LUW_SCRATCH_SHORT);
+    CHECK(luw_enter(image, sizeof image, scratch, PAGES, LUW_MOST_VALUE + 1, 5, 5) == LUW_SPAN_EMPTY);
+    CHECK(luw_withdraw(image, sizeof image, scratch, PAGES, -LUW_MOST_VALUE - 1, 5, 6) == LUW_VALUE_RANGE);
+    CHECK(all(scratch, sizeof scratch, 9));
+    CHECK(luw_format(image, sizeof image, LUW_GREATEST, 20) == LUW_ACCEPTED);
+    CHECK(luw_enter(image, sizeof image, scratch, PAGES, 4, 35, 45) == LUW_ACCEPTED);
+    CHECK(holds(luw_instant(image, sizeof image, 64), 4, 1, 1) && holds(luw_instant(image, sizeof image, 65), 0, 0, 1));
+    CHECK(luw_withdraw(image, sizeof image, scratch, PAGES, 4, 35, 45) == LUW_WITHDRAWAL_KIND);
+    CHECK(all(scratch, PAGES, 0) && all(scratch + PAGES, 2, 9));
+    put(0, 32, 1000000000, 4);
+    CHECK(luw_enter(image, sizeof image, scratch, PAGES, 4, 35, 45) == LUW_CHANGES_FULL);
+    CHECK(luw_format(image, 3 * 512, LUW_TOTALS, 0) == LUW_ACCEPTED);
+    for (uint32_t i = 1; i <= 11; i++) {
+        CHECK(luw_enter(image, 3 * 512, scratch, 3, 1, 10 * i, 10 * i + 5) == LUW_ACCEPTED);
+    }
+    printf("the twelfth in three pages: refused with %" PRIu32 "\n", luw_enter(image, 3 * 512, scratch, 3, 1, 120, 125));
+}
+
 int main(void) {
     formats();
     twelve_bookings();
@@ -195,6 +236,8 @@ int main(void) {
     listings();
     audits();
     damage();
+    changes();
+    refused_changes();
     printf("all as expected\n");
     return 0;
 }

@@ -2,7 +2,6 @@
 //!
 //!     cargo run --release --offline --manifest-path tests/bench/Cargo.toml --target-dir target/cargo
 
-#[cfg(feature = "booking")]
 mod booking;
 mod measure;
 mod reading;
@@ -22,6 +21,5 @@ fn main() {
     reading::instants_by_height();
     reading::audits();
     reading::listings();
-    #[cfg(feature = "booking")]
     booking::changes();
 }

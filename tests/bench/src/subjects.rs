@@ -101,7 +101,6 @@ impl RunMap {
     }
 
     /// Adds v and count over [s, e) and joins what has become equal at both ends.
-    #[cfg_attr(not(feature = "booking"), allow(dead_code))]
     pub fn change(&mut self, v: i64, count: i32, s: u32, e: u32) {
         for t in [s, e] {
             let before = self.pair_at(t);

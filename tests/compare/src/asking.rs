@@ -47,29 +47,14 @@ impl Comparer {
 
     // ------------------------------------------------------------ changes
 
-    /// Enters, or withdraws, and goes on with the image that it leaves; the number returned. Until the library has these
-    /// calls, the plain version does it.
+    /// Enters, or withdraws, and goes on with the image that it leaves; the number returned.
     pub fn book(&mut self, withdrawal: bool, v: i64, s: u32, e: u32) -> u32 {
-        #[cfg(feature = "booking")]
-        {
-            let scratch = self.pages() + self.random.below(3);
-            self.ask(change(withdrawal, v, s, e), scratch, 0).number
-        }
-        #[cfg(not(feature = "booking"))]
-        {
-            let mut image = self.image().to_vec();
-            let change = if withdrawal { crate::images::withdraw } else { crate::images::enter };
-            let number = change(&mut image, v, s, e);
-            if number == 0 {
-                self.lend(&image);
-            }
-            number
-        }
+        let scratch = self.pages() + self.random.below(3);
+        self.ask(change(withdrawal, v, s, e), scratch, 0).number
     }
 
-    /// A change of each sort, and back to the image as it was; nothing until the library has these calls.
+    /// A change of each sort, and back to the image as it was.
     pub fn changes_and_back(&mut self) {
-        #[cfg(feature = "booking")]
         for withdrawal in [false, true] {
             let before = self.image().to_vec();
             let (s, length) = (self.random.below(300) as u32, 1 + self.random.below(200) as u32);
@@ -81,7 +66,6 @@ impl Comparer {
     }
 }
 
-#[cfg(feature = "booking")]
 pub fn change(withdrawal: bool, v: i64, s: u32, e: u32) -> Call {
     if withdrawal {
         Call::Withdraw { v, s, e }

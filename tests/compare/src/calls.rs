@@ -5,38 +5,14 @@ use plain::Average;
 
 #[derive(Clone, Copy, PartialEq, Eq, Debug)]
 pub enum Call {
-    Format {
-        kind: u32,
-        window: u32,
-    },
-    Instant {
-        t: u32,
-    },
-    Average {
-        t: u32,
-    },
-    AverageOf {
-        kind: u32,
-        sum: i64,
-        count: i32,
-    },
-    Listing {
-        a: u32,
-        b: u32,
-    },
+    Format { kind: u32, window: u32 },
+    Instant { t: u32 },
+    Average { t: u32 },
+    AverageOf { kind: u32, sum: i64, count: i32 },
+    Listing { a: u32, b: u32 },
     Audit,
-    #[cfg(feature = "booking")]
-    Enter {
-        v: i64,
-        s: u32,
-        e: u32,
-    },
-    #[cfg(feature = "booking")]
-    Withdraw {
-        v: i64,
-        s: u32,
-        e: u32,
-    },
+    Enter { v: i64, s: u32, e: u32 },
+    Withdraw { v: i64, s: u32, e: u32 },
 }
 
 /// Each call's name and the numbers that it can return: every one has to occur.
@@ -47,9 +23,7 @@ pub const NAMES: &[(&str, &[u32])] = &[
     ("average_of", &[0]),
     ("listing", &[0, 11, 15, 16, 21]),
     ("audit", &[0, 16, 17, 21]),
-    #[cfg(feature = "booking")]
     ("enter", &[0, 11, 13, 16, 17, 21, 23, 24]),
-    #[cfg(feature = "booking")]
     ("withdraw", &[0, 11, 13, 16, 17, 21, 22, 23, 24]),
 ];
 
@@ -63,9 +37,7 @@ impl Call {
             Call::AverageOf { .. } => 3,
             Call::Listing { .. } => 4,
             Call::Audit => 5,
-            #[cfg(feature = "booking")]
             Call::Enter { .. } => 6,
-            #[cfg(feature = "booking")]
             Call::Withdraw { .. } => 7,
         }
     }
@@ -136,9 +108,7 @@ pub fn by_plain(call: Call, lent: Lent) -> Answer {
             Answer { number, runs, ..Answer::default() }
         }
         Call::Audit => Answer::number(plain::audit(image, scratch)),
-        #[cfg(feature = "booking")]
         Call::Enter { v, s, e } => Answer::number(plain::enter(image, scratch, v, s, e)),
-        #[cfg(feature = "booking")]
         Call::Withdraw { v, s, e } => Answer::number(plain::withdraw(image, scratch, v, s, e)),
     }
 }
@@ -174,11 +144,9 @@ pub fn by_library(call: Call, lent: Lent, null: bool) -> Answer {
                 Answer { number: answer.number, ..Answer::runs(answer.runs) }
             }
             Call::Audit => Answer::number(ffi::luw_audit(image, image_length, scratch, scratch_length)),
-            #[cfg(feature = "booking")]
             Call::Enter { v, s, e } => {
                 Answer::number(ffi::luw_enter(image, image_length, scratch, scratch_length, v, s, e))
             }
-            #[cfg(feature = "booking")]
             Call::Withdraw { v, s, e } => {
                 Answer::number(ffi::luw_withdraw(image, image_length, scratch, scratch_length, v, s, e))
             }

@@ -41,14 +41,12 @@ fn images(comparer: &mut Comparer) {
         for scratch in [0, 1, length / 512, length / 512 + 1] {
             comparer.ask(Call::Audit, scratch, 0);
         }
-        #[cfg(feature = "booking")]
         changes(comparer);
         comparer.format(1, 0);
         comparer.format(0, 0);
     }
 }
 
-#[cfg(feature = "booking")]
 fn changes(comparer: &mut Comparer) {
     let n = comparer.pages();
     for scratch in [0, n.saturating_sub(1), n, n + 1] {
@@ -66,11 +64,8 @@ fn scratches(comparer: &mut Comparer, pool: &Pool) {
         let n = comparer.pages();
         for scratch in [0, 1, n / 8, n - 1, n, n + 1, n + 9, 2 * n, 5_000] {
             comparer.ask(Call::Audit, scratch, 0);
-            #[cfg(feature = "booking")]
-            {
-                comparer.ask(Call::Enter { v: 2, s: 7, e: END }, scratch, 0);
-                comparer.ask(Call::Withdraw { v: 2, s: 7, e: END }, scratch, 0);
-            }
+            comparer.ask(Call::Enter { v: 2, s: 7, e: END }, scratch, 0);
+            comparer.ask(Call::Withdraw { v: 2, s: 7, e: END }, scratch, 0);
         }
     }
 }
@@ -139,10 +134,7 @@ fn above_32_bits() {
     let listed = raw::listing(&image, 3, END, vast.lent());
     assert_eq!(Answer { number: listed.number, ..Answer::runs(listed.runs) }, Answer::runs(1));
     assert_eq!(vast.lent()[..4], [3, 0, 0, 0]);
-    #[cfg(feature = "booking")]
-    {
-        let mut image = image.clone();
-        assert_eq!(raw::enter(&mut image, vast.lent(), 6, 10, 40), 0);
-        assert_eq!(raw::withdraw(&mut image, vast.lent(), 6, 10, 40), 0);
-    }
+    let mut image = image.clone();
+    assert_eq!(raw::enter(&mut image, vast.lent(), 6, 10, 40), 0);
+    assert_eq!(raw::withdraw(&mut image, vast.lent(), 6, 10, 40), 0);
 }

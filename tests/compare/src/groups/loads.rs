@@ -107,7 +107,6 @@ fn value(comparer: &mut Comparer) -> i64 {
 // ---------------------------------------------------------------- up and down again
 
 /// Bookings one by one up to height 4 and withdrawn again in some order; then full images, at the brim.
-#[cfg(feature = "booking")]
 pub fn tides(comparer: &mut Comparer, pool: &Pool, part: usize) {
     use crate::images::{head, CHANGES, HEIGHT};
     comparer.lend(&fresh(1_024, 1, 0));

@@ -63,7 +63,6 @@ pub const GROUPS: &[Group] = &[
         random: true,
         run: damage::stale,
     },
-    #[cfg(feature = "booking")]
     Group {
         name: "tides",
         what: "heights 1 to 4 and back, and changes at the brim",

@@ -27,7 +27,6 @@ pub fn refusals(comparer: &mut Comparer, _: &Pool, _: usize) {
             instants(comparer, &image, cut);
             listings(comparer, &image, cut);
             audits(comparer, &image, cut);
-            #[cfg(feature = "booking")]
             changes(comparer, &image, cut);
         }
     }
@@ -92,7 +91,6 @@ fn audits(comparer: &mut Comparer, image: &[u8], cut: usize) {
     }
 }
 
-#[cfg(feature = "booking")]
 fn changes(comparer: &mut Comparer, image: &[u8], cut: usize) {
     use crate::images::{head, CHANGES};
     let (n, kind) = (image.len() / 512, head(image, KIND));
