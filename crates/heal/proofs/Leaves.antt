@@ -1,5 +1,5 @@
 -- The place of an instant is an entry's, and what becomes of a leaf. Assumes nothing.
-use mathlib.Core.Path.{_≡_, refl, sym, ap, _∙_}
+use mathlib.Core.Path.{_≡_, sym, ap, _∙_}
 use mathlib.Core.Bool.{Bool, true, false, cond, _&&_}
 use mathlib.Core.List.{List, [], _∷_}
 use Prim.Native.Nat.{ℕ, zero, suc, _+_, _-_, _≤_, _<_}
@@ -7,7 +7,6 @@ use native.Mathlib.Omega.{arith}
 use lib.Dec.{eqb, leb, ltb}
 use lib.ListN.{length}
 use borrow.Author.Tests.{lt-ltb, le-ltb}
-use Rattle.rule.specs.declared.Pair.{Pair}
 use Rattle.rule.specs.Pairs.{same-pair}
 use Rattle.page.specs.declared.Entry.{Entry}
 use Rattle.page.specs.declared.Page.{Page}
@@ -19,7 +18,6 @@ use Rattle.steps.specs.Supply.{entries, put}
 use Rattle.steps.specs.Heal.{heals}
 use Rattle.store.specs.Holding.{Loaded}
 use Rattle.store.specs.Places.{Sought}
-use Rattle.siblings.specs.Ready.{Treed, Leveled}
 use Rattle.heal.specs.Ready.{Parent, healed-leaf}
 
 -- ---- the place

@@ -1,7 +1,7 @@
 -- A root that shrinks, and one that stays. Assumes nothing.
 use mathlib.Core.Path.{_≡_, sym, ap, _∙_, subst}
-use mathlib.Core.Bool.{true, false, cond, _&&_, and-false}
-use Prim.Native.Nat.{ℕ, suc, _-_, _≤_, _<_}
+use mathlib.Core.Bool.{Bool, false, cond, _&&_, and-false}
+use Prim.Native.Nat.{ℕ, _-_, _<_}
 use native.Mathlib.Omega.{arith}
 use lib.Dec.{eqb, ltb}
 use lib.ListN.{length}
@@ -12,7 +12,7 @@ use Rattle.page.specs.declared.Head.{Head}
 use Rattle.page.specs.declared.Page.{Page}
 use Rattle.page.specs.Decoded.{shown}
 use Rattle.page.specs.Entries.{at}
-use Rattle.image.specs.Images.{Image, Cell, tree}
+use Rattle.image.specs.Images.{Image, tree}
 use Rattle.edit.specs.Shows.{Shows}
 use Rattle.steps.specs.Supply.{entries, put, given-back, with-root}
 use Rattle.steps.specs.Heal.{pushed, lowered, shrunk, heal-page, heal}
@@ -41,7 +41,8 @@ module _ (kind : ℕ) (X : Image) where
   pub shrunk-wide : (root-entries ≡ 1 → ⊥) → X ≡ shrunk (combine kind) X
   unfolding shrunk
   shrunk-wide h =
-      let e : ltb 1 (X .head .height) && eqb root-entries 1 ≡ false = ap (λ b. ltb 1 (X .head .height) && b) (ne-eqb root-entries 1 h) ∙ and-false (ltb 1 (X .head .height)) in
+      let high : Bool = ltb 1 (X .head .height) in
+      let e : high && eqb root-entries 1 ≡ false = ap (λ b. high && b) (ne-eqb root-entries 1 h) ∙ and-false high in
       ap (λ b. cond b (lowered (combine kind) X) X) (sym e)
 
   pub shrunk-lowered : 1 < X .head .height → root-entries ≡ 1 → lowered (combine kind) X ≡ shrunk (combine kind) X
@@ -52,7 +53,8 @@ module _ (kind : ℕ) (X : Image) where
   -- the head that was read, the root's entry, and the page under it
   pub lowered-is : {h : Head} {e : Entry} {page : Page} → h ≡ X .head → e ≡ at (entries X (X .head .root)) 0
       → Shows (X .head .height - 2) (pushed (combine kind) X (at (entries X (X .head .root)) 0)) page
-      → with-root (h .height - 1) (e .child) (given-back (h .root) (put (e .child) (tree (page .level) (shown page)) X)) ≡ lowered (combine kind) X
+      → with-root (h .height - 1) (e .child) (given-back (h .root) (put (e .child) (tree (page .level) (shown page)) X))
+      ≡ lowered (combine kind) X
   unfolding lowered
   lowered-is h e s =
       λ j.

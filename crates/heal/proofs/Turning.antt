@@ -1,6 +1,6 @@
 -- A page that was left short: its neighbour is there, and gives or joins. Assumes nothing.
 use mathlib.Core.Path.{_≡_, refl, sym, ap, _∙_, subst}
-use mathlib.Core.Bool.{true, false, cond}
+use mathlib.Core.Bool.{Bool, true, false, cond}
 use Prim.Native.Nat.{ℕ, zero, suc, _+_, _-_, _≤_, _<_}
 use native.Mathlib.Omega.{arith}
 use lib.Dec.{eqb, ltb}
@@ -11,7 +11,7 @@ use Rattle.page.specs.Entries.{at}
 use Rattle.image.specs.Images.{Image}
 use Rattle.steps.specs.Supply.{entries}
 use Rattle.steps.specs.Heal.{neighbour, left-of, give, merge, turn}
-use Rattle.siblings.specs.Ready.{Treed, Leveled, Sharable, Mergeable}
+use Rattle.siblings.specs.Ready.{Treed, Sharable, Mergeable}
 use Rattle.heal.specs.Ready.{Parent, Turnable}
 
 -- ---- the two places, and how many entries the left one has
@@ -123,6 +123,12 @@ module _ {level p i l n : ℕ} {X : Image} (at-left : l ≡ left-of i) (has : n 
       subst (λ l. Mergeable level p l X) (sym at-left)
       (record { siblings = s .siblings; few = omega (arith, both-sizes p i X, s .short); room = s .room })
 
+-- what it leaves, by whether the neighbour has more than 12
+abbrev decided : Bool → ℕ → ℕ → ℕ → ℕ → Image → Image
+decided b kind level p i X =
+    let k = cond (eqb i 0) 12 (under p X (neighbour i) - 1) in
+    cond b (give (combine kind) level p (left-of i) k X) (merge (combine kind) level p (left-of i) X)
+
 module _ (kind level p i : ℕ) (X : Image) {l n : ℕ} (at-left : l ≡ left-of i) (has : n ≡ under p X (neighbour i)) where
   pub turn-gave : {k : ℕ} → k ≡ cond (eqb i 0) 12 (n - 1) → 12 < n → give (combine kind) level p l k X ≡ turn 12 (combine kind) level p i X
   unfolding turn
@@ -130,13 +136,11 @@ module _ (kind level p i : ℕ) (X : Image) {l n : ℕ} (at-left : l ≡ left-of
       let m : ℕ = under p X (neighbour i) in
       let share : k ≡ cond (eqb i 0) 12 (m - 1) = e ∙ ap (λ n. cond (eqb i 0) 12 (n - 1)) has in
       let many : ltb 12 m ≡ true = lt-ltb 12 m (omega arith) in
-      (λ j. give (combine kind) level p (at-left j) (share j) X)
-      ∙ ap (λ b. cond b (give (combine kind) level p (left-of i) (cond (eqb i 0) 12 (m - 1)) X) (merge (combine kind) level p (left-of i) X)) (sym many)
+      (λ j. give (combine kind) level p (at-left j) (share j) X) ∙ ap (λ b. decided b kind level p i X) (sym many)
 
   pub turn-merged : n ≤ 12 → merge (combine kind) level p l X ≡ turn 12 (combine kind) level p i X
   unfolding turn
   turn-merged few =
       let m : ℕ = under p X (neighbour i) in
       let many : ltb 12 m ≡ false = le-ltb 12 m (omega arith) in
-      (λ j. merge (combine kind) level p (at-left j) X)
-      ∙ ap (λ b. cond b (give (combine kind) level p (left-of i) (cond (eqb i 0) 12 (m - 1)) X) (merge (combine kind) level p (left-of i) X)) (sym many)
+      (λ j. merge (combine kind) level p (at-left j) X) ∙ ap (λ b. decided b kind level p i X) (sym many)

@@ -1,9 +1,8 @@
 -- The way down and back up: what a page asks of its child, and what it leaves. Assumes nothing.
-use mathlib.Core.Path.{_≡_, refl, sym, ap, _∙_, subst}
-use mathlib.Core.Bool.{true, false, cond}
-use Prim.Native.Nat.{ℕ, zero, suc, _-_, _≤_, _<_}
+use mathlib.Core.Path.{_≡_, sym, ap, _∙_, subst}
+use mathlib.Core.Bool.{true, cond}
+use Prim.Native.Nat.{ℕ, suc, _-_, _≤_, _<_}
 use native.Mathlib.Omega.{arith}
-use lib.Dec.{ltb}
 use lib.ListN.{length}
 use borrow.Author.Tests.{lt-ltb, le-ltb}
 use Rattle.rule.specs.Pairs.{combine}
@@ -11,7 +10,9 @@ use Rattle.page.specs.Entries.{at, place}
 use Rattle.image.specs.Images.{Image}
 use Rattle.steps.specs.Supply.{entries}
 use Rattle.steps.specs.Heal.{short, turn, heal-page}
-use Rattle.heal.specs.Ready.{Leaf-healable, healed-leaf, child-on, Turnable, Settles, settled, Inner-healable, Page-healable}
+use Rattle.store.specs.Places.{Sought}
+use Rattle.heal.specs.Ready.{Parent, Leaf-healable, healed-leaf, child-on, Turnable, Settles, settled, Inner-healable, Page-healable}
+use Rattle.heal.proofs.Leaves.{sought-parent}
 
 -- ---- a child page that was healed
 
@@ -34,45 +35,56 @@ module _ (q : ℕ) {n : ℕ} (X : Image) (has : n ≡ length (entries X q)) wher
 
 -- ---- a leaf
 
-module _ (kind t p : ℕ) (X : Image) where
-  pub leaf-ready : {level : ℕ} → level ≡ 0 → Page-healable kind t level p X → Leaf-healable t p X
+module _ (kind t p : ℕ) (X : Image) {level : ℕ} (e : level ≡ 0) where
+  pub leaf-ready : Page-healable kind t level p X → Leaf-healable t p X
   unfolding Page-healable
-  leaf-ready e r = subst (λ l. Page-healable kind t l p X) e r
+  leaf-ready r = subst (λ l. Page-healable kind t l p X) e r
 
-  pub leaf-done : {level : ℕ} → level ≡ 0 → healed-leaf t p X ≡ heal-page 12 (combine kind) t level p X
+  pub leaf-done : healed-leaf t p X ≡ heal-page 12 (combine kind) t level p X
   unfolding heal-page healed-leaf
-  leaf-done e = ap (λ l. heal-page 12 (combine kind) t l p X) (sym e)
+  leaf-done = ap (λ l. heal-page 12 (combine kind) t l p X) (sym e)
 
-  -- ---- an inner page
+-- ---- an inner page
 
-  -- what an inner page of a level above l asks
-  abbrev pub Inner : ℕ → Type 0
-  Inner l = Inner-healable kind t l p (λ q Y. Page-healable kind t l q Y) X
+-- the place of t that was found in page p, and the child page there
+pub record Went (t p i q : ℕ) (X : Image) : Type 0 where
+  pub found : i ≡ place t (entries X p)
+  pub child : q ≡ at (entries X p) i .child
 
-  pub inner-ready : {level : ℕ} → (level ≡ 0 → ⊥) → Page-healable kind t level p X → Inner (level - 1)
+module _ (kind t p : ℕ) (X : Image) {level : ℕ} (e : level ≡ 0 → ⊥) where
+  inner : Page-healable kind t level p X → Inner-healable kind t (level - 1) p (λ q Y. Page-healable kind t (level - 1) q Y) X
   unfolding Page-healable
-  inner-ready {level} e r =
+  inner r =
       let above : level ≡ suc (level - 1) = omega arith in
       subst (λ l. Page-healable kind t l p X) above r
 
-  -- i is the place of t in the page, and q the child page there
-  module _ {i q : ℕ} (found : i ≡ place t (entries X p)) (child : q ≡ at (entries X p) i .child) where
+  pub inner-sought : Page-healable kind t level p X → Sought p t X
+  inner-sought r = inner r .sought
+
+  pub inner-parent : {i : ℕ} → Page-healable kind t level p X → (Sought p t X → i ≡ place t (entries X p)) → Parent p i X
+  inner-parent r found = sought-parent (inner r .sought) (found (inner r .sought))
+
+  pub inner-went : {i q : ℕ} → Page-healable kind t level p X
+      → (Sought p t X → i ≡ place t (entries X p)) → (Parent p i X → q ≡ at (entries X p) i .child) → Went t p i q X
+  inner-went r found child = record { found = found (inner r .sought); child = child (inner-parent r found) }
+
+  module _ {i q : ℕ} (g : Went t p i q X) where
     on : q ≡ child-on t p X
-    on = child ∙ ap (λ k. at (entries X p) k .child) found
+    on = g .child ∙ ap (λ k. at (entries X p) k .child) (g .found)
 
-    pub inner-below : (level : ℕ) → Inner level → Page-healable kind t level q X
-    inner-below level r = subst (λ q. Page-healable kind t level q X) (sym on) (r .below)
+    pub inner-below : Page-healable kind t level p X → Page-healable kind t (level - 1) q X
+    inner-below r = subst (λ q. Page-healable kind t (level - 1) q X) (sym on) (inner r .below)
 
-    pub inner-settles : (level : ℕ) → Inner level → Settles level p i q (heal-page 12 (combine kind) t level q X)
-    inner-settles level r =
-        subst (λ k. Settles level p k q (heal-page 12 (combine kind) t level q X)) (sym found)
-        (subst (λ q. Settles level p (place t (entries X p)) q (heal-page 12 (combine kind) t level q X)) (sym on) (r .settles))
+    pub inner-settles : Page-healable kind t level p X → Settles (level - 1) p i q (heal-page 12 (combine kind) t (level - 1) q X)
+    inner-settles r =
+        let Y : ℕ → Image = λ q. heal-page 12 (combine kind) t (level - 1) q X in
+        subst (λ k. Settles (level - 1) p k q (Y q)) (sym (g .found))
+        (subst (λ q. Settles (level - 1) p (place t (entries X p)) q (Y q)) (sym on) (inner r .settles))
 
-  pub inner-done : {level i q : ℕ} → (level ≡ 0 → ⊥) → i ≡ place t (entries X p) → q ≡ at (entries X p) i .child
-      → settled kind (level - 1) p i q (heal-page 12 (combine kind) t (level - 1) q X) ≡ heal-page 12 (combine kind) t level p X
-  unfolding heal-page settled
-  inner-done {level} e found child =
-      let above : suc (level - 1) ≡ level = omega arith in
-      let o = on found child in
-      (λ j. settled kind (level - 1) p (found j) (o j) (heal-page 12 (combine kind) t (level - 1) (o j) X))
-      ∙ ap (λ l. heal-page 12 (combine kind) t l p X) above
+    pub inner-done :
+        settled kind (level - 1) p i q (heal-page 12 (combine kind) t (level - 1) q X) ≡ heal-page 12 (combine kind) t level p X
+    unfolding heal-page settled
+    inner-done =
+        let above : suc (level - 1) ≡ level = omega arith in
+        (λ j. settled kind (level - 1) p (g .found j) (on j) (heal-page 12 (combine kind) t (level - 1) (on j) X))
+        ∙ ap (λ l. heal-page 12 (combine kind) t l p X) above

@@ -18,7 +18,8 @@ pub record Parent (p i : ℕ) (X : Image) : Type 0 where
   pub treed : Leveled (λ level. Treed level p) X
   pub inside : i < length (entries X p)
 
--- The page under the i-th entry of page p was left short and turns to its neighbour: a give takes no page, a merge gives the right one back.
+-- "A page other than the root left with 11 turns to its left neighbour under the same parent, else the right": the page under the i-th
+-- entry of page p can. Its neighbour gives, or the right one of the two is given back.
 pub record Turnable (level p i : ℕ) (X : Image) : Type 0 where
   pub siblings : Siblings level p (left-of i) X
   pub short : length (entries X (at (entries X p) i .child)) < 12
@@ -55,23 +56,25 @@ pub record Inner-healable (kind t level p : ℕ) (Below : ℕ → Image → Type
   pub below : Below (child-on t p X) X
   pub settles : Settles level p (place t (entries X p)) (child-on t p X) (heal-page 12 (combine kind) t level (child-on t p X) X)
 
+-- page p of the level named
 unfoldable pub Page-healable : ℕ → ℕ → ℕ → ℕ → Image → Type 0
 Page-healable kind t zero p X = Leaf-healable t p X
 Page-healable kind t (suc l) p X = Inner-healable kind t l p (λ q Y. Page-healable kind t l q Y) X
 
--- "An inner root with one entry combines its pair into its child's entries, is given back"
+-- "An inner root with one entry combines its pair into its child's entries, is given back, and the child becomes root."
 pub record Lowerable (X : Image) : Type 0 where
   pub low : X .head .height - 2 < 255
   pub child : Sinkable (X .head .height - 2) (at (entries X (X .head .root)) 0) X
   pub room : suc (X .head .chain) < 2 ^ 32
 
--- the root is such a one
+-- the root is such a one, and can
 pub record Lowers (X : Image) : Type 0 where
   pub inner : 1 < X .head .height
   pub root : Treed (X .head .height - 1) (X .head .root) X
   pub one : length (entries X (X .head .root)) ≡ 1
   pub lowers : Lowerable X
 
+-- the root can be read, and can go if it is such a one
 pub record Shrinkable (X : Image) : Type 0 where
   pub root : Treed (X .head .height - 1) (X .head .root) X
   pub lowers : 1 < X .head .height → length (entries X (X .head .root)) ≡ 1 → Lowerable X

@@ -24,7 +24,8 @@ fn settle(img: &mut [u8], kind: u32, level: u32, p: u32, i: usize, q: u32)
 // Page p of that level: the leaf entry goes, and on the way back up each page that is left short turns.
 pub fn heal_page(img: &mut [u8], kind: u32, level: u32, p: u32, t: u32)
     requires { ⌜ Some (now img) (Page-healable kind t level p) ⌝ }
-    ensures { λ _. ⌜ Each (now (img .entry)) (Page-healable kind t level p) (λ X. Holds (now (img .exit)) (heal-page 12 (combine kind) t level p X)) ⌝ }
+    ensures { λ _. ⌜ Each (now (img .entry)) (Page-healable kind t level p)
+        (λ X. Holds (now (img .exit)) (heal-page 12 (combine kind) t level p X)) ⌝ }
 {
     if level == 0 {
         heal_leaf(img, p, t);

@@ -19,7 +19,7 @@ use Rattle.steps.specs.Supply.{entries}
 use Rattle.steps.specs.Heal.{pushed, both}
 use Rattle.store.specs.Holding.{Loaded}
 use Rattle.siblings.specs.declared.Family.{Family}
-use Rattle.siblings.specs.Ready.{Sinkable, Siblings, Sharable, total}
+use Rattle.siblings.specs.Ready.{Sinkable, Siblings, Sharable}
 use Rattle.siblings.specs.Opened.{Opened, Parted}
 
 -- ---- one page
@@ -59,6 +59,12 @@ module _ {level : ℕ} (e : Entry) (X : Image) {page : Page} (n : Loaded level (
       record { level = s .level ∙ n .shows .level; entries = s .entries ∙ ap (push f (e .pair)) (n .shows .entries) } in
       record { shows = t; few = omega (arith, shows-number t, length-pushed f X e, loaded-number n, n .few) }
 
+-- what is known of the page under an entry that was read
+pub pushed-read : (kind : ℕ) {level : ℕ} {X : Image} {x e : Entry} {r : Page} → x ≡ e
+    → (Sinkable level x X → Loaded level (pushed (combine kind) X x) r) → Sinkable level e X → Loaded level (pushed (combine kind) X e) r
+pushed-read kind {level} {X} {r = r} same f s =
+    subst (λ e. Sinkable level e X → Loaded level (pushed (combine kind) X e) r) same f s
+
 -- ---- the two, and the page above
 
 module _ {kind level p l : ℕ} {X : Image} {r : Family} (o : Opened kind level p l X r) where
@@ -88,7 +94,8 @@ module _ {kind level p l : ℕ} {X : Image} {r : Family} (o : Opened kind level 
   shows-both f t = record { level = t .level ∙ o .left .shows .level; entries = t .entries ∙ ap f opened-both }
 
   -- what is made of the page above
-  pub shows-above : (f : List Entry → List Entry) {q : Page} → Shows (r .parent .level) (f (shown (r .parent))) q → Shows (suc level) (f (entries X p)) q
+  pub shows-above : (f : List Entry → List Entry) {q : Page} → Shows (r .parent .level) (f (shown (r .parent))) q
+      → Shows (suc level) (f (entries X p)) q
   shows-above f t = record { level = t .level ∙ o .parent .shows .level; entries = t .entries ∙ ap f (o .parent .shows .entries) }
 
   pub above-few : length (entries X p) ≤ 24

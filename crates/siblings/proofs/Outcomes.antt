@@ -1,6 +1,6 @@
 -- What a give and a merge write, and that it is what document 01 says. Assumes nothing.
 use mathlib.Core.Path.{_≡_, ap, _∙_}
-use mathlib.Core.List.{List, [], _∷_, _++_}
+use mathlib.Core.List.{List, [], _∷_}
 use Prim.Native.Nat.{ℕ, suc, _+_, _≤_, _<_}
 use native.Mathlib.Omega.{arith}
 use lib.ListN.{length, take, drop, length-append, length-take, length-drop}
@@ -36,7 +36,9 @@ unfolding both
 length-both kind p l X =
     let a : Entry = at (entries X p) l in
     let b : Entry = at (entries X p) (suc l) in
-    omega (arith, length-append (pushed (combine kind) X a) (pushed (combine kind) X b), length-pushed (combine kind) X a, length-pushed (combine kind) X b)
+    let xs : List Entry = pushed (combine kind) X a in
+    let ys : List Entry = pushed (combine kind) X b in
+    omega (arith, length-append xs ys, length-pushed (combine kind) X a, length-pushed (combine kind) X b)
 
 length-shared : (l start : ℕ) (es : List Entry) → suc l < length es → length (shared l start es) ≡ length es
 unfolding shared
@@ -67,12 +69,18 @@ module _ {kind level p l k : ℕ} {X : Image} {xs ys up : Page} (g : Gave kind l
 
   pub gave-right : Sharable level p l k X → Writable level (drop k (both (combine kind) p l X)) ys
   gave-right s =
-      let all : List Entry = both (combine kind) p l X in
-      record { shows = g .right; few = omega (arith, length-drop k all, length-both kind p l X, s .right); low = omega (arith, s .siblings .low) }
+      let n = length-both kind p l X in
+      record {
+        shows = g .right;
+        few = omega (arith, length-drop k (both (combine kind) p l X), s .right);
+        low = omega (arith, s .siblings .low);
+      }
 
-  pub gave-parent : Sharable level p l k X → length (entries X p) ≤ 24 → Writable (suc level) (shared l (at (shown ys) 0 .start) (entries X p)) up
+  pub gave-parent : Sharable level p l k X → length (entries X p) ≤ 24
+      → Writable (suc level) (shared l (at (shown ys) 0 .start) (entries X p)) up
   gave-parent s few =
-      record { shows = g .parent; few = omega (arith, length-shared l (at (shown ys) 0 .start) (entries X p) (s .siblings .both)); low = s .siblings .low }
+      let n = length-shared l (at (shown ys) 0 .start) (entries X p) (s .siblings .both) in
+      record { shows = g .parent; few = omega arith; low = s .siblings .low }
 
   pub give-is : {a b : Entry} → a ≡ at (entries X p) l → b ≡ at (entries X p) (suc l)
       → put p (tree (up .level) (shown up)) (put (b .child) (tree (ys .level) (shown ys)) (put (a .child) (tree (xs .level) (shown xs)) X))
@@ -84,18 +92,20 @@ module _ {kind level p l k : ℕ} {X : Image} {xs ys up : Page} (g : Gave kind l
       let start : at (shown ys) 0 .start ≡ at (drop k all) 0 .start = ap (λ s. at s 0 .start) (g .right .entries) in
       (λ j.
       put p (tree (g .parent .level j) (g .parent .entries j))
-      (put (eb j .child) (tree (g .right .level j) (g .right .entries j)) (put (ea j .child) (tree (g .left .level j) (g .left .entries j)) X)))
+      (put (eb j .child) (tree (g .right .level j) (g .right .entries j))
+      (put (ea j .child) (tree (g .left .level j) (g .left .entries j)) X)))
       ∙ ap (λ s.
       put p (tree (suc level) (shared l s es))
       (put (at es (suc l) .child) (tree level (drop k all)) (put (at es l .child) (tree level (take k all)) X))) start
 
 -- the right page has a first entry
-pub gave-some : (kind : ℕ) {level p l k : ℕ} {X : Image} {ys : Page} → Shows level (drop k (both (combine kind) p l X)) ys → Sharable level p l k X
-    → (0 < ys .number) × (ys .number ≤ 25)
+pub gave-some : (kind : ℕ) {level p l k : ℕ} {X : Image} {ys : Page}
+    → Shows level (drop k (both (combine kind) p l X)) ys → Sharable level p l k X → (0 < ys .number) × (ys .number ≤ 25)
 gave-some kind {level} {p} {l} {k} {X} {ys} r s =
     let all : List Entry = both (combine kind) p l X in
     let n : ys .number ≡ length (drop k all) = shows-number r in
-    (omega (arith, length-drop k all, length-both kind p l X, s .some), omega (arith, length-drop k all, length-both kind p l X, s .right))
+    let m = length-both kind p l X in
+    (omega (arith, length-drop k all, s .some), omega (arith, length-drop k all, s .right))
 
 -- ---- a merge
 

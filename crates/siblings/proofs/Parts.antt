@@ -1,7 +1,7 @@
 -- All elements of two lists, shared anew: the first k, and the others. Assumes nothing.
 use mathlib.Core.Path.{_≡_, sym, ap, _∙_}
-use mathlib.Core.List.{List, [], _∷_, _++_, append-nil}
-use Prim.Native.Nat.{ℕ, zero, suc, _+_, _-_, _≤_, _<_, min}
+use mathlib.Core.List.{List, [], _++_, append-nil}
+use Prim.Native.Nat.{ℕ, suc, _+_, _-_, _≤_, _<_, min}
 use native.Mathlib.Decide.{decLe}
 use native.Mathlib.Omega.{arith}
 use lib.ListN.{length, take, drop, length-append, length-take, length-drop, drop-of-length-le}
@@ -42,5 +42,6 @@ module _ {A : Type 0} (k : ℕ) (xs ys : List A) (m : ℕ) (e : m ≡ min k (len
 -- xs in the place of one element
 pub length-splice : {A : Type 0} (i : ℕ) (xs es : List A) → i < length es → suc (length (splice i xs es)) ≡ length es + length xs
 unfolding splice
-length-splice i xs es h =
-    omega (arith, length-append (take i es) (xs ++ drop (suc i) es), length-append xs (drop (suc i) es), length-take i es, length-drop (suc i) es)
+length-splice {A} i xs es h =
+    let behind : List A = drop (suc i) es in
+    omega (arith, length-append (take i es) (xs ++ behind), length-append xs behind, length-take i es, length-drop (suc i) es)

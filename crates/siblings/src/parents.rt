@@ -13,12 +13,16 @@ ghost use Rattle.page.specs.Decoded.{shown};
 ghost use Rattle.edit.specs.Shows.{Shows};
 ghost use Rattle.siblings.specs.Opened.{shared, united};
 
-// An entry with the pair (0, 0).
-fn emptied(start: u32, child: u32) -> Entry
-    ensures { λ r. ⌜ r ≡ entry start none child ⌝ }
+// e with the pair (0, 0), from `start` on.
+fn emptied(e: Entry, start: u32) -> Entry
+    ensures { λ r. ⌜ r ≡ entry start none (e .child) ⌝ }
 {
     let pair = Pair { sum: 0, count: 0 };
-    Entry { start, pair, child }
+    Entry {
+        start,
+        pair,
+        child: e.child,
+    }
 }
 
 // The page above two siblings that share their entries anew: the right page starts at `start`.
@@ -28,8 +32,8 @@ pub fn shared(parent: Page, l: usize, start: u32) -> Page
 {
     let a = entry_at(parent, l);
     let b = entry_at(parent, l + 1);
-    let followed = replace(parent, l + 1, emptied(start, b.child));
-    replace(followed, l, emptied(a.start, a.child))
+    let followed = replace(parent, l + 1, emptied(b, start));
+    replace(followed, l, emptied(a, a.start))
 }
 
 // The page above two siblings that are one page now.
@@ -39,5 +43,5 @@ pub fn united(parent: Page, l: usize) -> Page
 {
     let a = entry_at(parent, l);
     let without = remove(parent, l + 1);
-    replace(without, l, emptied(a.start, a.child))
+    replace(without, l, emptied(a, a.start))
 }

@@ -1,14 +1,13 @@
 -- `heal_page` calls itself on the child page and meets its contract: the measure is the level, which falls. Assumes nothing.
-use mathlib.Core.Path.{_≡_, subst}
-use Prim.Native.Nat.{ℕ, _-_, _<_}
+use mathlib.Core.Path.{subst}
+use Prim.Native.Nat.{ℕ, _<_}
 use borrow.Author.Needs.{needs}
 use borrow.Fn.Kinds.{In}
 use borrow.Fn.PlainCycle.{Measures, is, falls, and}
 use native.Mathlib.Omega.{arith}
 use Rattle.image.specs.Images.{Image}
 use Rattle.store.specs.Holding.{Holds}
-use Rattle.heal.proofs.Leaves.{sought-parent}
-use Rattle.heal.proofs.Ways.{leaf-ready, leaf-done, inner-ready, inner-below, inner-settles, inner-done}
+use Rattle.heal.proofs.Ways.{leaf-ready, leaf-done, inner-sought, inner-parent, inner-went, inner-below, inner-settles, inner-done}
 use Rattle.heal.proofs.heal.heal_page.Reads as heal-page
 use Rattle.heal.proofs.heal.heal_page.Kinds as heal-page-kinds
 use Rattle.heal.proofs.heal.+heal_page.Lts-heal_page as heal-page-lts
@@ -47,52 +46,59 @@ pub +heal-page-spec : {M : Type 1} → statement M
     (λ c κs.
     let args = c .before .before .before .args in
     let pre = c .before .before .before .pre .1 in
-    record { image = pre .image; holds = pre .holds; ready = leaf-ready (args .kind) (args .t) (args .p) (pre .image) (c .before .if1 .taken) (pre .ready) })
+    let ready = leaf-ready (args .kind) (args .t) (args .p) (pre .image) (c .before .if1 .taken) (pre .ready) in
+    record { image = pre .image; holds = pre .holds; ready = ready })
     (λ c. search needs)
     (λ c X h s.
     let args = c .before .before .before .before .before .before .args in
     let e = c .before .before .before .before .if1 .taken in
-    subst (Holds _) (leaf-done (args .kind) (args .t) (args .p) X e) (c .before .before .heal-leaf .ensures X h (leaf-ready (args .kind) (args .t) (args .p) X e s)))
+    let left = c .before .before .heal-leaf .ensures X h (leaf-ready (args .kind) (args .t) (args .p) X e s) in
+    subst (Holds _) (leaf-done (args .kind) (args .t) (args .p) X e) left)
     (λ c κs.
     let args = c .before .before .before .args in
     let pre = c .before .before .before .pre .1 in
-    let r = inner-ready (args .kind) (args .t) (args .p) (pre .image) (c .before .if1 .left) (pre .ready) in
-    record { image = pre .image; holds = pre .holds; ready = r .sought })
+    let ready = inner-sought (args .kind) (args .t) (args .p) (pre .image) (c .before .if1 .left) (pre .ready) in
+    record { image = pre .image; holds = pre .holds; ready = ready })
     (λ c κs.
     let args = c .before .before .before .before .before .args in
     let pre = c .before .before .before .before .before .pre .1 in
-    let r = inner-ready (args .kind) (args .t) (args .p) (pre .image) (c .before .before .before .if1 .left) (pre .ready) in
-    record { image = pre .image; holds = pre .holds; ready = sought-parent (r .sought) (c .before .place-of .ensures (pre .image) (pre .holds) (r .sought)) })
+    let found = c .before .place-of .ensures (pre .image) (pre .holds) in
+    let ready = inner-parent (args .kind) (args .t) (args .p) (pre .image) (c .before .before .before .if1 .left) (pre .ready) found in
+    record { image = pre .image; holds = pre .holds; ready = ready })
     (λ c. omega (arith, c .before .before .before .before .before .if1 .left))
     (λ c κs.
-    let args = c .before .before .before .before .before .before .before .args in
-    let pre = c .before .before .before .before .before .before .before .pre .1 in
+    let child = c .before in
+    let place = child .before .before in
+    let e = place .before .before .if1 .left in
+    let args = place .before .before .before .before .args in
+    let pre = place .before .before .before .before .pre .1 in
     let X : Image = pre .image in
-    let r = inner-ready (args .kind) (args .t) (args .p) X (c .before .before .before .before .before .if1 .left) (pre .ready) in
-    let found = c .before .before .before .place-of .ensures X (pre .holds) (r .sought) in
-    let child = c .before .child-at .ensures X (pre .holds) (sought-parent (r .sought) found) in (
-      omega (arith, c .before .before .before .before .before .before .before .pre .0, c .before .before .before .before .before .if1 .left),
-      record { image = X; holds = pre .holds; ready = inner-below (args .kind) (args .t) (args .p) X found child (args .level - 1) r },
-    ))
+    let h = pre .holds in
+    let g = inner-went (args .kind) (args .t) (args .p) X e (pre .ready) (place .place-of .ensures X h) (child .child-at .ensures X h) in
+    let ready = inner-below (args .kind) (args .t) (args .p) X e g (pre .ready) in
+    (omega (arith, place .before .before .before .before .pre .0, e), record { image = X; holds = h; ready = ready }))
     (λ c. omega (arith, c .before .before .before .before .before .before .before .before .before .if1 .left))
     (λ c κs.
-    let args = c .before .before .before .before .before .before .before .before .before .before .before .args in
-    let pre = c .before .before .before .before .before .before .before .before .before .before .before .pre .1 in
+    let below = c .before .before .before in
+    let child = below .before .before in
+    let place = child .before .before in
+    let e = place .before .before .if1 .left in
+    let args = place .before .before .before .before .args in
+    let pre = place .before .before .before .before .pre .1 in
     let X : Image = pre .image in
-    let r = inner-ready (args .kind) (args .t) (args .p) X (c .before .before .before .before .before .before .before .before .before .if1 .left) (pre .ready) in
-    let found = c .before .before .before .before .before .before .before .place-of .ensures X (pre .holds) (r .sought) in
-    let child = c .before .before .before .before .before .child-at .ensures X (pre .holds) (sought-parent (r .sought) found) in
-    record {
-      image = _;
-      holds = c .before .before .before .heal-page .ensures X (pre .holds) (inner-below (args .kind) (args .t) (args .p) X found child (args .level - 1) r);
-      ready = inner-settles (args .kind) (args .t) (args .p) X found child (args .level - 1) r;
-    })
+    let h = pre .holds in
+    let g = inner-went (args .kind) (args .t) (args .p) X e (pre .ready) (place .place-of .ensures X h) (child .child-at .ensures X h) in
+    let holds = below .heal-page .ensures X h (inner-below (args .kind) (args .t) (args .p) X e g (pre .ready)) in
+    record { image = _; holds = holds; ready = inner-settles (args .kind) (args .t) (args .p) X e g (pre .ready) })
     (λ c. search needs)
     (λ c X h s.
-    let args = c .before .before .before .before .before .before .before .before .before .before .before .before .before .before .args in
-    let r = inner-ready (args .kind) (args .t) (args .p) X (c .before .before .before .before .before .before .before .before .before .before .before .before .if1 .left) s in
-    let found = c .before .before .before .before .before .before .before .before .before .before .place-of .ensures X h (r .sought) in
-    let child = c .before .before .before .before .before .before .before .before .child-at .ensures X h (sought-parent (r .sought) found) in
-    subst (Holds _) (inner-done (args .kind) (args .t) (args .p) X (c .before .before .before .before .before .before .before .before .before .before .before .before .if1 .left) found child)
-    (c .before .before .settle .ensures _ (c .before .before .before .before .before .before .heal-page .ensures X h (inner-below (args .kind) (args .t) (args .p) X found child (args .level - 1) r))
-    (inner-settles (args .kind) (args .t) (args .p) X found child (args .level - 1) r))))
+    let settled = c .before .before in
+    let below = settled .before .before .before .before in
+    let child = below .before .before in
+    let place = child .before .before in
+    let e = place .before .before .if1 .left in
+    let args = place .before .before .before .before .args in
+    let g = inner-went (args .kind) (args .t) (args .p) X e s (place .place-of .ensures X h) (child .child-at .ensures X h) in
+    let holds = below .heal-page .ensures X h (inner-below (args .kind) (args .t) (args .p) X e g s) in
+    subst (Holds _) (inner-done (args .kind) (args .t) (args .p) X e g)
+    (settled .settle .ensures _ holds (inner-settles (args .kind) (args .t) (args .p) X e g s))))

@@ -1,6 +1,6 @@
 -- `heal::heal::heal` meets its contract: from the root of the head that was read, and then the root. Assumes nothing.
 use mathlib.Core.Path.{_≡_, sym, ap, subst}
-use Prim.Native.Nat.{ℕ, _-_}
+use Prim.Native.Nat.{_-_}
 use borrow.Author.Needs.{needs}
 use native.Mathlib.Omega.{arith}
 use Rattle.rule.specs.Pairs.{combine}
@@ -19,20 +19,26 @@ sub-heal-page c =
     let e = ap (λ (k : Head). k .height) (c .before .before .head-of .ensures (pre .image) (pre .holds) tt) in
     omega (arith, pre .ready .some)
 
+abbrev start : tie.After-head-of → tie.Start
+start c = c .before .before .before
+
 -- of every image that the bytes hold
-module _ (c : tie.After-head-of) (X : Image) (h : Holds (c .before .before .before .args .img .now) X) (s : Healable (c .before .before .before .args .kind) (c .before .before .before .args .t) X) where
+module _ (c : tie.After-head-of) (X : Image) (h : Holds (start c .args .img .now) X)
+    (s : Healable (start c .args .kind) (start c .args .t) X) where
   head : c .head-of .result ≡ X .head
   head = c .head-of .ensures X h tt
 
-  page : Page-healable (c .before .before .before .args .kind) (c .before .before .before .args .t) (c .head-of .result .height - 1) (c .head-of .result .root) X
+  -- what the heal of the root leaves, by a head
+  abbrev from : Head → Image
+  from k = heal-page 12 (combine (start c .args .kind)) (start c .args .t) (k .height - 1) (k .root) X
+
+  page : Page-healable (start c .args .kind) (start c .args .t) (c .head-of .result .height - 1) (c .head-of .result .root) X
   page =
-      let args = c .before .before .before .args in
+      let args = start c .args in
       subst (λ k. Page-healable (args .kind) (args .t) (k .height - 1) (k .root) X) (sym head) (s .page)
 
-  shrinks : Shrinkable (heal-page 12 (combine (c .before .before .before .args .kind)) (c .before .before .before .args .t) (c .head-of .result .height - 1) (c .head-of .result .root) X)
-  shrinks =
-      let args = c .before .before .before .args in
-      subst (λ k. Shrinkable (heal-page 12 (combine (args .kind)) (args .t) (k .height - 1) (k .root) X)) (sym head) (s .shrinks)
+  shrinks : Shrinkable (from (c .head-of .result))
+  shrinks = subst (λ k. Shrinkable (from k)) (sym head) (s .shrinks)
 
 heal-page-requires : tie.Need-heal-page-requires
 heal-page-requires c κs =
@@ -41,20 +47,21 @@ heal-page-requires c κs =
 
 shrink-requires : tie.Need-shrink-requires
 shrink-requires c κs =
-    let read = c .before .before .before .before .before .before in
-    let pre = read .before .before .before .pre in
-    record {
-      image = _;
-      holds = c .before .before .before .heal-page .ensures (pre .image) (pre .holds) (page read (pre .image) (pre .holds) (pre .ready));
-      ready = shrinks read (pre .image) (pre .holds) (pre .ready);
-    }
+    let below = c .before .before .before in
+    let read = below .before .before .before in
+    let pre = start read .pre in
+    let X : Image = pre .image in
+    let h = pre .holds in
+    let s = pre .ready in
+    record { image = _; holds = below .heal-page .ensures X h (page read X h s); ready = shrinks read X h s }
 
 returns : tie.Need-returns
 returns c X h s =
-    let read = c .before .before .before .before .before .before .before .before .before in
-    let args = read .before .before .before .args in
-    subst (Holds _) (healed-is (args .kind) X (args .t) (head read X h s))
-    (c .before .before .shrink .ensures _ (c .before .before .before .before .before .before .heal-page .ensures X h (page read X h s)) (shrinks read X h s))
+    let below = c .before .before .before .before .before .before in
+    let read = below .before .before .before in
+    let args = start read .args in
+    let holds = below .heal-page .ensures X h (page read X h s) in
+    subst (Holds _) (healed-is (args .kind) X (args .t) (head read X h s)) (c .before .before .shrink .ensures _ holds (shrinks read X h s))
 
 pub heal-spec : {M : Type 1} → statement M
 heal-spec =

@@ -1,7 +1,6 @@
 -- `heal::heal::settle` meets its contract: a page that is short turns, another one stays. Assumes nothing.
 use mathlib.Core.Path.{subst}
 use borrow.Author.Needs.{needs}
-use Rattle.image.specs.Images.{Image}
 use Rattle.store.specs.Holding.{Holds}
 use Rattle.heal.proofs.Ways.{settles-turnable, settled-turned, settled-kept}
 use Rattle.heal.proofs.heal.settle.Statement.{statement}
@@ -15,17 +14,20 @@ number-in-requires c κs =
 turn-requires : tie.Need-turn-requires
 turn-requires c κs =
     let read = c .before .before in
-    let pre = read .before .before .before .pre in
-    let n = read .number-in .ensures (pre .image) (pre .holds) (record { level = read .before .before .before .args .level; ready = pre .ready .treed }) in
-    record { image = pre .image; holds = pre .holds; ready = settles-turnable (read .before .before .before .args .q) (pre .image) (n .0) (c .before .if1 .taken) (pre .ready) }
+    let start = read .before .before .before in
+    let pre = start .pre in
+    let n = read .number-in .ensures (pre .image) (pre .holds) (record { level = start .args .level; ready = pre .ready .treed }) in
+    let ready = settles-turnable (start .args .q) (pre .image) (n .0) (c .before .if1 .taken) (pre .ready) in
+    record { image = pre .image; holds = pre .holds; ready = ready }
 
 returns : tie.Need-returns
 returns c X h s =
-    let read = c .before .before .before .before .before in
+    let short = c .before .before .before .before in
+    let read = short .before in
     let args = read .before .before .before .args in
     let n = read .number-in .ensures X h (record { level = args .level; ready = s .treed }) in
-    subst (Holds _) (settled-turned (args .q) X (n .0) (args .kind) (args .level) (args .p) (args .i) (c .before .before .before .before .if1 .taken))
-    (c .before .before .turn .ensures X h (settles-turnable (args .q) X (n .0) (c .before .before .before .before .if1 .taken) s))
+    subst (Holds _) (settled-turned (args .q) X (n .0) (args .kind) (args .level) (args .p) (args .i) (short .if1 .taken))
+    (c .before .before .turn .ensures X h (settles-turnable (args .q) X (n .0) (short .if1 .taken) s))
 
 returns-2 : tie.Need-returns-2
 returns-2 c X h s =

@@ -4,10 +4,8 @@ use mathlib.Core.List.{[]}
 use Prim.Native.Nat.{ℕ, zero, _≤_, _<_}
 use borrow.Author.Needs.{needs}
 use native.Mathlib.Omega.{arith}
-use lib.ListN.{length}
-use Rattle.page.specs.declared.Entry.{Entry}
 use Rattle.page.specs.Decoded.{shown}
-use Rattle.page.specs.Entries.{place, splice}
+use Rattle.page.specs.Entries.{place}
 use Rattle.page.proofs.Laws.Decoded.{length-shown}
 use Rattle.image.specs.Images.{Image}
 use Rattle.edit.proofs.Edits.{shows-number}
@@ -24,7 +22,8 @@ abbrev start : tie.After-load → tie.Start
 start c = c .before .before .before .before .before
 
 -- the page and the place, of every image that the bytes hold
-module _ (c : tie.After-load) (X : Image) (h : Holds (start c .args .img .now) X) (s : Leaf-healable (start c .args .t) (start c .args .p) X) where
+module _ (c : tie.After-load) (X : Image) (h : Holds (start c .args .img .now) X)
+    (s : Leaf-healable (start c .args .t) (start c .args .p) X) where
   read : Loaded zero (entries X (start c .args .p)) (c .load .result)
   read = c .load .ensures X h (s .sought .within) _ _ (s .leaf)
 
@@ -56,27 +55,29 @@ save-requires c κs =
     let n = read loaded (pre .image) (pre .holds) (pre .ready) in
     let i : ℕ = loaded .before .before .place-of .result in
     let few = inside loaded in
-    let whole = length-shown page in (
+    let whole = length-shown page in
+    let less = shows-number (c .remove .ensures) in
+    let one = length-splice i [] (shown page) (omega (arith, few .0)) in (
       record { image = pre .image; holds = pre .holds; ready = pre .ready .sought .within },
-      (
-        omega (arith, c .remove .ensures .level, n .shows .level),
-        omega (arith, shows-number (c .remove .ensures), length-splice i [] (shown page) (omega (arith, few .0)), few .1),
-      ),
+      (omega (arith, c .remove .ensures .level, n .shows .level), omega (arith, few .1)),
     )
 
 returns : tie.Need-returns
 returns c X h s =
     let removed = c .before .before .before in
-    let loaded = removed .before .before .before .before in
+    let goes = removed .before .before in
+    let loaded = goes .before .before in
     let args = start loaded .args in
-    subst (Holds _) (leaf-healed (args .t) (args .p) X (read loaded X h s) (found loaded X h s) (sym (removed .before .before .before .heals .ensures) ∙ removed .before .before .if1 .taken) (removed .remove .ensures))
+    let test = sym (goes .before .heals .ensures) ∙ goes .if1 .taken in
+    subst (Holds _) (leaf-healed (args .t) (args .p) X (read loaded X h s) (found loaded X h s) test (removed .remove .ensures))
     (c .before .before .save .ensures X h (s .sought .within))
 
 returns-2 : tie.Need-returns-2
 returns-2 c X h s =
     let loaded = c .before .before in
     let args = start loaded .args in
-    subst (Holds _) (leaf-kept (args .t) (args .p) X (read loaded X h s) (found loaded X h s) (sym (c .before .heals .ensures) ∙ c .if1 .left)) h
+    let test = sym (c .before .heals .ensures) ∙ c .if1 .left in
+    subst (Holds _) (leaf-kept (args .t) (args .p) X (read loaded X h s) (found loaded X h s) test) h
 
 pub heal-leaf-spec : {M : Type 1} → statement M
 heal-leaf-spec =

@@ -1,19 +1,18 @@
 -- `heal::shrink::lower` meets its contract: the root's entry is read, its page is written, and the root is given back. Assumes nothing.
 use mathlib.Core.Path.{_≡_, sym, ap, subst}
-use Prim.Native.Nat.{ℕ, _-_, _≤_}
+use Prim.Native.Nat.{ℕ, _-_}
 use borrow.Author.Needs.{needs}
 use native.Mathlib.Omega.{arith}
 use Rattle.rule.specs.Pairs.{combine}
-use Rattle.page.specs.declared.Entry.{Entry}
 use Rattle.page.specs.declared.Head.{Head}
 use Rattle.page.specs.Entries.{at}
 use Rattle.image.specs.Images.{Image}
 use Rattle.steps.specs.Supply.{entries}
 use Rattle.steps.specs.Heal.{pushed}
-use Rattle.store.specs.Holding.{Holds, Within, Loaded}
+use Rattle.store.specs.Holding.{Holds, Loaded}
 use Rattle.store.specs.Supplying.{Givable}
 use Rattle.siblings.specs.Ready.{Sinkable}
-use Rattle.siblings.proofs.Families.{loaded-number, loaded-at}
+use Rattle.siblings.proofs.Families.{loaded-number, loaded-at, pushed-read}
 use Rattle.siblings.proofs.Outcomes.{givable-put}
 use Rattle.heal.specs.Ready.{Lowers}
 use Rattle.heal.proofs.Roots.{read-root, read-number, read-entry, lowered-is}
@@ -54,63 +53,76 @@ module _ (c : tie.After-entry-at) (X : Image) (h : Holds (start c .args .img .no
   goes : Givable (c .before .before .before .head-of .result .root) X
   goes = record { within = read-root X head (s .root) .within; room = s .lowers .room }
 
-module _ (c : tie.After-pushed) (X : Image) (h : Holds (start (c .before .before) .args .img .now) X) (s : Lowers X) where
-  page : Loaded (X .head .height - 2) (pushed (combine (start (c .before .before) .args .kind)) X (at (entries X (X .head .root)) 0)) (c .pushed .result)
-  page =
-      subst (λ e. Sinkable (X .head .height - 2) e X → Loaded (X .head .height - 2) (pushed (combine (start (c .before .before) .args .kind)) X e) (c .pushed .result)) (found (c .before .before) X h s)
-      (λ k. c .pushed .ensures X h tt (X .head .height - 2) k) (s .lowers .child)
+abbrev entry : tie.After-pushed → tie.After-entry-at
+entry c = c .before .before
+
+module _ (c : tie.After-pushed) (X : Image) (h : Holds (start (entry c) .args .img .now) X) (s : Lowers X) where
+  abbrev kind : ℕ
+  kind = start (entry c) .args .kind
+
+  page : Loaded (X .head .height - 2) (pushed (combine kind) X (at (entries X (X .head .root)) 0)) (c .pushed .result)
+  page = pushed-read kind (found (entry c) X h s) (c .pushed .ensures X h tt (X .head .height - 2)) (s .lowers .child)
 
 pushed-requires : tie.Need-pushed-requires
 pushed-requires c κs =
-    let pre = start (c .before) .pre in
-    record { image = pre .image; holds = pre .holds; ready = record { level = _; ready = sinks (c .before) (pre .image) (pre .holds) (pre .ready) } }
+    let at = c .before in
+    let pre = start at .pre in
+    let sink = sinks at (pre .image) (pre .holds) (pre .ready) in
+    record { image = pre .image; holds = pre .holds; ready = record { level = _; ready = sink } }
 
 save-requires : tie.Need-save-requires
 save-requires c κs =
-    let read = c .before .before .before in
-    let pre = start read .pre in
-    let n = page (c .before) (pre .image) (pre .holds) (pre .ready) in (
-      record { image = pre .image; holds = pre .holds; ready = sinks read (pre .image) (pre .holds) (pre .ready) .treed .within },
-      (omega (arith, n .shows .level, pre .ready .lowers .low), n .few),
+    let made = c .before in
+    let pre = start (entry made) .pre in
+    let X : Image = pre .image in
+    let h = pre .holds in
+    let s = pre .ready in
+    let n = page made X h s in (
+      record { image = X; holds = h; ready = sinks (entry made) X h s .treed .within },
+      (omega (arith, n .shows .level, s .lowers .low), n .few),
     )
 
 give-back-requires : tie.Need-give-back-requires
 give-back-requires c κs =
-    let read = c .before .before .before .before .before .before .before in
-    let pre = start read .pre in
-    record {
-      image = _;
-      holds = c .before .before .before .save .ensures (pre .image) (pre .holds) (sinks read (pre .image) (pre .holds) (pre .ready) .treed .within);
-      ready = givable-put (goes read (pre .image) (pre .holds) (pre .ready)) _ _;
-    }
+    let saved = c .before .before .before in
+    let at = entry (saved .before .before) in
+    let pre = start at .pre in
+    let X : Image = pre .image in
+    let h = pre .holds in
+    let s = pre .ready in
+    let written = saved .save .ensures X h (sinks at X h s .treed .within) in
+    record { image = _; holds = written; ready = givable-put (goes at X h s) _ _ }
 
 sub-set-root : tie.Need-sub-set-root
 sub-set-root c =
-    let read = c .before .before .before .before .before .before .before .before .before .before .before .before in
-    let pre = start read .pre in
-    let e = ap (λ (k : Head). k .height) (head read (pre .image) (pre .holds) (pre .ready)) in
+    let at = c .before .before .before .before .before .before .before .before .before .before .before .before in
+    let pre = start at .pre in
+    let e = ap (λ (k : Head). k .height) (head at (pre .image) (pre .holds) (pre .ready)) in
     omega (arith, pre .ready .inner)
 
 set-root-requires : tie.Need-set-root-requires
 set-root-requires c κs =
-    let read = c .before .before .before .before .before .before .before .before .before .before .before .before in
-    let pre = start read .pre in
-    record {
-      image = _;
-      holds =
-          c .before .before .before .before .give-back .ensures _
-          (c .before .before .before .before .before .before .before .before .save .ensures (pre .image) (pre .holds) (sinks read (pre .image) (pre .holds) (pre .ready) .treed .within))
-          (givable-put (goes read (pre .image) (pre .holds) (pre .ready)) _ _);
-      ready = tt;
-    }
+    let given = c .before .before .before .before in
+    let saved = given .before .before .before .before in
+    let at = entry (saved .before .before) in
+    let pre = start at .pre in
+    let X : Image = pre .image in
+    let h = pre .holds in
+    let s = pre .ready in
+    let written = saved .save .ensures X h (sinks at X h s .treed .within) in
+    record { image = _; holds = given .give-back .ensures _ written (givable-put (goes at X h s) _ _); ready = tt }
 
 returns : tie.Need-returns
 returns c X h s =
-    let read = c .before .before .before .before .before .before .before .before .before .before .before .before .before .before .before in
-    let args = start read .args in
-    subst (Holds _) (lowered-is (args .kind) X (head read X h s) (found read X h s) (page (c .before .before .before .before .before .before .before .before .before .before .before .before .before) X h s .shows))
-    (c .before .before .set-root .ensures _
-    (c .before .before .before .before .before .before .before .give-back .ensures _ (c .before .before .before .before .before .before .before .before .before .before .before .save .ensures X h (sinks read X h s .treed .within)) (givable-put (goes read X h s) _ _)) tt)
+    let rooted = c .before .before in
+    let given = rooted .before .before .before .before .before in
+    let saved = given .before .before .before .before in
+    let made = saved .before .before in
+    let at = entry made in
+    let written = saved .save .ensures X h (sinks at X h s .treed .within) in
+    let back = given .give-back .ensures _ written (givable-put (goes at X h s) _ _) in
+    subst (Holds _) (lowered-is (start at .args .kind) X (head at X h s) (found at X h s) (page made X h s .shows))
+    (rooted .set-root .ensures _ back tt)
 
 pub lower-spec : {M : Type 1} → statement M
 lower-spec =

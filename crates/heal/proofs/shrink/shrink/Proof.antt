@@ -1,6 +1,6 @@
 -- `heal::shrink::shrink` meets its contract: a leaf stays, and a root with one entry alone goes. Assumes nothing.
 use mathlib.Core.Path.{_≡_, sym, ap, _∙_, subst}
-use Prim.Native.Nat.{ℕ, _<_}
+use Prim.Native.Nat.{_<_}
 use borrow.Author.Needs.{needs}
 use native.Mathlib.Omega.{arith}
 use lib.ListN.{length}
@@ -19,7 +19,8 @@ returns c X h s =
     let e = ap (λ (k : Head). k .height) (c .before .before .head-of .ensures X h tt) in
     subst (Holds _) (shrunk-low (c .before .before .before .before .before .args .kind) X (omega (arith, c .if1 .taken))) h
 
--- the root, of every image that the bytes hold
+-- ---- the root, of every image that the bytes hold
+
 module _ (c : tie.Else1) (X : Image) (h : Holds (c .before .before .before .before .before .args .img .now) X) (s : Shrinkable X) where
   head : c .before .before .head-of .result ≡ X .head
   head = c .before .before .head-of .ensures X h tt
@@ -32,13 +33,19 @@ module _ (c : tie.Else1) (X : Image) (h : Holds (c .before .before .before .befo
       let e = ap (λ (k : Head). k .height) head in
       omega (arith, c .if1 .left)
 
-module _ (c : tie.After-number-in) (X : Image) (h : Holds (c .before .before .before .before .before .before .before .args .img .now) X) (s : Shrinkable X) where
+abbrev high : tie.After-number-in → tie.Else1
+high c = c .before .before
+
+abbrev start : tie.Else1 → tie.Start
+start c = c .before .before .before .before .before
+
+module _ (c : tie.After-number-in) (X : Image) (h : Holds (start (high c) .args .img .now) X) (s : Shrinkable X) where
   number : c .number-in .result ≡ length (entries X (X .head .root))
-  number = read-number X (head (c .before .before) X h s) (c .number-in .ensures X h (leveled (c .before .before) X h s) .0)
+  number = read-number X (head (high c) X h s) (c .number-in .ensures X h (leveled (high c) X h s) .0)
 
   lowers : c .number-in .result ≡ 1 → Lowers X
   lowers one =
-      let wide : 1 < X .head .height = inner (c .before .before) X h s in
+      let wide : 1 < X .head .height = inner (high c) X h s in
       let e : length (entries X (X .head .root)) ≡ 1 = sym number ∙ one in
       record { inner = wide; root = s .root; one = e; lowers = s .lowers wide e }
 
@@ -49,20 +56,23 @@ number-in-requires c κs =
 
 lower-requires : tie.Need-lower-requires
 lower-requires c κs =
-    let read = c .before .before in
-    let pre = read .before .before .before .before .before .before .before .pre in
-    record { image = pre .image; holds = pre .holds; ready = lowers read (pre .image) (pre .holds) (pre .ready) (c .before .if2 .taken) }
+    let one = c .before in
+    let read = one .before in
+    let pre = start (high read) .pre in
+    record { image = pre .image; holds = pre .holds; ready = lowers read (pre .image) (pre .holds) (pre .ready) (one .if2 .taken) }
 
 returns-2 : tie.Need-returns-2
 returns-2 c X h s =
-    let read = c .before .before .before .before .before in
-    let l = lowers read X h s (c .before .before .before .before .if2 .taken) in
-    subst (Holds _) (shrunk-lowered (read .before .before .before .before .before .before .before .args .kind) X (l .inner) (l .one)) (c .before .before .lower .ensures X h l)
+    let one = c .before .before .before .before in
+    let read = one .before in
+    let l = lowers read X h s (one .if2 .taken) in
+    subst (Holds _) (shrunk-lowered (start (high read) .args .kind) X (l .inner) (l .one)) (c .before .before .lower .ensures X h l)
 
 returns-3 : tie.Need-returns-3
 returns-3 c X h s =
     let read = c .before in
-    subst (Holds _) (shrunk-wide (read .before .before .before .before .before .before .before .args .kind) X (λ e. c .if2 .left (number read X h s ∙ e))) h
+    let n = number read X h s in
+    subst (Holds _) (shrunk-wide (start (high read) .args .kind) X (λ e. c .if2 .left (n ∙ e))) h
 
 pub shrink-spec : {M : Type 1} → statement M
 shrink-spec =

@@ -5,4 +5,9 @@ use Rattle.heal.proofs.turn.left_of.Statement.{statement}
 use Rattle.heal.proofs.turn.left_of.Tie as tie
 
 pub left-of-spec : {M : Type 1} → statement M
-left-of-spec = tie.close (tie.spec (λ c. search needs) (λ c. left-first (c .before .args .i) (c .if1 .taken)) (λ c. left-is (c .before .args .i)))
+left-of-spec =
+    tie.close
+    (tie.spec
+    (λ c. search needs)
+    (λ c. left-first (c .before .args .i) (c .if1 .taken))
+    (λ c. left-is (c .before .args .i)))

@@ -1,8 +1,13 @@
--- `heal::turn::left_share` meets its contract: a right neighbour gives the left page its twelfth entry, a left one keeps all but its last. Assumes nothing.
+-- `heal::turn::left_share` meets its contract: the left page gets its twelfth entry, or keeps all but its last. Assumes nothing.
 use borrow.Author.Needs.{needs}
 use Rattle.heal.proofs.Turning.{share-first, share-later}
 use Rattle.heal.proofs.turn.left_share.Statement.{statement}
 use Rattle.heal.proofs.turn.left_share.Tie as tie
 
 pub left-share-spec : {M : Type 1} → statement M
-left-share-spec = tie.close (tie.spec (λ c. search needs) (λ c. share-first (c .before .args .i) (c .if1 .taken) (c .before .args .n)) (λ c. share-later (c .before .args .i) (c .if1 .left) (c .before .args .n)))
+left-share-spec =
+    tie.close
+    (tie.spec
+    (λ c. search needs)
+    (λ c. share-first (c .before .args .i) (c .if1 .taken) (c .before .args .n))
+    (λ c. share-later (c .before .args .i) (c .if1 .left) (c .before .args .n)))

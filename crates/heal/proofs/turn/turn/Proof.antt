@@ -20,24 +20,34 @@ child-at-requires c κs =
     let pre = c .before .before .before .pre in
     record { image = pre .image; holds = pre .holds; ready = turn-parent (pre .ready) (c .neighbour .ensures) }
 
--- the neighbour, of every image that the bytes hold
-module _ (c : tie.After-child-at) (X : Image) (h : Holds (c .before .before .before .before .args .img .now) X) (s : Turnable (c .before .before .before .before .args .level) (c .before .before .before .before .args .p) (c .before .before .before .before .args .i) X) where
-  child : c .child-at .result ≡ at (entries X (c .before .before .before .before .args .p)) (neighbour (c .before .before .before .before .args .i)) .child
+-- ---- the neighbour, of every image that the bytes hold
+
+abbrev start : tie.After-child-at → tie.Start
+start c = c .before .before .before .before
+
+module _ (c : tie.After-child-at) (X : Image) (h : Holds (start c .args .img .now) X)
+    (s : Turnable (start c .args .level) (start c .args .p) (start c .args .i) X) where
+  child : c .child-at .result ≡ at (entries X (start c .args .p)) (neighbour (start c .args .i)) .child
   child =
-      c .child-at .ensures X h (turn-parent s (c .before .neighbour .ensures))
-      ∙ ap (λ k. at (entries X (c .before .before .before .before .args .p)) k .child) (c .before .neighbour .ensures)
+      let j = c .before .neighbour .ensures in
+      c .child-at .ensures X h (turn-parent s j) ∙ ap (λ k. at (entries X (start c .args .p)) k .child) j
 
   leveled : Leveled (λ l. Treed l (c .child-at .result)) X
   leveled =
-      let level : ℕ = c .before .before .before .before .args .level in
-      record { level = level; ready = subst (λ q. Treed level q X) (sym child) (turn-neighbour (c .before .before .before .before .args .i) s .treed) }
+      let level : ℕ = start c .args .level in
+      record { level = level; ready = subst (λ q. Treed level q X) (sym child) (turn-neighbour (start c .args .i) s .treed) }
 
-module _ (c : tie.After-number-in) (X : Image) (h : Holds (c .before .before .before .before .before .before .args .img .now) X) (s : Turnable (c .before .before .before .before .before .before .args .level) (c .before .before .before .before .before .before .args .p) (c .before .before .before .before .before .before .args .i) X) where
-  number : c .number-in .result ≡ length (entries X (at (entries X (c .before .before .before .before .before .before .args .p)) (neighbour (c .before .before .before .before .before .before .args .i)) .child))
-  number = c .number-in .ensures X h (leveled (c .before .before) X h s) .0 ∙ ap (λ q. length (entries X q)) (child (c .before .before) X h s)
+abbrev asked : tie.After-number-in → tie.After-child-at
+asked c = c .before .before
+
+module _ (c : tie.After-number-in) (X : Image) (h : Holds (start (asked c) .args .img .now) X)
+    (s : Turnable (start (asked c) .args .level) (start (asked c) .args .p) (start (asked c) .args .i) X) where
+  number :
+      c .number-in .result ≡ length (entries X (at (entries X (start (asked c) .args .p)) (neighbour (start (asked c) .args .i)) .child))
+  number = c .number-in .ensures X h (leveled (asked c) X h s) .0 ∙ ap (λ q. length (entries X q)) (child (asked c) X h s)
 
   few : c .number-in .result ≤ 24
-  few = c .number-in .ensures X h (leveled (c .before .before) X h s) .1
+  few = c .number-in .ensures X h (leveled (asked c) X h s) .1
 
 number-in-requires : tie.Need-number-in-requires
 number-in-requires c κs =
@@ -46,46 +56,46 @@ number-in-requires c κs =
 
 give-requires : tie.Need-give-requires
 give-requires c κs =
-    let read = c .before .before .before .before in
-    let pre = read .before .before .before .before .before .before .pre in
+    let many = c .before .before .before in
+    let read = many .before in
+    let pre = start (asked read) .pre in
     let X : Image = pre .image in
-    record {
-      image = X;
-      holds = pre .holds;
-      ready =
-          turn-sharable (c .before .left-of .ensures) (number read X (pre .holds) (pre .ready)) (c .left-share .ensures) (c .before .before .before .if1 .taken)
-          (few read X (pre .holds) (pre .ready)) (pre .ready);
-    }
+    let h = pre .holds in
+    let s = pre .ready in
+    let n = number read X h s in
+    let ready = turn-sharable (c .before .left-of .ensures) n (c .left-share .ensures) (many .if1 .taken) (few read X h s) s in
+    record { image = X; holds = h; ready = ready }
 
 returns : tie.Need-returns
 returns c X h s =
     let share = c .before .before .before in
-    let read = share .before .before .before .before in
-    let args = read .before .before .before .before .before .before .args in
+    let l = share .before .left-of .ensures in
+    let k = share .left-share .ensures in
+    let many = share .before .before .before in
+    let read = many .before in
+    let args = start (asked read) .args in
     let n = number read X h s in
-    subst (Holds _) (turn-gave (args .kind) (args .level) (args .p) (args .i) X (share .before .left-of .ensures) n (share .left-share .ensures) (share .before .before .before .if1 .taken))
-    (c .before .before .give .ensures X h
-    (turn-sharable (share .before .left-of .ensures) n (share .left-share .ensures) (share .before .before .before .if1 .taken) (few read X h s) s))
+    subst (Holds _) (turn-gave (args .kind) (args .level) (args .p) (args .i) X l n k (many .if1 .taken))
+    (c .before .before .give .ensures X h (turn-sharable l n k (many .if1 .taken) (few read X h s) s))
 
 merge-requires : tie.Need-merge-requires
 merge-requires c κs =
-    let read = c .before .before .before in
-    let pre = read .before .before .before .before .before .before .pre in
-    let X : Image = pre .image in
-    record {
-      image = X;
-      holds = pre .holds;
-      ready = turn-mergeable (c .left-of2 .ensures) (number read X (pre .holds) (pre .ready)) (c .before .before .if1 .left) (pre .ready);
-    }
+    let some = c .before .before in
+    let read = some .before in
+    let pre = start (asked read) .pre in
+    let n = number read (pre .image) (pre .holds) (pre .ready) in
+    record { image = pre .image; holds = pre .holds; ready = turn-mergeable (c .left-of2 .ensures) n (some .if1 .left) (pre .ready) }
 
 returns-2 : tie.Need-returns-2
 returns-2 c X h s =
     let left = c .before .before .before in
-    let read = left .before .before .before in
-    let args = read .before .before .before .before .before .before .args in
+    let l = left .left-of2 .ensures in
+    let some = left .before .before in
+    let read = some .before in
+    let args = start (asked read) .args in
     let n = number read X h s in
-    subst (Holds _) (turn-merged (args .kind) (args .level) (args .p) (args .i) X (left .left-of2 .ensures) n (left .before .before .if1 .left))
-    (c .before .before .merge .ensures X h (turn-mergeable (left .left-of2 .ensures) n (left .before .before .if1 .left) s))
+    subst (Holds _) (turn-merged (args .kind) (args .level) (args .p) (args .i) X l n (some .if1 .left))
+    (c .before .before .merge .ensures X h (turn-mergeable l n (some .if1 .left) s))
 
 pub turn-spec : {M : Type 1} → statement M
 turn-spec =

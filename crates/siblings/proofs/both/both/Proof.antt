@@ -3,14 +3,12 @@ use mathlib.Core.Path.{_≡_, sym, ap, _∙_, subst}
 use Prim.Native.Nat.{ℕ, suc, _<_, _≤_}
 use native.Mathlib.Numerals.{add-one}
 use native.Mathlib.Omega.{arith}
-use Rattle.rule.specs.Pairs.{combine}
 use Rattle.page.specs.Entries.{at}
 use Rattle.image.specs.Images.{Image}
 use Rattle.steps.specs.Supply.{entries}
-use Rattle.steps.specs.Heal.{pushed}
 use Rattle.store.specs.Holding.{Holds, Loaded}
 use Rattle.siblings.specs.Ready.{Sinkable, Siblings}
-use Rattle.siblings.proofs.Families.{loaded-number, loaded-at}
+use Rattle.siblings.proofs.Families.{loaded-number, loaded-at, pushed-read}
 use Rattle.siblings.proofs.both.both.Statement.{statement}
 use Rattle.siblings.proofs.both.both.Tie as tie
 
@@ -19,65 +17,66 @@ load-requires c κs =
     let pre = c .before .pre in
     record { image = pre .image; holds = pre .holds; ready = pre .ready .parent .within }
 
--- the page above, of every image that the bytes hold
-module _ (c : tie.After-load) (X : Image) (h : Holds (c .before .before .args .img .now) X)
-    (s : Siblings (c .before .before .args .level) (c .before .before .args .p) (c .before .before .args .l) X) where
-  above : Loaded (suc (c .before .before .args .level)) (entries X (c .before .before .args .p)) (c .load .result)
+-- ---- the page above and its two entries, of every image that the bytes hold
+
+abbrev start : tie.After-load → tie.Start
+start c = c .before .before
+
+module _ (c : tie.After-load) (X : Image) (h : Holds (start c .args .img .now) X)
+    (s : Siblings (start c .args .level) (start c .args .p) (start c .args .l) X) where
+  above : Loaded (suc (start c .args .level)) (entries X (start c .args .p)) (c .load .result)
   above = c .load .ensures X h (s .parent .within) _ _ (s .parent .page)
 
-known : (c : tie.After-load) → (suc (c .before .before .args .l) < c .load .result .number) × (c .load .result .number ≤ 25)
+known : (c : tie.After-load) → (suc (start c .args .l) < c .load .result .number) × (c .load .result .number ≤ 25)
 known c =
-    let pre = c .before .before .pre in
+    let pre = start c .pre in
     let n = above c (pre .image) (pre .holds) (pre .ready) in
     (omega (arith, loaded-number n, pre .ready .both), omega (arith, n .few))
 
-module _ (c : tie.After-entry-at2) (X : Image) (h : Holds (c .before .before .before .before .args .img .now) X)
-    (s : Siblings (c .before .before .before .before .args .level) (c .before .before .before .before .args .p) (c .before .before .before .before .args .l) X) where
-  first : c .before .entry-at .result ≡ at (entries X (c .before .before .before .before .args .p)) (c .before .before .before .before .args .l)
-  first = loaded-at _ (above (c .before .before) X h s) (c .before .entry-at .ensures)
+abbrev load : tie.After-entry-at2 → tie.After-load
+load c = c .before .before
 
-  second : c .entry-at2 .result ≡ at (entries X (c .before .before .before .before .args .p)) (suc (c .before .before .before .before .args .l))
+module _ (c : tie.After-entry-at2) (X : Image) (h : Holds (start (load c) .args .img .now) X)
+    (s : Siblings (start (load c) .args .level) (start (load c) .args .p) (start (load c) .args .l) X) where
+  first : c .before .entry-at .result ≡ at (entries X (start (load c) .args .p)) (start (load c) .args .l)
+  first = loaded-at _ (above (load c) X h s) (c .before .entry-at .ensures)
+
+  second : c .entry-at2 .result ≡ at (entries X (start (load c) .args .p)) (suc (start (load c) .args .l))
   second =
-      let args = c .before .before .before .before .args in
-      loaded-at _ (above (c .before .before) X h s) (c .entry-at2 .ensures) ∙ ap (at (entries X (args .p))) (add-one (args .l))
+      let args = start (load c) .args in
+      loaded-at _ (above (load c) X h s) (c .entry-at2 .ensures) ∙ ap (at (entries X (args .p))) (add-one (args .l))
+
+-- ---- the pages under them
 
 pushed-requires : tie.Need-pushed-requires
 pushed-requires c κs =
-    let start = c .before .before .before .before in
-    let pre = start .pre in
-    let e = first c (pre .image) (pre .holds) (pre .ready) in
-    record {
-      image = pre .image;
-      holds = pre .holds;
-      ready = record { level = start .args .level; ready = subst (λ a. Sinkable (start .args .level) a (pre .image)) (sym e) (pre .ready .left) };
-    }
+    let pre = start (load c) .pre in
+    let X : Image = pre .image in
+    let e = first c X (pre .holds) (pre .ready) in
+    let sinks = subst (λ a. Sinkable (start (load c) .args .level) a X) (sym e) (pre .ready .left) in
+    record { image = X; holds = pre .holds; ready = record { level = _; ready = sinks } }
 
 pushed-requires-2 : tie.Need-pushed-requires-2
 pushed-requires-2 c κs =
-    let start = c .before .before .before .before .before in
-    let pre = start .pre in
-    let e = second (c .before) (pre .image) (pre .holds) (pre .ready) in
-    record {
-      image = pre .image;
-      holds = pre .holds;
-      ready = record { level = start .args .level; ready = subst (λ a. Sinkable (start .args .level) a (pre .image)) (sym e) (pre .ready .right) };
-    }
+    let read = c .before in
+    let pre = start (load read) .pre in
+    let X : Image = pre .image in
+    let e = second read X (pre .holds) (pre .ready) in
+    let sinks = subst (λ a. Sinkable (start (load read) .args .level) a X) (sym e) (pre .ready .right) in
+    record { image = X; holds = pre .holds; ready = record { level = _; ready = sinks } }
 
 returns : tie.Need-returns
 returns c X h s =
     let one = c .before in
     let read = one .before in
-    let args = read .before .before .before .before .args in
+    let level : ℕ = start (load read) .args .level in
+    let kind : ℕ = start (load read) .args .kind in
     record {
-      parent = above (read .before .before) X h s;
+      parent = above (load read) X h s;
       a = first read X h s;
       b = second read X h s;
-      left =
-          subst (λ e. Sinkable (args .level) e X → Loaded (args .level) (pushed (combine (args .kind)) X e) (one .pushed .result)) (first read X h s)
-          (λ k. one .pushed .ensures X h tt (args .level) k) (s .left);
-      right =
-          subst (λ e. Sinkable (args .level) e X → Loaded (args .level) (pushed (combine (args .kind)) X e) (c .pushed2 .result)) (second read X h s)
-          (λ k. c .pushed2 .ensures X h tt (args .level) k) (s .right);
+      left = pushed-read kind (first read X h s) (one .pushed .ensures X h tt level) (s .left);
+      right = pushed-read kind (second read X h s) (c .pushed2 .ensures X h tt level) (s .right);
     }
 
 pub both-spec : {M : Type 1} → statement M

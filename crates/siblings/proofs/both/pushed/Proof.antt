@@ -11,14 +11,17 @@ load-requires c κs =
 
 push-requires : tie.Need-push-requires
 push-requires c κs =
-    let pre = c .before .before .before .pre in
+    let start = c .before .before .before in
+    let pre = start .pre in
     let s = pre .ready .ready in
-    loaded-pushable (c .before .before .before .args .e) (pre .image) (c .load .ensures (pre .image) (pre .holds) (s .treed .within) _ _ (s .treed .page)) s
+    let read = c .load .ensures (pre .image) (pre .holds) (s .treed .within) _ _ (s .treed .page) in
+    loaded-pushable (start .args .e) (pre .image) read s
 
 returns : tie.Need-returns
 returns c X h any l s =
     let args = c .before .before .before .before .args in
-    loaded-pushed (args .e) X (c .before .load .ensures X h (s .treed .within) _ _ (s .treed .page)) (combine (args .kind)) (c .push .ensures)
+    let read = c .before .load .ensures X h (s .treed .within) _ _ (s .treed .page) in
+    loaded-pushed (args .e) X read (combine (args .kind)) (c .push .ensures)
 
 pub pushed-spec : {M : Type 1} → statement M
 pushed-spec = tie.close (tie.spec load-requires push-requires returns)

@@ -1,10 +1,8 @@
 -- `siblings::give::give` meets its contract: both pages share all entries anew, and three pages are written. Assumes nothing.
-use mathlib.Core.Path.{_≡_, sym, ap, _∙_, subst}
+use mathlib.Core.Path.{sym, ap, _∙_, subst}
 use Prim.Native.Nat.{ℕ}
 use lib.ListN.{take, drop}
 use borrow.Author.Needs.{needs}
-use Rattle.page.specs.Entries.{at}
-use Rattle.page.specs.Decoded.{shown}
 use Rattle.image.specs.Images.{Image}
 use Rattle.steps.specs.Supply.{entries}
 use Rattle.store.specs.Holding.{Holds, Within}
@@ -42,7 +40,8 @@ entry-at-requires c κs =
 shared-requires : tie.Need-shared-requires
 shared-requires c κs =
     let pre = c .before .before .before .before .before .before .before .before .pre in
-    opened-two (c .before .before .before .before .before .both .ensures (pre .image) (pre .holds) (pre .ready .siblings)) (pre .ready .siblings)
+    let opened = c .before .before .before .before .before .both .ensures (pre .image) (pre .holds) (pre .ready .siblings) in
+    opened-two opened (pre .ready .siblings)
 
 abbrev start : tie.After-shared → tie.Start
 start c = c .before .before .before .before .before .before .before .before .before
@@ -80,45 +79,48 @@ module _ (c : tie.After-shared) (X : Image) (h : Holds (start c .args .img .now)
 
 save-requires : tie.Need-save-requires
 save-requires c κs =
-    let pre = start (c .before) .pre in
-    let w = left-within (c .before) (pre .image) (pre .holds) (pre .ready) in
-    (record { image = pre .image; holds = pre .holds; ready = w }, writable (gave-left (gave (c .before) (pre .image) (pre .holds) (pre .ready)) (pre .ready)))
+    let at = c .before in
+    let pre = start at .pre in
+    let X : Image = pre .image in
+    let h = pre .holds in
+    let s = pre .ready in
+    (record { image = X; holds = h; ready = left-within at X h s }, writable (gave-left (gave at X h s) s))
 
 save-requires-2 : tie.Need-save-requires-2
 save-requires-2 c κs =
-    let at = c .before .before .before .before .before in
+    let one = c .before .before .before in
+    let at = one .before .before in
     let pre = start at .pre in
-    let w = left-within at (pre .image) (pre .holds) (pre .ready) in (
-      record {
-        image = _;
-        holds = c .before .before .before .save .ensures (pre .image) (pre .holds) w;
-        ready = within-put (right-within at (pre .image) (pre .holds) (pre .ready)) _ _;
-      },
-      writable (gave-right (gave at (pre .image) (pre .holds) (pre .ready)) (pre .ready)),
-    )
+    let X : Image = pre .image in
+    let h = pre .holds in
+    let s = pre .ready in
+    let left = one .save .ensures X h (left-within at X h s) in
+    (record { image = _; holds = left; ready = within-put (right-within at X h s) _ _ }, writable (gave-right (gave at X h s) s))
 
 save-requires-3 : tie.Need-save-requires-3
 save-requires-3 c κs =
-    let at = c .before .before .before .before .before .before .before .before .before in
+    let two = c .before .before .before in
+    let one = two .before .before .before .before in
+    let at = one .before .before in
     let pre = start at .pre in
-    let w = left-within at (pre .image) (pre .holds) (pre .ready) in
-    let v = right-within at (pre .image) (pre .holds) (pre .ready) in (
-      record {
-        image = _;
-        holds = c .before .before .before .save2 .ensures _ (c .before .before .before .before .before .before .before .save .ensures (pre .image) (pre .holds) w) (within-put v _ _);
-        ready = within-put (within-put (pre .ready .siblings .parent .within) _ _) _ _;
-      },
-      writable (gave-parent (gave at (pre .image) (pre .holds) (pre .ready)) (pre .ready) (above-few (opened at (pre .image) (pre .holds) (pre .ready)))),
-    )
+    let X : Image = pre .image in
+    let h = pre .holds in
+    let s = pre .ready in
+    let left = one .save .ensures X h (left-within at X h s) in
+    let right = two .save2 .ensures _ left (within-put (right-within at X h s) _ _) in
+    let within = within-put (within-put (s .siblings .parent .within) _ _) _ _ in
+    (record { image = _; holds = right; ready = within }, writable (gave-parent (gave at X h s) s (above-few (opened at X h s))))
 
 returns : tie.Need-returns
 returns c X h s =
-    let at = c .before .before .before .before .before .before .before .before .before .before .before .before in
-    let o = opened at X h s in
-    let w = left-within at X h s in
-    let v = right-within at X h s in
-    subst (Holds _) (give-is (gave at X h s) (o .a) (o .b))
-    (c .before .before .save3 .ensures _ (c .before .before .before .before .before .before .save2 .ensures _ (c .before .before .before .before .before .before .before .before .before .before .save .ensures X h w) (within-put v _ _)) (within-put (within-put (s .siblings .parent .within) _ _) _ _))
+    let three = c .before .before in
+    let two = three .before .before .before .before in
+    let one = two .before .before .before .before in
+    let at = one .before .before in
+    let left = one .save .ensures X h (left-within at X h s) in
+    let right = two .save2 .ensures _ left (within-put (right-within at X h s) _ _) in
+    let within = within-put (within-put (s .siblings .parent .within) _ _) _ _ in
+    subst (Holds _) (give-is (gave at X h s) (opened at X h s .a) (opened at X h s .b)) (three .save3 .ensures _ right within)
 
 pub give-spec : {M : Type 1} → statement M
 give-spec =

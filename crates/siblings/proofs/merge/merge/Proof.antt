@@ -1,13 +1,11 @@
 -- `siblings::merge::merge` meets its contract: both pages join in the left one, and the right one is given back. Assumes nothing.
-use mathlib.Core.Path.{_≡_, sym, subst}
-use Prim.Native.Nat.{ℕ}
+use mathlib.Core.Path.{sym, subst}
 use borrow.Author.Needs.{needs}
 use native.Mathlib.Omega.{arith}
 use Rattle.image.specs.Images.{Image}
 use Rattle.store.specs.Holding.{Holds, Within}
 use Rattle.store.specs.Supplying.{Givable}
 use Rattle.store.proofs.Supplying.{within-put, within-given}
-use Rattle.steps.specs.Supply.{put}
 use Rattle.siblings.specs.declared.Family.{Family}
 use Rattle.siblings.specs.Ready.{Mergeable}
 use Rattle.siblings.specs.Opened.{Opened, united}
@@ -44,7 +42,8 @@ module _ (c : tie.After-united) (X : Image) (h : Holds (start c .args .img .now)
   opened : Opened (start c .args .kind) (start c .args .level) (start c .args .p) (start c .args .l) X family
   opened = c .before .before .before .before .both .ensures X h (s .siblings)
 
-  joint : Joint (start c .args .kind) (start c .args .level) (start c .args .p) (start c .args .l) X (c .before .append .result) (c .united .result)
+  joint : Joint (start c .args .kind) (start c .args .level) (start c .args .p) (start c .args .l) X
+      (c .before .append .result) (c .united .result)
   joint =
       record {
         all = shows-both opened (λ es. es) (c .before .append .ensures);
@@ -60,43 +59,48 @@ module _ (c : tie.After-united) (X : Image) (h : Holds (start c .args .img .now)
 
 save-requires : tie.Need-save-requires
 save-requires c κs =
-    let pre = start (c .before) .pre in
-    let w = left-within (c .before) (pre .image) (pre .holds) (pre .ready) in
-    (record { image = pre .image; holds = pre .holds; ready = w }, writable (joint-all (joint (c .before) (pre .image) (pre .holds) (pre .ready)) (pre .ready)))
+    let at = c .before in
+    let pre = start at .pre in
+    let X : Image = pre .image in
+    let h = pre .holds in
+    let s = pre .ready in
+    (record { image = X; holds = h; ready = left-within at X h s }, writable (joint-all (joint at X h s) s))
 
 give-back-requires : tie.Need-give-back-requires
 give-back-requires c κs =
-    let at = c .before .before .before .before .before in
+    let one = c .before .before .before in
+    let at = one .before .before in
     let pre = start at .pre in
-    let w = left-within at (pre .image) (pre .holds) (pre .ready) in
-    record {
-      image = _;
-      holds = c .before .before .before .save .ensures (pre .image) (pre .holds) w;
-      ready = givable-put (right-givable at (pre .image) (pre .holds) (pre .ready)) _ _;
-    }
+    let X : Image = pre .image in
+    let h = pre .holds in
+    let s = pre .ready in
+    let left = one .save .ensures X h (left-within at X h s) in
+    record { image = _; holds = left; ready = givable-put (right-givable at X h s) _ _ }
 
 save-requires-2 : tie.Need-save-requires-2
 save-requires-2 c κs =
-    let at = c .before .before .before .before .before .before .before .before .before in
+    let two = c .before .before .before in
+    let one = two .before .before .before .before in
+    let at = one .before .before in
     let pre = start at .pre in
-    let w = left-within at (pre .image) (pre .holds) (pre .ready) in
-    let v = right-givable at (pre .image) (pre .holds) (pre .ready) in (
-      record {
-        image = _;
-        holds = c .before .before .before .give-back .ensures _ (c .before .before .before .before .before .before .before .save .ensures (pre .image) (pre .holds) w) (givable-put v _ _);
-        ready = within-given (within-put (pre .ready .siblings .parent .within) _ _) _;
-      },
-      writable (joint-parent (joint at (pre .image) (pre .holds) (pre .ready)) (pre .ready) (above-few (opened at (pre .image) (pre .holds) (pre .ready)))),
-    )
+    let X : Image = pre .image in
+    let h = pre .holds in
+    let s = pre .ready in
+    let left = one .save .ensures X h (left-within at X h s) in
+    let right = two .give-back .ensures _ left (givable-put (right-givable at X h s) _ _) in
+    let within = within-given (within-put (s .siblings .parent .within) _ _) _ in
+    (record { image = _; holds = right; ready = within }, writable (joint-parent (joint at X h s) s (above-few (opened at X h s))))
 
 returns : tie.Need-returns
 returns c X h s =
-    let at = c .before .before .before .before .before .before .before .before .before .before .before .before in
-    let o = opened at X h s in
-    let w = left-within at X h s in
-    let v = right-givable at X h s in
-    subst (Holds _) (merge-is (joint at X h s) (o .a) (o .b))
-    (c .before .before .save2 .ensures _ (c .before .before .before .before .before .before .give-back .ensures _ (c .before .before .before .before .before .before .before .before .before .before .save .ensures X h w) (givable-put v _ _)) (within-given (within-put (s .siblings .parent .within) _ _) _))
+    let three = c .before .before in
+    let two = three .before .before .before .before in
+    let one = two .before .before .before .before in
+    let at = one .before .before in
+    let left = one .save .ensures X h (left-within at X h s) in
+    let right = two .give-back .ensures _ left (givable-put (right-givable at X h s) _ _) in
+    let within = within-given (within-put (s .siblings .parent .within) _ _) _ in
+    subst (Holds _) (merge-is (joint at X h s) (opened at X h s .a) (opened at X h s .b)) (three .save2 .ensures _ right within)
 
 pub merge-spec : {M : Type 1} → statement M
 merge-spec =

@@ -21,7 +21,8 @@ replace-requires-2 c κs =
     let args = c .before .before .before .before .before .args in
     let es : List Entry = shown (args .parent) in
     let n = length-shown (args .parent) in
-    omega (arith, shows-number (c .before .replace .ensures), length-splice (args .l + 1) (c .before .before .emptied .result ∷ []) es (omega arith))
+    let followed = shows-number (c .before .replace .ensures) in
+    omega (arith, length-splice (args .l + 1) (c .before .before .emptied .result ∷ []) es (omega arith))
 
 returns : tie.Need-returns
 unfolding shared
@@ -34,7 +35,8 @@ returns c =
     let es : List Entry = shown (args .parent) in
     let l : ℕ = args .l in
     let b : emptied1 .emptied .result ≡ entry (args .start) none (at es (suc l) .child) =
-    emptied1 .emptied .ensures ∙ ap (λ (e : Entry). entry (args .start) none (e .child)) (read .entry-at2 .ensures ∙ ap (at es) (add-one l)) in
+    emptied1 .emptied .ensures
+    ∙ ap (λ (e : Entry). entry (args .start) none (e .child)) (read .entry-at2 .ensures ∙ ap (at es) (add-one l)) in
     let a : emptied2 .emptied2 .result ≡ emptied l es =
     emptied2 .emptied2 .ensures ∙ ap (λ (e : Entry). entry (e .start) none (e .child)) (read .before .entry-at .ensures) in
     record {

@@ -1,14 +1,14 @@
 -- `siblings::parents::united` meets its contract: the right entry goes, and the left one is put in its place. Assumes nothing.
 use mathlib.Core.Path.{_≡_, ap, _∙_}
 use mathlib.Core.List.{List, [], _∷_}
-use Prim.Native.Nat.{ℕ, suc, _+_}
+use Prim.Native.Nat.{ℕ, _+_}
 use borrow.Author.Needs.{needs}
 use native.Mathlib.Numerals.{add-one}
 use native.Mathlib.Omega.{arith}
 use Rattle.rule.specs.Pairs.{none}
 use Rattle.page.specs.declared.Entry.{Entry}
 use Rattle.page.specs.Decoded.{shown}
-use Rattle.page.specs.Entries.{entry, at, splice}
+use Rattle.page.specs.Entries.{entry, splice}
 use Rattle.page.proofs.Laws.Decoded.{length-shown}
 use Rattle.edit.proofs.Edits.{shows-number}
 use Rattle.siblings.specs.Opened.{emptied, united}
