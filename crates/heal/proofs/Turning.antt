@@ -5,7 +5,7 @@ use Prim.Native.Nat.{ℕ, zero, suc, _+_, _-_, _≤_, _<_}
 use native.Mathlib.Omega.{arith}
 use lib.Dec.{eqb, ltb}
 use lib.ListN.{length}
-use borrow.Author.Tests.{eq-eqb, ne-eqb, lt-ltb, le-ltb}
+use borrow.Author.Tests.{eq-eqb, ne-eqb, lt-ltb, le-ltb, ltb-true, ltb-false}
 use Rattle.rule.specs.Pairs.{combine}
 use Rattle.page.specs.Entries.{at}
 use Rattle.image.specs.Images.{Image}
@@ -16,41 +16,53 @@ use Rattle.heal.specs.Ready.{Parent, Turnable}
 
 -- ---- the two places, and how many entries the left one has
 
+-- what was asked says
+module _ (i : ℕ) {b : Bool} (asked : b ≡ ltb 0 i) where
+  pub has-left : b ≡ true → 0 < i
+  has-left e = ltb-true 0 i (sym asked ∙ e)
+
+  pub has-none : b ≡ false → i ≡ 0
+  has-none e = omega (arith, ltb-false 0 i (sym asked ∙ e))
+
 module _ (i : ℕ) (e : i ≡ 0) where
-  pub neighbour-first : 1 ≡ neighbour i
+  pub neighbour-right : i + 1 ≡ neighbour i
   unfolding neighbour
-  neighbour-first = ap (λ b. cond b 1 (i - 1)) (sym (eq-eqb i 0 e))
+  neighbour-right =
+      let d : i + 1 ≡ 1 = omega arith in
+      d ∙ ap (λ b. cond b 1 (i - 1)) (sym (eq-eqb i 0 e))
 
-  pub share-first : (n : ℕ) → 12 ≡ cond (eqb i 0) 12 (n - 1)
-  share-first n = ap (λ b. cond b 12 (n - 1)) (sym (eq-eqb i 0 e))
-
-  pub left-first : 0 ≡ left-of i
+  pub left-itself : i ≡ left-of i
   unfolding left-of
-  left-first = omega arith
+  left-itself = omega arith
 
-module _ (i : ℕ) (e : i ≡ 0 → ⊥) where
-  pub neighbour-later : i - 1 ≡ neighbour i
+  pub share-right : (n : ℕ) → 12 ≡ cond (eqb i 0) 12 (n - 1)
+  share-right n = ap (λ b. cond b 12 (n - 1)) (sym (eq-eqb i 0 e))
+
+module _ (i : ℕ) (e : 0 < i) where
+  pub neighbour-left : i - 1 ≡ neighbour i
   unfolding neighbour
-  neighbour-later = ap (λ b. cond b 1 (i - 1)) (sym (ne-eqb i 0 e))
+  neighbour-left = ap (λ b. cond b 1 (i - 1)) (sym (ne-eqb i 0 (λ z. omega arith)))
 
-  pub share-later : (n : ℕ) → n - 1 ≡ cond (eqb i 0) 12 (n - 1)
-  share-later n = ap (λ b. cond b 12 (n - 1)) (sym (ne-eqb i 0 e))
+  pub left-before : i - 1 ≡ left-of i
+  unfolding left-of
+  left-before = refl
 
-pub left-is : (i : ℕ) → i - 1 ≡ left-of i
-unfolding left-of
-left-is i = refl
+  pub share-left : (n : ℕ) → n - 1 ≡ cond (eqb i 0) 12 (n - 1)
+  share-left n = ap (λ b. cond b 12 (n - 1)) (sym (ne-eqb i 0 (λ z. omega arith)))
 
 -- ---- the neighbour
 
-neighbour-suc : (i : ℕ) → neighbour (suc i) ≡ i
-neighbour-suc i =
-    let d : suc i - 1 ≡ i = omega arith in
-    sym (neighbour-later (suc i) (λ e. omega arith)) ∙ d
+-- of the first page the right one, of another one the left one
+right-is : suc (left-of 0) ≡ neighbour 0
+right-is = ap suc (sym (left-itself 0 refl)) ∙ neighbour-right 0 refl
 
-left-suc : (i : ℕ) → left-of (suc i) ≡ i
-left-suc i =
-    let d : suc i - 1 ≡ i = omega arith in
-    sym (left-is (suc i)) ∙ d
+left-is : (i : ℕ) → left-of (suc i) ≡ neighbour (suc i)
+left-is i = sym (left-before (suc i) (omega arith)) ∙ neighbour-left (suc i) (omega arith)
+
+after-left : (i : ℕ) → suc (left-of (suc i)) ≡ suc i
+after-left i =
+    let d : suc (suc i - 1) ≡ suc i = omega arith in
+    ap suc (sym (left-before (suc i) (omega arith))) ∙ d
 
 -- The page under the i-th entry is one of the two siblings, its neighbour the other one.
 pub record Pairing (level p i : ℕ) (X : Image) : Type 0 where
@@ -59,17 +71,16 @@ pub record Pairing (level p i : ℕ) (X : Image) : Type 0 where
 
 pub turn-neighbour : {level p : ℕ} (i : ℕ) {X : Image} → Turnable level p i X → Pairing level p i X
 turn-neighbour {level} {p} zero {X} s =
-    let l : 0 ≡ left-of 0 = left-first 0 refl in
-    let n : suc (left-of 0) ≡ neighbour 0 = ap suc (sym l) ∙ neighbour-first 0 refl in
+    let e = right-is in
     record {
       inside = omega (arith, s .siblings .both);
-      treed = subst (λ k. Treed level (at (entries X p) k .child) X) n (s .siblings .right .treed);
+      treed = subst (λ k. Treed level (at (entries X p) k .child) X) e (s .siblings .right .treed);
     }
 turn-neighbour {level} {p} (suc i) {X} s =
-    let n : left-of (suc i) ≡ neighbour (suc i) = left-suc i ∙ sym (neighbour-suc i) in
+    let e = left-is i in
     record {
       inside = omega (arith, s .siblings .both);
-      treed = subst (λ k. Treed level (at (entries X p) k .child) X) n (s .siblings .left .treed);
+      treed = subst (λ k. Treed level (at (entries X p) k .child) X) e (s .siblings .left .treed);
     }
 
 pub turn-parent : {level p i j : ℕ} {X : Image} → Turnable level p i X → j ≡ neighbour i → Parent p j X
@@ -87,23 +98,17 @@ abbrev under : ℕ → Image → ℕ → ℕ
 under p X k = length (entries X (at (entries X p) k .child))
 
 both-sizes : (p i : ℕ) (X : Image) → under p X (left-of i) + under p X (suc (left-of i)) ≡ under p X i + under p X (neighbour i)
-both-sizes p zero X =
-    let l : left-of 0 ≡ 0 = sym (left-first 0 refl) in
-    let n : suc (left-of 0) ≡ neighbour 0 = ap suc l ∙ neighbour-first 0 refl in
-    λ j. under p X (l j) + under p X (n j)
-both-sizes p (suc i) X =
-    let l : left-of (suc i) ≡ neighbour (suc i) = left-suc i ∙ sym (neighbour-suc i) in
-    let n : suc (left-of (suc i)) ≡ suc i = ap suc (left-suc i) in
-    omega (arith, ap (under p X) l, ap (under p X) n)
+both-sizes p zero X = λ j. under p X (sym (left-itself 0 refl) j) + under p X (right-is j)
+both-sizes p (suc i) X = omega (arith, ap (under p X) (left-is i), ap (under p X) (after-left i))
 
 -- the left page's share is neither more than a page has nor less than leaves the other one room
 share-fits : (i n : ℕ) → 12 < n → n ≤ 24
     → (cond (eqb i 0) 12 (n - 1) ≤ 24) × ((cond (eqb i 0) 12 (n - 1) < n) × (n ≤ cond (eqb i 0) 12 (n - 1) + 12))
 share-fits zero n low high =
-    let e = share-first 0 refl n in
+    let e = share-right 0 refl n in
     (omega arith, (omega arith, omega arith))
 share-fits (suc i) n low high =
-    let e = share-later (suc i) (λ z. omega arith) n in
+    let e = share-left (suc i) (omega arith) n in
     (omega arith, (omega arith, omega arith))
 
 module _ {level p i l n : ℕ} {X : Image} (at-left : l ≡ left-of i) (has : n ≡ under p X (neighbour i)) where

@@ -1,6 +1,7 @@
 // "Heal at t: only if t starts a leaf entry that isn't first in its page, with the same pair as the one before; it goes."
 use edit::entry::entry_at;
 use edit::remove::remove;
+use page::Entry;
 use page::Page;
 use rule::combine::same_pair;
 use store::pages::load;
@@ -8,10 +9,20 @@ use store::pages::save;
 use store::places::place_of;
 ghost use mathlib.Core.Path.{_≡_};
 ghost use Prim.Native.Nat.{_<_, _≤_};
+ghost use Rattle.rule.specs.Pairs.{same-pair};
 ghost use Rattle.page.specs.Decoded.{shown};
 ghost use Rattle.steps.specs.Heal.{heals};
 ghost use Rattle.store.specs.Holding.{Holds, Some, Each};
 ghost use Rattle.heal.specs.Ready.{Leaf-healable, healed-leaf};
+
+// Whether two entries have the same pair.
+fn alike(e: Entry, before: Entry) -> bool
+    ensures { λ r. ⌜ r ≡ same-pair (e .pair) (before .pair) ⌝ }
+{
+    let p = e.pair;
+    let q = before.pair;
+    same_pair(p, q)
+}
 
 // Whether the i-th entry goes.
 fn heals(page: Page, i: usize, t: u32) -> bool
@@ -23,9 +34,7 @@ fn heals(page: Page, i: usize, t: u32) -> bool
     }
     let e = entry_at(page, i);
     let before = entry_at(page, i - 1);
-    let pair = e.pair;
-    let other = before.pair;
-    (e.start == t) & same_pair(pair, other)
+    (e.start == t) & alike(e, before)
 }
 
 // The leaf p. Nothing is written where no entry goes.

@@ -5,25 +5,32 @@ use siblings::give::give;
 use siblings::merge::merge;
 ghost use mathlib.Core.Path.{_≡_};
 ghost use mathlib.Core.Bool.{cond};
-ghost use lib.Dec.{eqb};
+ghost use lib.Dec.{eqb, ltb};
 ghost use Prim.Native.Nat.{_-_, _≤_};
 ghost use Rattle.rule.specs.Pairs.{combine};
 ghost use Rattle.steps.specs.Heal.{neighbour, left-of, turn};
 ghost use Rattle.store.specs.Holding.{Holds, Some, Each};
 ghost use Rattle.heal.specs.Ready.{Turnable};
 
+// Whether the page under the i-th entry has a left neighbour: that one is asked.
+fn has_left(i: usize) -> bool
+    ensures { λ r. ⌜ r ≡ ltb 0 i ⌝ }
+{
+    0 < i
+}
+
 // The neighbour's place.
 fn neighbour(i: usize) -> usize
     ensures { λ r. ⌜ r ≡ neighbour i ⌝ }
 {
-    if i == 0 { 1 } else { i - 1 }
+    if has_left(i) { i - 1 } else { i + 1 }
 }
 
 // The place of the left one of the two.
 fn left_of(i: usize) -> usize
     ensures { λ r. ⌜ r ≡ left-of i ⌝ }
 {
-    if i == 0 { 0 } else { i - 1 }
+    if has_left(i) { i - 1 } else { i }
 }
 
 // How many entries the left one has then, if the neighbour has n and gives one.
@@ -31,7 +38,7 @@ fn left_share(i: usize, n: usize) -> usize
     requires { ⌜ 1 ≤ n ⌝ }
     ensures { λ r. ⌜ r ≡ cond (eqb i 0) 12 (n - 1) ⌝ }
 {
-    if i == 0 { 12 } else { n - 1 }
+    if has_left(i) { n - 1 } else { 12 }
 }
 
 // The page under the i-th entry of page p turns to its neighbour.

@@ -12,12 +12,12 @@ returns c =
 
 returns-2 : tie.Need-returns-2
 returns-2 c =
-    let before = c .before .before .before .before in
+    let before = c .before .before in
     let read = before .before in
     let later = read .before in
     let args = later .before .args in
     heals-later (args .t) (args .i) (shown (args .page)) (later .if1 .left) (read .entry-at .ensures) (before .entry-at2 .ensures)
-    (c .same-pair .ensures)
+    (c .alike .ensures)
 
 pub heals-spec : {M : Type 1} → statement M
 heals-spec =
