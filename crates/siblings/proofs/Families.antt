@@ -17,10 +17,14 @@ use Rattle.edit.specs.Pushable.{Pushable}
 use Rattle.edit.proofs.Edits.{shows-number}
 use Rattle.steps.specs.Supply.{entries}
 use Rattle.steps.specs.Heal.{pushed, both}
-use Rattle.store.specs.Holding.{Loaded}
+use Rattle.store.specs.Holding.{Holds, Some, Within, Loaded}
 use Rattle.siblings.specs.declared.Family.{Family}
 use Rattle.siblings.specs.Ready.{Sinkable, Siblings, Sharable}
 use Rattle.siblings.specs.Opened.{Opened, Parted}
+
+-- what a function asks, taken apart: some image that the bytes hold and that is ready
+pub from : {img : List ℕ} {Ready : Image → Type 0} {A : Type 0} → Some img Ready → ((X : Image) → Holds img X → Ready X → A) → A
+from s f = f (s .image) (s .holds) (s .ready)
 
 -- ---- one page
 
@@ -73,6 +77,12 @@ module _ {kind level p l : ℕ} {X : Image} {r : Family} (o : Opened kind level 
 
   pub right-number : r .right .number ≡ length (entries X (at (entries X p) (suc l) .child))
   right-number = loaded-number (o .right) ∙ length-pushed (combine kind) X (at (entries X p) (suc l))
+
+  pub left-within : Siblings level p l X → Within (r .a .child) X
+  left-within s = subst (λ e. Within (e .child) X) (sym (o .a)) (s .left .treed .within)
+
+  pub right-within : Siblings level p l X → Within (r .b .child) X
+  right-within s = subst (λ e. Within (e .child) X) (sym (o .b)) (s .right .treed .within)
 
   pub opened-parted : {k : ℕ} → Sharable level p l k X → Parted k (r .left) (r .right)
   opened-parted s =

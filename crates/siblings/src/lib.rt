@@ -1,5 +1,6 @@
 // Two pages under one parent that share their entries anew or become one. Document 01, "One change in five steps", heal.
-// Each contract is over every image that the bytes hold and that is ready for it (specs/Ready.antt).
+// Each contract is over every image that the bytes hold and that is ready for it (specs/Ready.antt). A parameter `level` is there for the
+// contracts: a page that is written keeps the level that it was read with.
 use page::Entry;
 use page::Page;
 

@@ -11,6 +11,7 @@ ghost use Rattle.page.specs.Decoded.{shown};
 ghost use Rattle.edit.specs.Shows.{Shows};
 ghost use Rattle.siblings.specs.Opened.{Parted};
 
+// The smaller of two numbers.
 fn lesser(k: usize, n: usize) -> usize
     ensures { λ r. ⌜ r ≡ min k n ⌝ }
 {

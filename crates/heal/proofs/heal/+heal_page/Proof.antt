@@ -5,8 +5,8 @@ use borrow.Author.Needs.{needs}
 use borrow.Fn.Kinds.{In}
 use borrow.Fn.PlainCycle.{Measures, is, falls, and}
 use native.Mathlib.Omega.{arith}
-use Rattle.image.specs.Images.{Image}
 use Rattle.store.specs.Holding.{Holds}
+use Rattle.siblings.proofs.Families.{from}
 use Rattle.heal.proofs.Ways.{leaf-ready, leaf-done, inner-sought, inner-parent, inner-went, inner-below, inner-settles, inner-done}
 use Rattle.heal.proofs.heal.heal_page.Reads as heal-page
 use Rattle.heal.proofs.heal.heal_page.Kinds as heal-page-kinds
@@ -45,9 +45,8 @@ pub +heal-page-spec : {M : Type 1} → statement M
     ) (heal-page-at t) heal-page.Post
     (λ c κs.
     let args = c .before .before .before .args in
-    let pre = c .before .before .before .pre .1 in
-    let ready = leaf-ready (args .kind) (args .t) (args .p) (pre .image) (c .before .if1 .taken) (pre .ready) in
-    record { image = pre .image; holds = pre .holds; ready = ready })
+    from (c .before .before .before .pre .1)
+    (λ X h s. record { image = X; holds = h; ready = leaf-ready (args .kind) (args .t) (args .p) X (c .before .if1 .taken) s }))
     (λ c. search needs)
     (λ c X h s.
     let args = c .before .before .before .before .before .before .args in
@@ -56,40 +55,40 @@ pub +heal-page-spec : {M : Type 1} → statement M
     subst (Holds _) (leaf-done (args .kind) (args .t) (args .p) X e) left)
     (λ c κs.
     let args = c .before .before .before .args in
-    let pre = c .before .before .before .pre .1 in
-    let ready = inner-sought (args .kind) (args .t) (args .p) (pre .image) (c .before .if1 .left) (pre .ready) in
-    record { image = pre .image; holds = pre .holds; ready = ready })
+    from (c .before .before .before .pre .1)
+    (λ X h s. record { image = X; holds = h; ready = inner-sought (args .kind) (args .t) (args .p) X (c .before .if1 .left) s }))
     (λ c κs.
     let args = c .before .before .before .before .before .args in
-    let pre = c .before .before .before .before .before .pre .1 in
-    let found = c .before .place-of .ensures (pre .image) (pre .holds) in
-    let ready = inner-parent (args .kind) (args .t) (args .p) (pre .image) (c .before .before .before .if1 .left) (pre .ready) found in
-    record { image = pre .image; holds = pre .holds; ready = ready })
+    from (c .before .before .before .before .before .pre .1)
+    (λ X h s.
+    let found = c .before .place-of .ensures X h in
+    let ready = inner-parent (args .kind) (args .t) (args .p) X (c .before .before .before .if1 .left) s found in
+    record { image = X; holds = h; ready = ready }))
     (λ c. omega (arith, c .before .before .before .before .before .if1 .left))
     (λ c κs.
     let child = c .before in
     let place = child .before .before in
     let e = place .before .before .if1 .left in
-    let args = place .before .before .before .before .args in
-    let pre = place .before .before .before .before .pre .1 in
-    let X : Image = pre .image in
-    let h = pre .holds in
-    let g = inner-went (args .kind) (args .t) (args .p) X e (pre .ready) (place .place-of .ensures X h) (child .child-at .ensures X h) in
-    let ready = inner-below (args .kind) (args .t) (args .p) X e g (pre .ready) in
-    (omega (arith, place .before .before .before .before .pre .0, e), record { image = X; holds = h; ready = ready }))
+    let start = place .before .before .before .before in
+    let args = start .args in
+    from (start .pre .1)
+    (λ X h s.
+    let g = inner-went (args .kind) (args .t) (args .p) X e s (place .place-of .ensures X h) (child .child-at .ensures X h) in
+    let ready = inner-below (args .kind) (args .t) (args .p) X e g s in
+    (omega (arith, start .pre .0, e), record { image = X; holds = h; ready = ready })))
     (λ c. omega (arith, c .before .before .before .before .before .before .before .before .before .if1 .left))
     (λ c κs.
     let below = c .before .before .before in
     let child = below .before .before in
     let place = child .before .before in
     let e = place .before .before .if1 .left in
-    let args = place .before .before .before .before .args in
-    let pre = place .before .before .before .before .pre .1 in
-    let X : Image = pre .image in
-    let h = pre .holds in
-    let g = inner-went (args .kind) (args .t) (args .p) X e (pre .ready) (place .place-of .ensures X h) (child .child-at .ensures X h) in
-    let holds = below .heal-page .ensures X h (inner-below (args .kind) (args .t) (args .p) X e g (pre .ready)) in
-    record { image = _; holds = holds; ready = inner-settles (args .kind) (args .t) (args .p) X e g (pre .ready) })
+    let start = place .before .before .before .before in
+    let args = start .args in
+    from (start .pre .1)
+    (λ X h s.
+    let g = inner-went (args .kind) (args .t) (args .p) X e s (place .place-of .ensures X h) (child .child-at .ensures X h) in
+    let holds = below .heal-page .ensures X h (inner-below (args .kind) (args .t) (args .p) X e g s) in
+    record { image = _; holds = holds; ready = inner-settles (args .kind) (args .t) (args .p) X e g s }))
     (λ c. search needs)
     (λ c X h s.
     let settled = c .before .before in

@@ -8,6 +8,7 @@ use Rattle.page.specs.declared.Head.{Head}
 use Rattle.image.specs.Images.{Image}
 use Rattle.steps.specs.Heal.{heal-page}
 use Rattle.store.specs.Holding.{Holds}
+use Rattle.siblings.proofs.Families.{from}
 use Rattle.heal.specs.Ready.{Page-healable, Shrinkable, Healable}
 use Rattle.heal.proofs.Roots.{healed-is}
 use Rattle.heal.proofs.heal.heal.Statement.{statement}
@@ -15,9 +16,10 @@ use Rattle.heal.proofs.heal.heal.Tie as tie
 
 sub-heal-page : tie.Need-sub-heal-page
 sub-heal-page c =
-    let pre = c .before .before .before .before .before .pre in
-    let e = ap (λ (k : Head). k .height) (c .before .before .head-of .ensures (pre .image) (pre .holds) tt) in
-    omega (arith, pre .ready .some)
+    from (c .before .before .before .before .before .pre)
+    (λ X h s.
+    let e = ap (λ (k : Head). k .height) (c .before .before .head-of .ensures X h tt) in
+    omega (arith, s .some))
 
 abbrev start : tie.After-head-of → tie.Start
 start c = c .before .before .before
@@ -29,31 +31,28 @@ module _ (c : tie.After-head-of) (X : Image) (h : Holds (start c .args .img .now
   head = c .head-of .ensures X h tt
 
   -- what the heal of the root leaves, by a head
-  abbrev from : Head → Image
-  from k = heal-page 12 (combine (start c .args .kind)) (start c .args .t) (k .height - 1) (k .root) X
+  abbrev left-by : Head → Image
+  left-by k = heal-page 12 (combine (start c .args .kind)) (start c .args .t) (k .height - 1) (k .root) X
 
   page : Page-healable (start c .args .kind) (start c .args .t) (c .head-of .result .height - 1) (c .head-of .result .root) X
   page =
       let args = start c .args in
       subst (λ k. Page-healable (args .kind) (args .t) (k .height - 1) (k .root) X) (sym head) (s .page)
 
-  shrinks : Shrinkable (from (c .head-of .result))
-  shrinks = subst (λ k. Shrinkable (from k)) (sym head) (s .shrinks)
+  shrinks : Shrinkable (left-by (c .head-of .result))
+  shrinks = subst (λ k. Shrinkable (left-by k)) (sym head) (s .shrinks)
 
 heal-page-requires : tie.Need-heal-page-requires
 heal-page-requires c κs =
-    let pre = c .before .before .before .before .before .pre in
-    record { image = pre .image; holds = pre .holds; ready = page (c .before .before) (pre .image) (pre .holds) (pre .ready) }
+    let read = c .before .before in
+    from (start read .pre) (λ X h s. record { image = X; holds = h; ready = page read X h s })
 
 shrink-requires : tie.Need-shrink-requires
 shrink-requires c κs =
     let below = c .before .before .before in
     let read = below .before .before .before in
-    let pre = start read .pre in
-    let X : Image = pre .image in
-    let h = pre .holds in
-    let s = pre .ready in
-    record { image = _; holds = below .heal-page .ensures X h (page read X h s); ready = shrinks read X h s }
+    from (start read .pre)
+    (λ X h s. record { image = _; holds = below .heal-page .ensures X h (page read X h s); ready = shrinks read X h s })
 
 returns : tie.Need-returns
 returns c X h s =

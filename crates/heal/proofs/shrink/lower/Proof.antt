@@ -12,7 +12,7 @@ use Rattle.steps.specs.Heal.{pushed}
 use Rattle.store.specs.Holding.{Holds, Loaded}
 use Rattle.store.specs.Supplying.{Givable}
 use Rattle.siblings.specs.Ready.{Sinkable}
-use Rattle.siblings.proofs.Families.{loaded-number, loaded-at, pushed-read}
+use Rattle.siblings.proofs.Families.{from, loaded-number, loaded-at, pushed-read}
 use Rattle.siblings.proofs.Outcomes.{givable-put}
 use Rattle.heal.specs.Ready.{Lowers}
 use Rattle.heal.proofs.Roots.{read-root, read-number, read-entry, lowered-is}
@@ -21,18 +21,20 @@ use Rattle.heal.proofs.shrink.lower.Tie as tie
 
 load-requires : tie.Need-load-requires
 load-requires c κs =
-    let pre = c .before .before .before .before .pre in
-    let t = read-root (pre .image) (c .before .head-of .ensures (pre .image) (pre .holds) tt) (pre .ready .root) in
-    record { image = pre .image; holds = pre .holds; ready = t .within }
+    from (c .before .before .before .before .pre)
+    (λ X h s.
+    let t = read-root X (c .before .head-of .ensures X h tt) (s .root) in
+    record { image = X; holds = h; ready = t .within })
 
 entry-at-requires : tie.Need-entry-at-requires
 entry-at-requires c κs =
-    let pre = c .before .before .before .before .before .pre in
-    let e = c .before .before .head-of .ensures (pre .image) (pre .holds) tt in
-    let t = read-root (pre .image) e (pre .ready .root) in
-    let n = c .load .ensures (pre .image) (pre .holds) (t .within) _ _ (t .page) in
-    let one = read-number (pre .image) e (loaded-number n) in
-    (omega (arith, pre .ready .one), omega (arith, n .few))
+    from (c .before .before .before .before .before .pre)
+    (λ X h s.
+    let e = c .before .before .head-of .ensures X h tt in
+    let t = read-root X e (s .root) in
+    let n = c .load .ensures X h (t .within) _ _ (t .page) in
+    let one = read-number X e (loaded-number n) in
+    (omega (arith, s .one), omega (arith, n .few)))
 
 abbrev start : tie.After-entry-at → tie.Start
 start c = c .before .before .before .before .before .before
@@ -66,51 +68,44 @@ module _ (c : tie.After-pushed) (X : Image) (h : Holds (start (entry c) .args .i
 pushed-requires : tie.Need-pushed-requires
 pushed-requires c κs =
     let at = c .before in
-    let pre = start at .pre in
-    let sink = sinks at (pre .image) (pre .holds) (pre .ready) in
-    record { image = pre .image; holds = pre .holds; ready = record { level = _; ready = sink } }
+    from (start at .pre) (λ X h s. record { image = X; holds = h; ready = record { level = _; ready = sinks at X h s } })
 
 save-requires : tie.Need-save-requires
 save-requires c κs =
     let made = c .before in
-    let pre = start (entry made) .pre in
-    let X : Image = pre .image in
-    let h = pre .holds in
-    let s = pre .ready in
+    from (start (entry made) .pre)
+    (λ X h s.
     let n = page made X h s in (
       record { image = X; holds = h; ready = sinks (entry made) X h s .treed .within },
       (omega (arith, n .shows .level, s .lowers .low), n .few),
-    )
+    ))
 
 give-back-requires : tie.Need-give-back-requires
 give-back-requires c κs =
     let saved = c .before .before .before in
     let at = entry (saved .before .before) in
-    let pre = start at .pre in
-    let X : Image = pre .image in
-    let h = pre .holds in
-    let s = pre .ready in
+    from (start at .pre)
+    (λ X h s.
     let written = saved .save .ensures X h (sinks at X h s .treed .within) in
-    record { image = _; holds = written; ready = givable-put (goes at X h s) _ _ }
+    record { image = _; holds = written; ready = givable-put (goes at X h s) _ _ })
 
 sub-set-root : tie.Need-sub-set-root
 sub-set-root c =
     let at = c .before .before .before .before .before .before .before .before .before .before .before .before in
-    let pre = start at .pre in
-    let e = ap (λ (k : Head). k .height) (head at (pre .image) (pre .holds) (pre .ready)) in
-    omega (arith, pre .ready .inner)
+    from (start at .pre)
+    (λ X h s.
+    let e = ap (λ (k : Head). k .height) (head at X h s) in
+    omega (arith, s .inner))
 
 set-root-requires : tie.Need-set-root-requires
 set-root-requires c κs =
     let given = c .before .before .before .before in
     let saved = given .before .before .before .before in
     let at = entry (saved .before .before) in
-    let pre = start at .pre in
-    let X : Image = pre .image in
-    let h = pre .holds in
-    let s = pre .ready in
+    from (start at .pre)
+    (λ X h s.
     let written = saved .save .ensures X h (sinks at X h s .treed .within) in
-    record { image = _; holds = given .give-back .ensures _ written (givable-put (goes at X h s) _ _); ready = tt }
+    record { image = _; holds = given .give-back .ensures _ written (givable-put (goes at X h s) _ _); ready = tt })
 
 returns : tie.Need-returns
 returns c X h s =

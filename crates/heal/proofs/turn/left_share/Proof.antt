@@ -5,10 +5,14 @@ use Rattle.heal.proofs.turn.left_share.Statement.{statement}
 use Rattle.heal.proofs.turn.left_share.Tie as tie
 
 returns : tie.Need-returns
-returns c = share-left (c .before .before .args .i) (has-left (c .before .before .args .i) (c .before .has-left .ensures) (c .if1 .taken)) (c .before .before .args .n)
+returns c =
+    let args = c .before .before .args in
+    share-left (args .i) (has-left (args .i) (c .before .has-left .ensures) (c .if1 .taken)) (args .n)
 
 returns-2 : tie.Need-returns-2
-returns-2 c = share-right (c .before .before .args .i) (has-none (c .before .before .args .i) (c .before .has-left .ensures) (c .if1 .left)) (c .before .before .args .n)
+returns-2 c =
+    let args = c .before .before .args in
+    share-right (args .i) (has-none (args .i) (c .before .has-left .ensures) (c .if1 .left)) (args .n)
 
 pub left-share-spec : {M : Type 1} → statement M
 left-share-spec = tie.close (tie.spec (λ c κs. search needs) (λ c. search needs) returns returns-2)

@@ -10,6 +10,7 @@ use Rattle.steps.specs.Supply.{entries}
 use Rattle.steps.specs.Heal.{neighbour}
 use Rattle.store.specs.Holding.{Holds}
 use Rattle.siblings.specs.Ready.{Treed, Leveled}
+use Rattle.siblings.proofs.Families.{from}
 use Rattle.heal.specs.Ready.{Turnable}
 use Rattle.heal.proofs.Turning.{turn-neighbour, turn-parent, turn-sharable, turn-mergeable, turn-gave, turn-merged}
 use Rattle.heal.proofs.turn.turn.Statement.{statement}
@@ -58,13 +59,11 @@ give-requires : tie.Need-give-requires
 give-requires c κs =
     let many = c .before .before .before in
     let read = many .before in
-    let pre = start (asked read) .pre in
-    let X : Image = pre .image in
-    let h = pre .holds in
-    let s = pre .ready in
+    from (start (asked read) .pre)
+    (λ X h s.
     let n = number read X h s in
     let ready = turn-sharable (c .before .left-of .ensures) n (c .left-share .ensures) (many .if1 .taken) (few read X h s) s in
-    record { image = X; holds = h; ready = ready }
+    record { image = X; holds = h; ready = ready })
 
 returns : tie.Need-returns
 returns c X h s =
@@ -82,9 +81,9 @@ merge-requires : tie.Need-merge-requires
 merge-requires c κs =
     let some = c .before .before in
     let read = some .before in
-    let pre = start (asked read) .pre in
-    let n = number read (pre .image) (pre .holds) (pre .ready) in
-    record { image = pre .image; holds = pre .holds; ready = turn-mergeable (c .left-of2 .ensures) n (some .if1 .left) (pre .ready) }
+    from (start (asked read) .pre)
+    (λ X h s.
+    record { image = X; holds = h; ready = turn-mergeable (c .left-of2 .ensures) (number read X h s) (some .if1 .left) s })
 
 returns-2 : tie.Need-returns-2
 returns-2 c X h s =

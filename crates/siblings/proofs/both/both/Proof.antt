@@ -8,7 +8,7 @@ use Rattle.image.specs.Images.{Image}
 use Rattle.steps.specs.Supply.{entries}
 use Rattle.store.specs.Holding.{Holds, Loaded}
 use Rattle.siblings.specs.Ready.{Sinkable, Siblings}
-use Rattle.siblings.proofs.Families.{loaded-number, loaded-at, pushed-read}
+use Rattle.siblings.proofs.Families.{from, loaded-number, loaded-at, pushed-read}
 use Rattle.siblings.proofs.both.both.Statement.{statement}
 use Rattle.siblings.proofs.both.both.Tie as tie
 
@@ -29,9 +29,10 @@ module _ (c : tie.After-load) (X : Image) (h : Holds (start c .args .img .now) X
 
 known : (c : tie.After-load) → (suc (start c .args .l) < c .load .result .number) × (c .load .result .number ≤ 25)
 known c =
-    let pre = start c .pre in
-    let n = above c (pre .image) (pre .holds) (pre .ready) in
-    (omega (arith, loaded-number n, pre .ready .both), omega (arith, n .few))
+    from (start c .pre)
+    (λ X h s.
+    let n = above c X h s in
+    (omega (arith, loaded-number n, s .both), omega (arith, n .few)))
 
 abbrev load : tie.After-entry-at2 → tie.After-load
 load c = c .before .before
@@ -50,20 +51,20 @@ module _ (c : tie.After-entry-at2) (X : Image) (h : Holds (start (load c) .args 
 
 pushed-requires : tie.Need-pushed-requires
 pushed-requires c κs =
-    let pre = start (load c) .pre in
-    let X : Image = pre .image in
-    let e = first c X (pre .holds) (pre .ready) in
-    let sinks = subst (λ a. Sinkable (start (load c) .args .level) a X) (sym e) (pre .ready .left) in
-    record { image = X; holds = pre .holds; ready = record { level = _; ready = sinks } }
+    let level : ℕ = start (load c) .args .level in
+    from (start (load c) .pre)
+    (λ X h s.
+    let sinks = subst (λ a. Sinkable level a X) (sym (first c X h s)) (s .left) in
+    record { image = X; holds = h; ready = record { level = level; ready = sinks } })
 
 pushed-requires-2 : tie.Need-pushed-requires-2
 pushed-requires-2 c κs =
     let read = c .before in
-    let pre = start (load read) .pre in
-    let X : Image = pre .image in
-    let e = second read X (pre .holds) (pre .ready) in
-    let sinks = subst (λ a. Sinkable (start (load read) .args .level) a X) (sym e) (pre .ready .right) in
-    record { image = X; holds = pre .holds; ready = record { level = _; ready = sinks } }
+    let level : ℕ = start (load read) .args .level in
+    from (start (load read) .pre)
+    (λ X h s.
+    let sinks = subst (λ a. Sinkable level a X) (sym (second read X h s)) (s .right) in
+    record { image = X; holds = h; ready = record { level = level; ready = sinks } })
 
 returns : tie.Need-returns
 returns c X h s =

@@ -1,6 +1,6 @@
 -- `siblings::both::pushed` meets its contract: the page is read, and the pair is combined into what it shows. Assumes nothing.
 use Rattle.rule.specs.Pairs.{combine}
-use Rattle.siblings.proofs.Families.{loaded-pushable, loaded-pushed}
+use Rattle.siblings.proofs.Families.{from, loaded-pushable, loaded-pushed}
 use Rattle.siblings.proofs.both.pushed.Statement.{statement}
 use Rattle.siblings.proofs.both.pushed.Tie as tie
 
@@ -12,10 +12,10 @@ load-requires c κs =
 push-requires : tie.Need-push-requires
 push-requires c κs =
     let start = c .before .before .before in
-    let pre = start .pre in
-    let s = pre .ready .ready in
-    let read = c .load .ensures (pre .image) (pre .holds) (s .treed .within) _ _ (s .treed .page) in
-    loaded-pushable (start .args .e) (pre .image) read s
+    from (start .pre)
+    (λ X h r.
+    let s = r .ready in
+    loaded-pushable (start .args .e) X (c .load .ensures X h (s .treed .within) _ _ (s .treed .page)) s)
 
 returns : tie.Need-returns
 returns c X h any l s =

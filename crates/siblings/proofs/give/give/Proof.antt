@@ -1,5 +1,5 @@
 -- `siblings::give::give` meets its contract: both pages share all entries anew, and three pages are written. Assumes nothing.
-use mathlib.Core.Path.{sym, ap, _∙_, subst}
+use mathlib.Core.Path.{ap, _∙_, subst}
 use Prim.Native.Nat.{ℕ}
 use lib.ListN.{take, drop}
 use borrow.Author.Needs.{needs}
@@ -10,7 +10,7 @@ use Rattle.store.proofs.Supplying.{within-put}
 use Rattle.siblings.specs.declared.Family.{Family}
 use Rattle.siblings.specs.Ready.{Sharable}
 use Rattle.siblings.specs.Opened.{Opened, shared}
-use Rattle.siblings.proofs.Families.{opened-parted, opened-two, shows-both, shows-above, above-few}
+use Rattle.siblings.proofs.Families.{from, left-within, right-within, opened-parted, opened-two, shows-both, shows-above, above-few}
 use Rattle.siblings.proofs.Outcomes.{Gave, writable, gave-left, gave-right, gave-parent, gave-some, give-is}
 use Rattle.siblings.proofs.give.give.Statement.{statement}
 use Rattle.siblings.proofs.give.give.Tie as tie
@@ -22,26 +22,27 @@ both-requires c κs =
 
 first-part-requires : tie.Need-first-part-requires
 first-part-requires c κs =
-    let pre = c .before .before .before .before .before .pre in
-    opened-parted (c .before .before .both .ensures (pre .image) (pre .holds) (pre .ready .siblings)) (pre .ready)
+    let read = c .before .before in
+    from (read .before .before .before .pre) (λ X h s. opened-parted (read .both .ensures X h (s .siblings)) s)
 
 other-part-requires : tie.Need-other-part-requires
 other-part-requires c κs =
-    let pre = c .before .before .before .before .before .before .pre in
-    opened-parted (c .before .before .before .both .ensures (pre .image) (pre .holds) (pre .ready .siblings)) (pre .ready)
+    let read = c .before .before .before in
+    from (read .before .before .before .pre) (λ X h s. opened-parted (read .both .ensures X h (s .siblings)) s)
 
 entry-at-requires : tie.Need-entry-at-requires
 entry-at-requires c κs =
     let start = c .before .before .before .before .before .before .before in
-    let pre = start .pre in
-    let opened = c .before .before .before .before .both .ensures (pre .image) (pre .holds) (pre .ready .siblings) in
-    gave-some (start .args .kind) (shows-both opened (drop (start .args .k)) (c .other-part .ensures)) (pre .ready)
+    from (start .pre)
+    (λ X h s.
+    let opened = c .before .before .before .before .both .ensures X h (s .siblings) in
+    gave-some (start .args .kind) (shows-both opened (drop (start .args .k)) (c .other-part .ensures)) s)
 
 shared-requires : tie.Need-shared-requires
 shared-requires c κs =
-    let pre = c .before .before .before .before .before .before .before .before .pre in
-    let opened = c .before .before .before .before .before .both .ensures (pre .image) (pre .holds) (pre .ready .siblings) in
-    opened-two opened (pre .ready .siblings)
+    let read = c .before .before .before .before .before in
+    let pre = read .before .before .before .pre in
+    opened-two (read .both .ensures (pre .image) (pre .holds) (pre .ready .siblings)) (pre .ready .siblings)
 
 abbrev start : tie.After-shared → tie.Start
 start c = c .before .before .before .before .before .before .before .before .before
@@ -71,45 +72,36 @@ module _ (c : tie.After-shared) (X : Image) (h : Holds (start c .args .img .now)
             };
       }
 
-  left-within : Within (family .a .child) X
-  left-within = subst (λ e. Within (e .child) X) (sym (opened .a)) (s .siblings .left .treed .within)
+  left : Within (family .a .child) X
+  left = left-within opened (s .siblings)
 
-  right-within : Within (family .b .child) X
-  right-within = subst (λ e. Within (e .child) X) (sym (opened .b)) (s .siblings .right .treed .within)
+  right : Within (family .b .child) X
+  right = right-within opened (s .siblings)
 
 save-requires : tie.Need-save-requires
 save-requires c κs =
     let at = c .before in
-    let pre = start at .pre in
-    let X : Image = pre .image in
-    let h = pre .holds in
-    let s = pre .ready in
-    (record { image = X; holds = h; ready = left-within at X h s }, writable (gave-left (gave at X h s) s))
+    from (start at .pre) (λ X h s. (record { image = X; holds = h; ready = left at X h s }, writable (gave-left (gave at X h s) s)))
 
 save-requires-2 : tie.Need-save-requires-2
 save-requires-2 c κs =
     let one = c .before .before .before in
     let at = one .before .before in
-    let pre = start at .pre in
-    let X : Image = pre .image in
-    let h = pre .holds in
-    let s = pre .ready in
-    let left = one .save .ensures X h (left-within at X h s) in
-    (record { image = _; holds = left; ready = within-put (right-within at X h s) _ _ }, writable (gave-right (gave at X h s) s))
+    from (start at .pre)
+    (λ X h s.
+    let written = one .save .ensures X h (left at X h s) in
+    (record { image = _; holds = written; ready = within-put (right at X h s) _ _ }, writable (gave-right (gave at X h s) s)))
 
 save-requires-3 : tie.Need-save-requires-3
 save-requires-3 c κs =
     let two = c .before .before .before in
     let one = two .before .before .before .before in
     let at = one .before .before in
-    let pre = start at .pre in
-    let X : Image = pre .image in
-    let h = pre .holds in
-    let s = pre .ready in
-    let left = one .save .ensures X h (left-within at X h s) in
-    let right = two .save2 .ensures _ left (within-put (right-within at X h s) _ _) in
-    let within = within-put (within-put (s .siblings .parent .within) _ _) _ _ in
-    (record { image = _; holds = right; ready = within }, writable (gave-parent (gave at X h s) s (above-few (opened at X h s))))
+    from (start at .pre)
+    (λ X h s.
+    let written = two .save2 .ensures _ (one .save .ensures X h (left at X h s)) (within-put (right at X h s) _ _) in
+    let above = within-put (within-put (s .siblings .parent .within) _ _) _ _ in
+    (record { image = _; holds = written; ready = above }, writable (gave-parent (gave at X h s) s (above-few (opened at X h s)))))
 
 returns : tie.Need-returns
 returns c X h s =
@@ -117,10 +109,9 @@ returns c X h s =
     let two = three .before .before .before .before in
     let one = two .before .before .before .before in
     let at = one .before .before in
-    let left = one .save .ensures X h (left-within at X h s) in
-    let right = two .save2 .ensures _ left (within-put (right-within at X h s) _ _) in
-    let within = within-put (within-put (s .siblings .parent .within) _ _) _ _ in
-    subst (Holds _) (give-is (gave at X h s) (opened at X h s .a) (opened at X h s .b)) (three .save3 .ensures _ right within)
+    let written = two .save2 .ensures _ (one .save .ensures X h (left at X h s)) (within-put (right at X h s) _ _) in
+    let above = within-put (within-put (s .siblings .parent .within) _ _) _ _ in
+    subst (Holds _) (give-is (gave at X h s) (opened at X h s .a) (opened at X h s .b)) (three .save3 .ensures _ written above)
 
 pub give-spec : {M : Type 1} → statement M
 give-spec =

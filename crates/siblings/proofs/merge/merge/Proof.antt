@@ -1,5 +1,5 @@
 -- `siblings::merge::merge` meets its contract: both pages join in the left one, and the right one is given back. Assumes nothing.
-use mathlib.Core.Path.{sym, subst}
+use mathlib.Core.Path.{subst}
 use borrow.Author.Needs.{needs}
 use native.Mathlib.Omega.{arith}
 use Rattle.image.specs.Images.{Image}
@@ -9,7 +9,8 @@ use Rattle.store.proofs.Supplying.{within-put, within-given}
 use Rattle.siblings.specs.declared.Family.{Family}
 use Rattle.siblings.specs.Ready.{Mergeable}
 use Rattle.siblings.specs.Opened.{Opened, united}
-use Rattle.siblings.proofs.Families.{left-number, right-number, opened-two, shows-both, shows-above, above-few}
+use Rattle.siblings.proofs.Families.{from, left-number, right-number, left-within, right-within, opened-two}
+use Rattle.siblings.proofs.Families.{shows-both, shows-above, above-few}
 use Rattle.siblings.proofs.Outcomes.{Joint, writable, joint-all, joint-parent, merge-is, givable-put}
 use Rattle.siblings.proofs.merge.merge.Statement.{statement}
 use Rattle.siblings.proofs.merge.merge.Tie as tie
@@ -21,14 +22,16 @@ both-requires c κs =
 
 append-requires : tie.Need-append-requires
 append-requires c κs =
-    let pre = c .before .before .before .before .before .pre in
-    let opened = c .before .before .both .ensures (pre .image) (pre .holds) (pre .ready .siblings) in
-    omega (arith, left-number opened, right-number opened, pre .ready .few)
+    from (c .before .before .before .before .before .pre)
+    (λ X h s.
+    let opened = c .before .before .both .ensures X h (s .siblings) in
+    omega (arith, left-number opened, right-number opened, s .few))
 
 united-requires : tie.Need-united-requires
 united-requires c κs =
-    let pre = c .before .before .before .before .before .before .pre in
-    opened-two (c .before .before .before .both .ensures (pre .image) (pre .holds) (pre .ready .siblings)) (pre .ready .siblings)
+    let read = c .before .before .before in
+    let pre = read .before .before .before .pre in
+    opened-two (read .both .ensures (pre .image) (pre .holds) (pre .ready .siblings)) (pre .ready .siblings)
 
 abbrev start : tie.After-united → tie.Start
 start c = c .before .before .before .before .before .before .before
@@ -50,46 +53,34 @@ module _ (c : tie.After-united) (X : Image) (h : Holds (start c .args .img .now)
         parent = shows-above opened (united (start c .args .l)) (c .united .ensures);
       }
 
-  left-within : Within (family .a .child) X
-  left-within = subst (λ e. Within (e .child) X) (sym (opened .a)) (s .siblings .left .treed .within)
+  left : Within (family .a .child) X
+  left = left-within opened (s .siblings)
 
-  right-givable : Givable (family .b .child) X
-  right-givable =
-      record { within = subst (λ e. Within (e .child) X) (sym (opened .b)) (s .siblings .right .treed .within); room = s .room }
+  right : Givable (family .b .child) X
+  right = record { within = right-within opened (s .siblings); room = s .room }
 
 save-requires : tie.Need-save-requires
 save-requires c κs =
     let at = c .before in
-    let pre = start at .pre in
-    let X : Image = pre .image in
-    let h = pre .holds in
-    let s = pre .ready in
-    (record { image = X; holds = h; ready = left-within at X h s }, writable (joint-all (joint at X h s) s))
+    from (start at .pre) (λ X h s. (record { image = X; holds = h; ready = left at X h s }, writable (joint-all (joint at X h s) s)))
 
 give-back-requires : tie.Need-give-back-requires
 give-back-requires c κs =
     let one = c .before .before .before in
     let at = one .before .before in
-    let pre = start at .pre in
-    let X : Image = pre .image in
-    let h = pre .holds in
-    let s = pre .ready in
-    let left = one .save .ensures X h (left-within at X h s) in
-    record { image = _; holds = left; ready = givable-put (right-givable at X h s) _ _ }
+    from (start at .pre)
+    (λ X h s. record { image = _; holds = one .save .ensures X h (left at X h s); ready = givable-put (right at X h s) _ _ })
 
 save-requires-2 : tie.Need-save-requires-2
 save-requires-2 c κs =
     let two = c .before .before .before in
     let one = two .before .before .before .before in
     let at = one .before .before in
-    let pre = start at .pre in
-    let X : Image = pre .image in
-    let h = pre .holds in
-    let s = pre .ready in
-    let left = one .save .ensures X h (left-within at X h s) in
-    let right = two .give-back .ensures _ left (givable-put (right-givable at X h s) _ _) in
-    let within = within-given (within-put (s .siblings .parent .within) _ _) _ in
-    (record { image = _; holds = right; ready = within }, writable (joint-parent (joint at X h s) s (above-few (opened at X h s))))
+    from (start at .pre)
+    (λ X h s.
+    let written = two .give-back .ensures _ (one .save .ensures X h (left at X h s)) (givable-put (right at X h s) _ _) in
+    let above = within-given (within-put (s .siblings .parent .within) _ _) _ in
+    (record { image = _; holds = written; ready = above }, writable (joint-parent (joint at X h s) s (above-few (opened at X h s)))))
 
 returns : tie.Need-returns
 returns c X h s =
@@ -97,10 +88,9 @@ returns c X h s =
     let two = three .before .before .before .before in
     let one = two .before .before .before .before in
     let at = one .before .before in
-    let left = one .save .ensures X h (left-within at X h s) in
-    let right = two .give-back .ensures _ left (givable-put (right-givable at X h s) _ _) in
-    let within = within-given (within-put (s .siblings .parent .within) _ _) _ in
-    subst (Holds _) (merge-is (joint at X h s) (opened at X h s .a) (opened at X h s .b)) (three .save2 .ensures _ right within)
+    let written = two .give-back .ensures _ (one .save .ensures X h (left at X h s)) (givable-put (right at X h s) _ _) in
+    let above = within-given (within-put (s .siblings .parent .within) _ _) _ in
+    subst (Holds _) (merge-is (joint at X h s) (opened at X h s .a) (opened at X h s .b)) (three .save2 .ensures _ written above)
 
 pub merge-spec : {M : Type 1} → statement M
 merge-spec =
