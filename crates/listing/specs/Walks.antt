@@ -23,8 +23,6 @@ use Rattle.listing.specs.declared.Task.{Task}
 use Rattle.listing.specs.declared.Spot.{Spot}
 use Rattle.listing.specs.declared.Opened.{Opened}
 use Rattle.listing.specs.declared.Opened.the-variants as opened
-use Rattle.listing.specs.declared.Met.{Met}
-use Rattle.listing.specs.declared.Met.the-variants.{Apart, Leaf, Inner}
 use Rattle.listing.specs.declared.Walked.{Walked}
 use Rattle.listing.specs.declared.Walked.the-variants as walked
 use Rattle.listing.specs.declared.Counted.{Counted}
@@ -99,23 +97,19 @@ spot-below q s on i =
       above = combine (q .head .kind) (on .above) (pair-at 12 s i);
     }
 
--- what the walk meets in the i-th entry: nothing of the span, a leaf entry's run, or the page below
-unfoldable pub met-at : Task → List ℕ → Spot → ℕ → Met
-met-at q s on i =
-    let below = spot-below q s on i in
-    cond (overlaps (q .a) (q .b) (start-at s i) (end-at s (on .at .hi) i))
-    (cond (eqb (on .at .level) 0) (Leaf (max (q .a) (start-at s i)) (below .above)) (Inner below))
-    Apart
+-- the i-th entry overlaps the span
+abbrev pub meets : Task → List ℕ → Spot → ℕ → Bool
+meets q s on i = overlaps (q .a) (q .b) (start-at s i) (end-at s (on .at .hi) i)
 
 -- the walk of one leaf entry
 abbrev pub one-run : ℕ → Pair → image.Walked
 one-run start pair = record { fit = true; runs = record { start = start; pair = pair } ∷ [] }
 
--- the walk from what is met
-unfoldable pub met-walk : List ℕ → Task → Met → image.Walked
-met-walk img q Apart = nothing
-met-walk img q (Leaf start pair) = one-run start pair
-met-walk img q (Inner below) = page-walk img q below
-
+-- the walk of the i-th entry, where it overlaps the span: a leaf entry's run, or the page below
 unfoldable pub entry-walk : List ℕ → Task → Spot → ℕ → image.Walked
-entry-walk img q on i = met-walk img q (met-at q (bytes-at img on) on i)
+entry-walk img q on i =
+    let s = bytes-at img on in
+    let below = spot-below q s on i in
+    cond (meets q s on i)
+    (cond (eqb (on .at .level) 0) (one-run (max (q .a) (start-at s i)) (below .above)) (page-walk img q below))
+    nothing

@@ -1,8 +1,6 @@
 // The entries that a walk meets.
-use crate::Met;
 use crate::Spot;
 use crate::Task;
-use crate::Walked;
 use fit::places::end_at;
 use fit::places::place_below;
 use lent::pages::page_at;
@@ -11,14 +9,12 @@ use page::at::pair_at;
 use page::at::start_at;
 use rule::Pair;
 use rule::combine::combine;
-use runs::Run;
-use runs::collector::collect;
-use runs::output::emit;
 ghost use mathlib.Core.Path.{_≡_};
-ghost use Prim.Native.Nat.{_<_, max};
+ghost use Prim.Native.Nat.{_≤_, max};
 ghost use Rattle.image.specs.Listing.{overlaps};
+ghost use Rattle.page.specs.Layout.{start-at};
 ghost use Rattle.listing.specs.Sits.{Sits, Inside};
-ghost use Rattle.listing.specs.Walks.{bytes-at, met-at, one-run, output, Room, Does};
+ghost use Rattle.listing.specs.Walks.{bytes-at, meets, spot-below};
 
 // Whether [lo, hi) has an instant of [a, b).
 fn overlaps(a: u32, b: u32, lo: u32, hi: u32) -> bool
@@ -34,46 +30,47 @@ fn later(a: u32, b: u32) -> u32
     if a < b { b } else { a }
 }
 
-// What the walk meets in the i-th entry of a fit page: only an entry that overlaps the span counts.
-pub fn met(img: &[u8], q: Task, on: Spot, i: usize) -> Met
+// Whether the i-th entry of a fit page overlaps the span: only such an entry counts.
+pub fn meets(img: &[u8], q: Task, on: Spot, i: usize) -> bool
     requires { ⌜ Sits (now img) q on ⌝ }
     requires { ⌜ Inside (now img) q on i ⌝ }
-    ensures { λ r. ⌜ r ≡ met-at q (bytes-at (now (img .entry)) on) on i ⌝ }
+    ensures { λ r. ⌜ r ≡ meets q (bytes-at (now (img .entry)) on) on i ⌝ }
+{
+    let s = page_at(img, on.page);
+    overlaps(q.a, q.b, start_at(s, i), end_at(s, on.at.hi, i))
+}
+
+// Where the run of a leaf's i-th entry starts: the first run starts at a.
+pub fn run_start(img: &[u8], q: Task, on: Spot, i: usize) -> u32
+    requires { ⌜ Sits (now img) q on ⌝ }
+    requires { ⌜ Inside (now img) q on i ⌝ }
+    ensures { λ r. ⌜ r ≡ max (q .a) (start-at (bytes-at (now (img .entry)) on) i) ⌝ }
+{
+    later(q.a, start_at(page_at(img, on.page), i))
+}
+
+// The i-th entry's pair, combined with those above it.
+pub fn total_at(img: &[u8], q: Task, on: Spot, i: usize) -> Pair
+    requires { ⌜ Sits (now img) q on ⌝ }
+    requires { ⌜ Inside (now img) q on i ⌝ }
+    ensures { λ r. ⌜ r ≡ spot-below q (bytes-at (now (img .entry)) on) on i .above ⌝ }
+{
+    let above = on.above;
+    combine(q.head.kind, above, pair_at(page_at(img, on.page), i))
+}
+
+// The page below the i-th entry of an inner page.
+pub fn spot_below(img: &[u8], q: Task, on: Spot, i: usize) -> Spot
+    requires { ⌜ Sits (now img) q on ⌝ }
+    requires { ⌜ Inside (now img) q on i ⌝ }
+    requires { ⌜ 1 ≤ on .at .level ⌝ }
+    ensures { λ r. ⌜ r ≡ spot-below q (bytes-at (now (img .entry)) on) on i ⌝ }
 {
     let s = page_at(img, on.page);
     let at = on.at;
-    let start = start_at(s, i);
-    if !overlaps(q.a, q.b, start, end_at(s, at.hi, i)) {
-        return Met::Apart;
-    }
-    let above = on.above;
-    let pair = combine(q.head.kind, above, pair_at(s, i));
-    if at.level == 0 {
-        return Met::Leaf(later(q.a, start), pair);
-    }
-    Met::Inner(Spot {
+    Spot {
         at: place_below(s, at, i),
         page: child_at(s, i),
-        above: pair,
-    })
-}
-
-// Writes the run that begins at a leaf entry, if the walk writes and one does.
-fn write_new(out: &mut [u8], writing: bool, run: Run, start: u32, pair: Pair)
-    requires { ⌜ Room writing run (one-run start pair) (now out) ⌝ }
-    ensures { λ _. ⌜ now (out .exit) ≡ output writing run (one-run start pair) (now (out .entry)) ⌝ }
-{
-    if !writing {
-        return;
+        above: total_at(img, q, on, i),
     }
-    emit(out, run, start, pair)
-}
-
-// A leaf entry: the open run is updated.
-pub fn leaf_entry(out: &mut [u8], writing: bool, run: Run, start: u32, pair: Pair) -> Walked
-    requires { ⌜ Room writing run (one-run start pair) (now out) ⌝ }
-    ensures { λ r. ⌜ Does writing run (one-run start pair) (now (out .entry)) r (now (out .exit)) ⌝ }
-{
-    write_new(out, writing, run, start, pair);
-    Walked::Fit(collect(run, start, pair))
 }

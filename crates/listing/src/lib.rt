@@ -5,6 +5,7 @@ use rule::Pair;
 use runs::Run;
 
 pub mod entries;
+pub mod leaves;
 pub mod pages;
 pub mod passes;
 pub mod walks;
@@ -28,13 +29,6 @@ pub struct Spot {
 pub enum Opened {
     Entries(usize),
     Unfit,
-}
-
-// What the walk meets in an entry: nothing of the span, a leaf entry's run, or the page below.
-pub enum Met {
-    Apart,
-    Leaf(u32, Pair),
-    Inner(Spot),
 }
 
 // The open run after a walk, or that a page was unfit.

@@ -1,14 +1,15 @@
 // The walk: a page by its entries, and an inner entry by its page below. One recursion serves both passes, since a walk that
-// only counts is the same but for the output.
-use crate::Met;
+// only counts is the same but for the output. Leaves have a loop of their own, outside the recursion.
 use crate::Opened;
 use crate::Spot;
 use crate::Task;
 use crate::Walked;
-use crate::entries::leaf_entry;
-use crate::entries::met;
+use crate::entries::meets;
+use crate::entries::spot_below;
+use crate::leaves::leaf_page;
 use crate::pages::opened;
 use runs::Run;
+ghost use Prim.Native.Nat.{_≤_};
 ghost use Rattle.listing.specs.Sits.{Sits, Inside};
 ghost use Rattle.listing.specs.Walks.{page-walk, entry-walk, Room, Does};
 
@@ -21,6 +22,9 @@ pub fn walk_page(img: &[u8], out: &mut [u8], q: Task, on: Spot, run: Run) -> Wal
     let Opened::Entries(n) = opened(img, q, on) else {
         return Walked::Unfit;
     };
+    if on.at.level == 0 {
+        return Walked::Fit(leaf_page(img, out, q, on, n, run));
+    }
     let mut last = run;
     let mut i = 0;
     while i < n {
@@ -33,17 +37,16 @@ pub fn walk_page(img: &[u8], out: &mut [u8], q: Task, on: Spot, run: Run) -> Wal
     Walked::Fit(last)
 }
 
-// One entry of a fit page.
+// One entry of a fit inner page.
 fn walk_entry(img: &[u8], out: &mut [u8], q: Task, on: Spot, i: usize, run: Run) -> Walked
     requires { ⌜ Sits (now img) q on ⌝ }
     requires { ⌜ Inside (now img) q on i ⌝ }
+    requires { ⌜ 1 ≤ on .at .level ⌝ }
     requires { ⌜ Room (q .writing) run (entry-walk (now img) q on i) (now out) ⌝ }
     ensures { λ r. ⌜ Does (q .writing) run (entry-walk (now (img .entry)) q on i) (now (out .entry)) r (now (out .exit)) ⌝ }
 {
-    let m = met(img, q, on, i);
-    match m {
-        Met::Apart => Walked::Fit(run),
-        Met::Leaf(start, pair) => leaf_entry(out, q.writing, run, start, pair),
-        Met::Inner(below) => walk_page(img, out, q, below, run),
+    if !meets(img, q, on, i) {
+        return Walked::Fit(run);
     }
+    walk_page(img, out, q, spot_below(img, q, on, i), run)
 }

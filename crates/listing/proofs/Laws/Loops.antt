@@ -1,11 +1,10 @@
--- What the code is told of a page and of an entry, and the loop over a fit page's entries. Assumes nothing.
+-- What the code is told of a page, and the loop over a fit page's entries. Assumes nothing.
 use mathlib.Core.Path.{_≡_, refl, sym, ap, _∙_}
 use mathlib.Core.Bool.{Bool, true, false, cond}
 use mathlib.Core.List.{List}
 use Prim.Native.Nat.{ℕ, _+_, _≤_, _<_}
 use native.Mathlib.Omega.{arith}
 use lib.ListN.{length}
-use Rattle.rule.specs.declared.Pair.{Pair}
 use Rattle.page.specs.Layout.{number-of}
 use Rattle.page.specs.Fit.{page-fit}
 use Rattle.fit.specs.Places.{place-of}
@@ -16,10 +15,8 @@ use Rattle.runs.specs.Open.{stepped-all}
 use Rattle.listing.specs.declared.Task.{Task}
 use Rattle.listing.specs.declared.Spot.{Spot}
 use Rattle.listing.specs.declared.Opened.the-variants as opened
-use Rattle.listing.specs.declared.Met.{Met}
-use Rattle.listing.specs.declared.Met.the-variants.{Apart, Leaf, Inner}
 use Rattle.listing.specs.declared.Walked.the-variants.{Fit, Unfit}
-use Rattle.listing.specs.Walks.{bytes-at, page-walk, opened-at, one-run, met-at, met-walk, entry-walk, answer, Does, Room}
+use Rattle.listing.specs.Walks.{bytes-at, page-walk, opened-at, entry-walk, answer, Does, Room}
 use Rattle.listing.specs.Sits.{Inside}
 use Rattle.listing.proofs.Laws.Turns.{output-none, Walking, walking-none, walking-room, walking-more, walking-unfit, walking-all}
 use Rattle.listing.proofs.Laws.Pages.{page-stopped, page-in-turn}
@@ -34,21 +31,6 @@ module _ (writing : Bool) (run : Run) (out : List ℕ) where
   pub does-stopped : Does writing run stopped out Unfit out
   unfolding answer stopped
   does-stopped = record { answers = refl; writes = sym (output-none writing run stopped out refl) }
-
--- ---- an entry, by what is met in it
-
-module _ (img : List ℕ) (q : Task) (on : Spot) (i : ℕ) {m : Met} (e : m ≡ met-at q (bytes-at img on) on i) where
-  pub entry-apart : m ≡ Apart → entry-walk img q on i ≡ nothing
-  unfolding entry-walk met-walk
-  entry-apart f = ap (met-walk img q) (sym e ∙ f)
-
-  pub entry-leaf : {start : ℕ} {pair : Pair} → m ≡ Leaf start pair → entry-walk img q on i ≡ one-run start pair
-  unfolding entry-walk met-walk
-  entry-leaf f = ap (met-walk img q) (sym e ∙ f)
-
-  pub entry-inner : {below : Spot} → m ≡ Inner below → entry-walk img q on i ≡ page-walk img q below
-  unfolding entry-walk met-walk
-  entry-inner f = ap (met-walk img q) (sym e ∙ f)
 
 -- ---- a page, and its entries in turn
 

@@ -2,21 +2,20 @@
 use mathlib.Core.Path.{_≡_, refl, sym, ap, ap₂, _∙_}
 use mathlib.Core.Bool.{Bool, true, false, cond}
 use mathlib.Core.List.{List, [], _∷_, map-append}
-use Prim.Native.Nat.{ℕ, zero, suc, max}
+use Prim.Native.Nat.{ℕ, zero, suc, _≤_, max}
 use native.Mathlib.Omega.{arith}
 use borrow.Author.Tests.{eq-eqb, ne-eqb}
 use Rattle.rule.specs.declared.Pair.{Pair}
 use Rattle.rule.specs.Pairs.{none, combine}
 use Rattle.rule.proofs.Laws.{lawful}
 use Rattle.page.specs.Layout.{number-of, start-at, pair-at, child-at}
-use Rattle.page.specs.Fit.{place-below, end-at, page-fit}
+use Rattle.page.specs.Fit.{place-below, page-fit}
 use Rattle.fit.specs.Places.{place-of}
 use Rattle.image.specs.Listing as image
-use Rattle.image.specs.Listing.{nothing, stopped, then, in-turn, under, leaf-run, overlaps, walk-page, walk}
+use Rattle.image.specs.Listing.{nothing, stopped, then, in-turn, under, leaf-run, walk-page, walk}
 use Rattle.listing.specs.declared.Task.{Task}
 use Rattle.listing.specs.declared.Spot.{Spot}
-use Rattle.listing.specs.declared.Met.the-variants.{Apart, Leaf, Inner}
-use Rattle.listing.specs.Walks.{bytes-at, page-walk, spot-below, met-at, met-walk, entry-walk}
+use Rattle.listing.specs.Walks.{bytes-at, page-walk, spot-below, meets, one-run, entry-walk}
 
 -- ---- pairs combined into every run
 
@@ -46,22 +45,20 @@ under-turn comb p (suc n) f =
 
 -- ---- the ways out of an entry
 
-module _ (q : Task) (s : List ℕ) (on : Spot) (i : ℕ) where
-  -- the entry overlaps the span
-  abbrev pub overlapped : Bool
-  overlapped = overlaps (q .a) (q .b) (start-at s i) (end-at s (on .at .hi) i)
+module _ (img : List ℕ) (q : Task) (on : Spot) (i : ℕ) where
+  pub entry-apart : meets q (bytes-at img on) on i ≡ false → entry-walk img q on i ≡ nothing
+  unfolding entry-walk
+  entry-apart e = rw e
 
-  pub met-apart : overlapped ≡ false → Apart ≡ met-at q s on i
-  unfolding met-at
-  met-apart e = rw e
+  pub entry-leaf : meets q (bytes-at img on) on i ≡ true → on .at .level ≡ 0
+      → entry-walk img q on i ≡ one-run (max (q .a) (start-at (bytes-at img on) i)) (spot-below q (bytes-at img on) on i .above)
+  unfolding entry-walk
+  entry-leaf e z = rw (e, eq-eqb (on .at .level) 0 z)
 
-  pub met-leaf : overlapped ≡ true → on .at .level ≡ 0 → Leaf (max (q .a) (start-at s i)) (spot-below q s on i .above) ≡ met-at q s on i
-  unfolding met-at
-  met-leaf e z = rw (e, eq-eqb (on .at .level) 0 z)
-
-  pub met-inner : overlapped ≡ true → (on .at .level ≡ 0 → ⊥) → Inner (spot-below q s on i) ≡ met-at q s on i
-  unfolding met-at
-  met-inner e z = rw (e, ne-eqb (on .at .level) 0 z)
+  pub entry-inner : {below : Spot} → below ≡ spot-below q (bytes-at img on) on i → meets q (bytes-at img on) on i ≡ true → 1 ≤ on .at .level
+      → entry-walk img q on i ≡ page-walk img q below
+  unfolding entry-walk
+  entry-inner b e l = rw (e, ne-eqb (on .at .level) 0 (λ z. absurd (omega arith))) (ap (page-walk img q) (sym b))
 
 -- ---- a page
 
@@ -77,20 +74,20 @@ module _ (img : List ℕ) (q : Task) (on : Spot) where
   abbrev deeper : ℕ → ℕ → image.Walked
   deeper i l = walk 12 (q .head) img (q .a) (q .b) l (place-below 12 s (place-of (on .at)) i) (child-at 12 s i)
 
-  -- what an entry gives, with the pairs above combined into it, is the walk from what is met
+  -- what an entry gives, with the pairs above combined into it, is its walk
   module _ (i : ℕ) where
-    leaf-met : on .at .level ≡ 0 → total (cond (overlapped q s on i) (leaf-run (q .a) (start-at s i) (pair-at 12 s i)) nothing) ≡ entry-walk img q on i
-    unfolding entry-walk met-walk met-at under leaf-run nothing
-    leaf-met e = rw (eq-eqb (on .at .level) 0 e) (go (overlapped q s on i))
+    leaf-met : on .at .level ≡ 0 → total (cond (meets q s on i) (leaf-run (q .a) (start-at s i) (pair-at 12 s i)) nothing) ≡ entry-walk img q on i
+    unfolding entry-walk under leaf-run nothing
+    leaf-met e = rw (eq-eqb (on .at .level) 0 e) (go (meets q s on i))
       where
         go : (t : Bool) → total (cond t (leaf-run (q .a) (start-at s i) (pair-at 12 s i)) nothing)
-            ≡ met-walk img q (cond t (Leaf (max (q .a) (start-at s i)) (spot-below q s on i .above)) Apart)
+            ≡ cond t (one-run (max (q .a) (start-at s i)) (spot-below q s on i .above)) nothing
         go true = refl
         go false = refl
 
-    inner-met : (l : ℕ) → on .at .level ≡ suc l → total (cond (overlapped q s on i) (under (combine (q .head .kind)) (pair-at 12 s i) (deeper i l)) nothing) ≡ entry-walk img q on i
-    unfolding entry-walk met-walk met-at page-walk under nothing place-below
-    inner-met l e = rw (ne-eqb (on .at .level) 0 (λ z. absurd (omega arith))) (go (overlapped q s on i))
+    inner-met : (l : ℕ) → on .at .level ≡ suc l → total (cond (meets q s on i) (under (combine (q .head .kind)) (pair-at 12 s i) (deeper i l)) nothing) ≡ entry-walk img q on i
+    unfolding entry-walk page-walk under nothing place-below
+    inner-met l e = rw (ne-eqb (on .at .level) 0 (λ z. absurd (omega arith))) (go (meets q s on i))
       where
         below : Spot
         below = spot-below q s on i
@@ -98,7 +95,7 @@ module _ (img : List ℕ) (q : Task) (on : Spot) where
         down : l ≡ below .at .level
         down = omega arith
 
-        go : (t : Bool) → total (cond t (under (combine (q .head .kind)) (pair-at 12 s i) (deeper i l)) nothing) ≡ met-walk img q (cond t (Inner below) Apart)
+        go : (t : Bool) → total (cond t (under (combine (q .head .kind)) (pair-at 12 s i) (deeper i l)) nothing) ≡ cond t (page-walk img q below) nothing
         go true =
             under-under (q .head .kind) (on .above) (pair-at 12 s i) (deeper i l)
             ∙ ap (λ k. under (combine (q .head .kind)) (below .above) (deeper i k)) down

@@ -1,36 +1,32 @@
 -- Nothing is out of bounds on the way of a walk. Assumes nothing.
-use mathlib.Core.Path.{_≡_, refl, sym, _∙_, subst, subst⁻¹}
+use mathlib.Core.Path.{_≡_, refl, subst⁻¹}
 use mathlib.Core.Logic.{inl}
-use mathlib.Core.Bool.{Bool, true, false, cond}
+use mathlib.Core.Bool.{Bool, true, false}
 use mathlib.Core.List.{List}
-use Prim.Native.Nat.{ℕ, _+_, _*_, _≤_, _<_, max}
+use Prim.Native.Nat.{ℕ, _+_, _*_, _≤_, _<_}
 use native.Mathlib.Omega.{arith}
 use lib.ListN.{length}
 use lib.Dec.{eqb}
 use lib.IntN.{natAbs}
-use borrow.Author.Tests.{eqb-true, eqb-false}
+use borrow.Author.Tests.{eqb-true}
 use Rattle.rule.specs.declared.Pair.{Pair}
 use Rattle.rule.specs.Pairs.{none, combine}
 use Rattle.rule.specs.Bounds.{Combinable}
 use Rattle.rule.proofs.Laws.{combine-sum-bound, total-count-bound, combine-value-or-none, value-or-none-is, values-combinable}
 use Rattle.fields.proofs.Laws.Parts.{length-part}
 use Rattle.page.specs.declared.Head.{Head}
-use Rattle.page.specs.Layout.{number-of, start-at, pair-at}
+use Rattle.page.specs.Layout.{number-of, pair-at}
 use Rattle.page.specs.Fit.{Place, root-place, place-below, most-changes}
 use Rattle.fit.specs.Places.{place-of, Bounded}
-use Rattle.fit.proofs.Laws.Heads.{Ranges, head-fit-is}
 use Rattle.fit.proofs.Laws.Pages.{PageFit, page-fit-is}
 use Rattle.fit.proofs.Laws.Ways.{root-way, way-bounded, below-way}
 use Rattle.image.specs.Images.{page-at, pages-in}
 use Rattle.listing.specs.declared.Task.{Task}
 use Rattle.listing.specs.declared.Spot.{Spot}
-use Rattle.listing.specs.declared.Met.{Met}
-use Rattle.listing.specs.declared.Met.the-variants.{Apart, Leaf, Inner}
-use Rattle.listing.specs.Walks.{bytes-at, root-spot, spot-below, met-at}
+use Rattle.listing.specs.Walks.{bytes-at, root-spot, spot-below}
 use Rattle.lent.specs.Opened.{Opened}
 use Rattle.lent.proofs.Laws.{opened-ranges, opened-size}
 use Rattle.listing.specs.Sits.{Above, Sits, Inside}
-use Rattle.listing.proofs.Laws.Pages.{overlapped}
 
 -- ---- the pairs above
 
@@ -62,6 +58,12 @@ module _ {h : Head} {at : Place} {p : Pair} {s : List ℕ} (above : Above h at p
 
 -- ---- a page where the walk stands
 
+-- what is known of the bytes of a page that is lent, and of an entry in it
+pub record Lent (s : List ℕ) (i : ℕ) : Type 0 where
+  pub size : length s ≡ 512
+  pub within : i < 24
+  pub number : number-of s ≤ 24
+
 module _ {img : List ℕ} {q : Task} {on : Spot} (sits : Sits img q on) where
   pub page-within : 512 * on .page + 512 ≤ length img
   page-within = omega (arith, sits .size, sits .page)
@@ -77,11 +79,14 @@ module _ {img : List ℕ} {q : Task} {on : Spot} (sits : Sits img q on) where
     pub fit-facts : PageFit 12 (q .head) (place-of (on .at)) (bytes-at img on)
     fit-facts = page-fit-is 12 (q .head) (place-of (on .at)) (bytes-at img on) .0 (inside .fit)
 
-    pub entry-within : (i < 24) × (number-of (bytes-at img on) ≤ 24)
+    entry-within : (i < 24) × (number-of (bytes-at img on) ≤ 24)
     entry-within = omega (arith, fit-facts .most, inside .within)
 
+    pub lent : {s : List ℕ} → s ≡ bytes-at img on → Lent s i
+    lent e = rw e (record { size = page-length; within = entry-within .0; number = entry-within .1 })
+
     -- under an inner entry
-    pub sits-below : 1 ≤ on .at .level → Sits img q (spot-below q (bytes-at img on) on i)
+    sits-below : 1 ≤ on .at .level → Sits img q (spot-below q (bytes-at img on) on i)
     sits-below v =
         record {
           size = sits .size;
@@ -92,29 +97,10 @@ module _ {img : List ℕ} {q : Task} {on : Spot} (sits : Sits img q on) where
           above = above-below (sits .above) fit-facts i (inside .within);
         }
 
-    abbrev Down : Met → Type 0
-    Down Apart = Unit {0}
-    Down (Leaf start pair) = Unit {0}
-    Down (Inner below) = Sits img q below × (below .at .level < on .at .level)
-
-    down : Down (met-at q (bytes-at img on) on i)
-    unfolding met-at place-below
-    down = go (overlapped q (bytes-at img on) on i) (eqb (on .at .level) 0) refl
-      where
-        below : Spot
-        below = spot-below q (bytes-at img on) on i
-
-        go : (b z : Bool) → eqb (on .at .level) 0 ≡ z → Down (cond b (cond z (Leaf (max (q .a) (start-at (bytes-at img on) i)) (below .above)) (Inner below)) Apart)
-        go false z e = tt
-        go true true e = tt
-        go true false e =
-            let n = eqb-false (on .at .level) 0 e in
-            let v : 1 ≤ on .at .level = omega arith in
-            (sits-below v, omega arith)
-
-    -- where a page below is met, the walk can stand there, and the level falls
-    pub step-down : {m : Met} {below : Spot} → m ≡ met-at q (bytes-at img on) on i → m ≡ Inner below → Sits img q below × (below .at .level < on .at .level)
-    step-down e f = subst Down (sym e ∙ f) down
+    -- the walk can go on at the page below, and the level falls
+    pub step-down : {below : Spot} → below ≡ spot-below q (bytes-at img on) on i → 1 ≤ on .at .level → Sits img q below × (below .at .level < on .at .level)
+    unfolding place-below
+    step-down e v = rw e (sits-below v, omega arith)
 
 -- ---- the root
 

@@ -3,18 +3,21 @@ use mathlib.Core.Path.{sym, _∙_}
 use Prim.Native.Nat.{ℕ, _+_, _*_, _-_, _<_}
 use native.Mathlib.Omega.{arith}
 use borrow.Author.Needs.{needs}
+use borrow.Author.Tests.{not-true, not-false}
 use borrow.Fn.Kinds.{In}
 use borrow.Fn.PlainCycle.{Measures, is, falls, and}
+use Rattle.listing.proofs.Laws.Pages.{entry-apart, entry-inner}
 use Rattle.listing.proofs.Laws.Stands.{step-down}
-use Rattle.listing.proofs.Laws.Loops.{does-nothing, does-stopped, entry-apart, entry-leaf, entry-inner, opened-unfit, Turning, turning-none, turning-inside, turning-room, turning-more, turning-unfit, turning-all}
+use Rattle.listing.proofs.Laws.Loops.{does-nothing, does-stopped, opened-unfit, Turning, turning-none, turning-inside, turning-room, turning-more, turning-unfit, turning-all}
 use Rattle.listing.proofs.walks.walk_entry.Reads as walk-entry
 use Rattle.listing.proofs.walks.walk_entry.Kinds as walk-entry-kinds
 use Rattle.listing.proofs.walks.+walk_entry+walk_page.Lts-walk_entry as walk-entry-lts
 use Rattle.listing.proofs.walks.walk_page.Reads as walk-page
 use Rattle.listing.proofs.walks.walk_page.Kinds as walk-page-kinds
 use Rattle.listing.proofs.walks.+walk_entry+walk_page.Lts-walk_page as walk-page-lts
-use Rattle.listing.proofs.entries.leaf_entry.Reads as leaf-entry-reads
-use Rattle.listing.proofs.entries.met.Reads as met-reads
+use Rattle.listing.proofs.entries.meets.Reads as meets-reads
+use Rattle.listing.proofs.entries.spot_below.Reads as spot-below-reads
+use Rattle.listing.proofs.leaves.leaf_page.Reads as leaf-page-reads
 use Rattle.listing.proofs.pages.opened.Reads as opened-reads
 use Rattle.listing.proofs.walks.+walk_entry+walk_page.{statement}
 use Rattle.listing.proofs.walks.+walk_entry+walk_page.Tie.{close}
@@ -46,49 +49,39 @@ walk-page-μ-loop img out₀ q on n last₀ i₀ out last i = n - i
 pub +walk-entry+walk-page-spec : {M : Type 1} → statement M
 +walk-entry+walk-page-spec =
     close μ-walk-entry μ-walk-page
-    (λ t. walk-entry-lts.spec (met-reads.Asked, met-reads.Learnt, leaf-entry-reads.Asked, leaf-entry-reads.Learnt, walk-page-below t, walk-page.Post)
+    (λ t. walk-entry-lts.spec (meets-reads.Asked, meets-reads.Learnt, spot-below-reads.Asked, spot-below-reads.Learnt, walk-page-below t, walk-page.Post)
     (walk-entry-at t)
     walk-entry.Post
-    -- met-requires
+    -- meets-requires
     (λ c κs. let pre = c .before .before .pre .1 in (pre .0, pre .1 .0))
-    -- enum-told
-    (λ c. search needs)
-    -- enum-known-m
-    (λ c. search needs)
-    -- leaf-entry-requires
-    (λ c κs.
-    let told = c .before .before in
-    let met = told .before .before in
-    let start = met .before .before .before in
-    rw (entry-leaf _ _ _ _ (met .met .ensures) (told .m .given .1)) at (start .pre .1 .1 .1))
-    -- enum-known-m-2
-    (λ c. search needs)
+    -- returns
+    (λ c.
+    let args = c .before .before .before .before .args in
+    rw (entry-apart (args .img .now) (args .q) (args .on) (args .i) (sym (c .before .meets .ensures) ∙ not-true _ (c .if1 .taken))) (does-nothing _ _ _))
+    -- spot-below-requires
+    (λ c κs. let pre = c .before .before .before .before .before .pre .1 in (pre .0, (pre .1 .0, pre .1 .1 .0)))
     -- walk-page-requires
     (λ c κs.
-    let told = c .before .before in
-    let met = told .before .before in
-    let start = met .before .before .before in
+    let test = c .before .before in
+    let start = test .before .before .before .before in
+    let args = start .args in
     let pre = start .pre .1 in
-    let down = step-down (pre .0) (pre .1 .0) (met .met .ensures) (told .m2 .given .1) in
-    (omega (arith, down .1, start .pre .0), (down .0, rw (entry-inner _ _ _ _ (met .met .ensures) (told .m2 .given .1)) at (pre .1 .1))))
-    -- returns
-    (λ c. rw (entry-apart _ _ _ _ (c .before .before .met .ensures) (c .enum-told .given .1)) (does-nothing _ _ _))
+    let down = step-down (pre .0) (pre .1 .0) (c .spot-below .ensures) (pre .1 .1 .0) in
+    let met = sym (test .before .meets .ensures) ∙ not-false _ (test .if1 .left) in
+    (omega (arith, down .1, start .pre .0), (down .0, rw (entry-inner (args .img .now) (args .q) (args .on) (args .i) (c .spot-below .ensures) met (pre .1 .1 .0)) at (pre .1 .1 .1))))
     -- same-length
     (λ c. search needs)
     -- returns-2
     (λ c.
     let call = c .before .before in
-    let told = call .before .before .before in
-    rw (entry-leaf _ _ _ _ (told .before .before .met .ensures) (told .m .given .1)) (call .leaf-entry .ensures))
-    -- same-length-2
-    (λ c. search needs)
-    -- returns-3
-    (λ c.
-    let call = c .before .before in
-    let told = call .before .before .before in
-    rw (entry-inner _ _ _ _ (told .before .before .met .ensures) (told .m2 .given .1)) (call .walk-page .ensures)))
+    let down = call .before in
+    let test = down .before .before in
+    let start = test .before .before .before .before in
+    let args = start .args in
+    let met = sym (test .before .meets .ensures) ∙ not-false _ (test .if1 .left) in
+    rw (entry-inner (args .img .now) (args .q) (args .on) (args .i) (down .spot-below .ensures) met (start .pre .1 .1 .1 .0)) (call .walk-page .ensures)))
     λ t. walk-page-lts.spec
-    (opened-reads.Asked, opened-reads.Learnt, walk-entry-below t, walk-entry.Post)
+    (opened-reads.Asked, opened-reads.Learnt, leaf-page-reads.Asked, leaf-page-reads.Learnt, walk-entry-below t, walk-entry.Post)
     (walk-page-at t)
     walk-page.Post
     walk-page-Inv-loop
@@ -101,23 +94,34 @@ pub +walk-entry+walk-page-spec : {M : Type 1} → statement M
     (λ c. search needs)
     -- returns
     (λ c. rw (opened-unfit _ _ _ (sym (c .enum-told .given .1) ∙ c .before .before .opened .ensures)) (does-stopped _ _ _))
+    -- leaf-page-requires
+    (λ c κs.
+    let told = c .before .before .before .before in
+    let test = told .before .before in
+    let pre = test .before .before .before .pre .1 in
+    (pre .0, (sym (told .n .given .1) ∙ test .opened .ensures, (c .before .if1 .taken, pre .1))))
+    -- same-length
+    (λ c. search needs)
+    -- returns-2
+    (λ c. c .before .before .leaf-page .ensures)
     -- loop-holds
     (λ c.
-    let test = c .before .before .before in
-    turning-none _ _ _ (sym (c .before .n .given .1) ∙ test .opened .ensures) (test .before .before .before .pre .1 .1))
+    let told = c .before .before .before in
+    let test = told .before .before in
+    turning-none _ _ _ (sym (told .n .given .1) ∙ test .opened .ensures) (test .before .before .before .pre .1 .1))
     -- walk-entry-requires
     (λ c κs.
     let loop = c .before .before in
-    let start = loop .before .before .before .before .before .before .before in
+    let start = loop .before .before .before .before .before .before .before .before .before in
     let l = c .before .loop-test .taken in
-    (omega (arith, start .pre .0), (start .pre .1 .0, (turning-inside _ _ _ (loop .loop .inv) l, turning-room _ _ _ (loop .loop .inv) l))))
+    (omega (arith, start .pre .0), (start .pre .1 .0, (turning-inside _ _ _ (loop .loop .inv) l, (omega (arith, loop .before .if1 .left), turning-room _ _ _ (loop .loop .inv) l)))))
     -- enum-known-next
     (λ c. search needs)
     -- enum-told-2
     (λ c. search needs)
-    -- same-length
+    -- same-length-2
     (λ c. omega (arith, c .before .before .before .before .walk-entry .kept))
-    -- returns-2
+    -- returns-3
     (λ c.
     let call = c .before .before .before .before in
     let inside = call .before .before in
@@ -131,7 +135,7 @@ pub +walk-entry+walk-page-spec : {M : Type 1} → statement M
     let call = c .before .before .before .before .before in
     let inside = call .before .before in
     turning-more _ _ _ (inside .before .loop .inv) (inside .loop-test .taken) (rw (c .before .next .given .1) at (call .walk-entry .ensures)) (call .walk-entry .kept .1 .0))
-    -- same-length-2
+    -- same-length-3
     (λ c. c .before .loop .inv .so-far .same)
-    -- returns-3
+    -- returns-4
     (λ c. turning-all _ _ _ (c .before .loop .inv) (c .loop-test .left))

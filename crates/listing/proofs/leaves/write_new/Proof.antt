@@ -1,10 +1,10 @@
--- `listing::entries::write_new` meets its contract: a law for each way out. Assumes nothing.
+-- `listing::leaves::write_new` meets its contract: a law for each way out. Assumes nothing.
 use mathlib.Core.Path.{sym, _∙_}
 use borrow.Author.Needs.{needs}
 use borrow.Author.Tests.{not-true, not-false}
 use Rattle.listing.proofs.Laws.Leaves.{room-new, output-counting, output-writing}
-use Rattle.listing.proofs.entries.write_new.Statement.{statement}
-use Rattle.listing.proofs.entries.write_new.Tie as tie
+use Rattle.listing.proofs.leaves.write_new.Statement.{statement}
+use Rattle.listing.proofs.leaves.write_new.Tie as tie
 
 returns : tie.Need-returns
 returns c = sym (output-counting _ _ _ _ (not-true _ (c .if1 .taken)))

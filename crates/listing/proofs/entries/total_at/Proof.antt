@@ -1,0 +1,37 @@
+-- `listing::entries::total_at` meets its contract: under fit pages, pairs can be combined. Assumes nothing.
+use mathlib.Core.Path.{_≡_, ap, _∙_, subst⁻¹}
+use native.Mathlib.Omega.{arith}
+use borrow.Author.Needs.{needs}
+use Rattle.rule.specs.Pairs.{combine}
+use Rattle.rule.specs.Bounds.{Combinable}
+use Rattle.page.specs.Layout.{pair-at}
+use Rattle.listing.specs.Walks.{bytes-at}
+use Rattle.listing.proofs.Laws.Stands.{fit-facts, combinable, lent}
+use Rattle.listing.proofs.entries.total_at.Statement.{statement}
+use Rattle.listing.proofs.entries.total_at.Tie as tie
+
+abbrev start : tie.After-pair-at → tie.Start
+start c = c .before .before .before .before
+
+-- the pair read is the page's
+read : (c : tie.After-pair-at) → c .pair-at .result ≡ pair-at 12 (bytes-at (start c .args .img .now) (start c .args .on)) (start c .args .i)
+read c = c .pair-at .ensures ∙ ap (λ s. pair-at 12 s (start c .args .i)) (c .before .page-at .ensures)
+
+pair-at-requires : tie.Need-pair-at-requires
+pair-at-requires c κs =
+    let pre = c .before .before .before .pre in
+    omega (arith, lent (pre .0) (pre .1) (c .page-at .ensures))
+
+combine-requires : tie.Need-combine-requires
+combine-requires c κs =
+    let pre = start c .pre in
+    subst⁻¹ (Combinable (start c .args .on .above)) (read c)
+    (combinable (pre .0 .above) (fit-facts (pre .0) (pre .1)) (start c .args .i) (pre .1 .within) (pre .0 .changes))
+
+returns : tie.Need-returns
+returns c =
+    let args = start (c .before) .args in
+    c .combine .ensures ∙ ap (combine (args .q .head .kind) (args .on .above)) (read (c .before))
+
+pub total-at-spec : {M : Type 1} → statement M
+total-at-spec = tie.close (tie.spec (λ c κs. search needs) pair-at-requires combine-requires returns)
