@@ -32,6 +32,10 @@ pub record Sits (img : List ℕ) (q : Task) (on : Spot) : Type 0 where
   pub way : Way (q .head) depth (place-of (on .at))
   pub above : Above (q .head) (place-of (on .at)) (on .above)
 
+-- Where runs are written, the page has been found fit.
+pub record Known (img : List ℕ) (q : Task) (on : Spot) : Type 0 where
+  pub known : q .writing ≡ true → page-fit 12 (q .head) (place-of (on .at)) (bytes-at img on) ≡ true
+
 -- The page is fit, and the i-th is one of its entries.
 pub record Inside (img : List ℕ) (q : Task) (on : Spot) (i : ℕ) : Type 0 where
   pub fit : page-fit 12 (q .head) (place-of (on .at)) (bytes-at img on) ≡ true

@@ -1,6 +1,6 @@
 -- What the code is told of a page, and the loop over a fit page's entries. Assumes nothing.
 use mathlib.Core.Path.{_≡_, refl, sym, ap, _∙_}
-use mathlib.Core.Bool.{Bool, true, false, cond}
+use mathlib.Core.Bool.{Bool, true, false, cond, false≢true}
 use mathlib.Core.List.{List}
 use Prim.Native.Nat.{ℕ, _+_, _≤_, _<_}
 use native.Mathlib.Omega.{arith}
@@ -9,7 +9,7 @@ use Rattle.page.specs.Layout.{number-of}
 use Rattle.page.specs.Fit.{page-fit}
 use Rattle.fit.specs.Places.{place-of}
 use Rattle.fit.proofs.Laws.Pages.{page-fit-is}
-use Rattle.image.specs.Listing.{nothing, stopped, in-turn}
+use Rattle.image.specs.Listing.{Walked, nothing, stopped, in-turn}
 use Rattle.runs.specs.declared.Run.{Run}
 use Rattle.runs.specs.Open.{stepped-all}
 use Rattle.listing.specs.declared.Task.{Task}
@@ -17,7 +17,7 @@ use Rattle.listing.specs.declared.Spot.{Spot}
 use Rattle.listing.specs.declared.Opened.the-variants as opened
 use Rattle.listing.specs.declared.Walked.the-variants.{Fit, Unfit}
 use Rattle.listing.specs.Walks.{bytes-at, page-walk, opened-at, entry-walk, answer, Does, Room}
-use Rattle.listing.specs.Sits.{Inside}
+use Rattle.listing.specs.Sits.{Known, Inside}
 use Rattle.listing.proofs.Laws.Turns.{output-none, Walking, walking-none, walking-room, walking-more, walking-unfit, walking-all}
 use Rattle.listing.proofs.Laws.Pages.{page-stopped, page-in-turn}
 
@@ -35,6 +35,15 @@ module _ (writing : Bool) (run : Run) (out : List ℕ) where
 -- ---- a page, and its entries in turn
 
 module _ (img : List ℕ) (q : Task) (on : Spot) where
+  -- where there is room to write, the page is fit
+  pub room-known : {run : Run} {out : List ℕ} → Room (q .writing) run (page-walk img q on) out → Known img q on
+  unfolding stopped
+  room-known room = record { known = λ w. go (page-fit 12 (q .head) (place-of (on .at)) (bytes-at img on)) refl (room .fit w) }
+    where
+      go : (b : Bool) → page-fit 12 (q .head) (place-of (on .at)) (bytes-at img on) ≡ b → page-walk img q on .fit ≡ true → b ≡ true
+      go true e f = refl
+      go false e f = absurd (false≢true (sym (ap (λ (w : Walked). w .fit) (page-stopped img q on e)) ∙ f))
+
   pub opened-unfit : opened.Unfit ≡ opened-at img q on → page-walk img q on ≡ stopped
   unfolding opened-at
   opened-unfit e = page-stopped img q on (go (page-fit 12 (q .head) (place-of (on .at)) (bytes-at img on)) e)

@@ -8,19 +8,24 @@ use Rattle.listing.proofs.pages.opened.Statement.{statement}
 use Rattle.listing.proofs.pages.opened.Tie as tie
 
 size : (c : tie.After-page-at) → length (c .page-at .result .now) ≡ 512
-size c = ap length (c .page-at .ensures) ∙ page-length (c .before .before .pre)
+size c = ap length (c .page-at .ensures) ∙ page-length (c .before .before .pre .0)
+
+found-fit-requires : tie.Need-found-fit-requires
+found-fit-requires c κs =
+    let pre = c .before .before .pre in
+    (size c, (sits-bounded (pre .0), λ w. rw (c .page-at .ensures) (pre .1 .known w)))
 
 returns : tie.Need-returns
 unfolding opened-at
 returns c =
     let t = c .before .before in
-    rw (← (t .before .page-at .ensures), ← (t .page-fit .ensures), c .before .if1 .taken, c .number-of .ensures)
+    rw (← (t .before .page-at .ensures), ← (t .found-fit .ensures), c .before .if1 .taken, c .number-of .ensures)
 
 returns-2 : tie.Need-returns-2
 unfolding opened-at
-returns-2 c = rw (← (c .before .before .page-at .ensures), ← (c .before .page-fit .ensures), c .if1 .left)
+returns-2 c = rw (← (c .before .before .page-at .ensures), ← (c .before .found-fit .ensures), c .if1 .left)
 
 pub opened-spec : {M : Type 1} → statement M
 opened-spec =
     tie.close
-    (tie.spec (λ c κs. search needs) (λ c κs. (size c, sits-bounded (c .before .before .pre))) (λ c κs. size (c .before .before)) (λ c. search needs) returns returns-2)
+    (tie.spec (λ c κs. search needs) found-fit-requires (λ c κs. size (c .before .before)) (λ c. search needs) returns returns-2)

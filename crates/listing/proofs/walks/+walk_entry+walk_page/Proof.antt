@@ -8,7 +8,7 @@ use borrow.Fn.Kinds.{In}
 use borrow.Fn.PlainCycle.{Measures, is, falls, and}
 use Rattle.listing.proofs.Laws.Pages.{entry-apart, entry-inner}
 use Rattle.listing.proofs.Laws.Stands.{step-down}
-use Rattle.listing.proofs.Laws.Loops.{does-nothing, does-stopped, opened-unfit, Turning, turning-none, turning-inside, turning-room, turning-more, turning-unfit, turning-all}
+use Rattle.listing.proofs.Laws.Loops.{does-nothing, does-stopped, room-known, opened-unfit, Turning, turning-none, turning-inside, turning-room, turning-more, turning-unfit, turning-all}
 use Rattle.listing.proofs.walks.walk_entry.Reads as walk-entry
 use Rattle.listing.proofs.walks.walk_entry.Kinds as walk-entry-kinds
 use Rattle.listing.proofs.walks.+walk_entry+walk_page.Lts-walk_entry as walk-entry-lts
@@ -87,7 +87,7 @@ pub +walk-entry+walk-page-spec : {M : Type 1} → statement M
     walk-page-Inv-loop
     walk-page-μ-loop
     -- opened-requires
-    (λ c κs. c .before .before .pre .1 .0)
+    (λ c κs. let pre = c .before .before .pre .1 in (pre .0, room-known _ _ _ (pre .1)))
     -- enum-known-n
     (λ c. search needs)
     -- enum-told
