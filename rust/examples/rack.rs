@@ -4,26 +4,13 @@
 
 use std::error::Error;
 
-use luwhenoka::{audit, average, average_of, format, instant, listing, runs, Average, Kind, Refusal, END};
+use luwhenoka::{audit, average, average_of, enter, format, instant, listing, runs, withdraw, Average, Kind, Refusal, END};
 
 const PAGES: usize = 2;
 
 /// Puts a number's bytes at a place of a page.
 fn put(image: &mut [u8], page: usize, at: usize, bytes: &[u8]) {
     image[512 * page + at..][..bytes.len()].copy_from_slice(bytes);
-}
-
-/// The leaf that the bookings 6 on [10, 40), 3 on [20, 50) and 5 on [20, 25) leave, laid down by docs/FORMAT.md.
-fn lay_down_bookings(image: &mut [u8]) {
-    let entries: [(u32, i64, i32); 6] = [(0, 0, 0), (10, 6, 1), (20, 14, 3), (25, 9, 2), (40, 3, 1), (50, 0, 0)];
-    put(image, 0, 32, &3u32.to_le_bytes());
-    put(image, 1, 4, &6u32.to_le_bytes());
-    for (i, (start, sum, count)) in entries.into_iter().enumerate() {
-        put(image, 1, 32 + 4 * i, &start.to_le_bytes());
-        put(image, 1, 128 + 16 * i, &sum.to_le_bytes());
-        put(image, 1, 136 + 16 * i, &count.to_le_bytes());
-        put(image, 1, 140 + 16 * i, &0u32.to_le_bytes());
-    }
 }
 
 fn in_words(average: Average) -> String {
@@ -39,9 +26,13 @@ fn in_words(average: Average) -> String {
 
 fn main() -> Result<(), Box<dyn Error>> {
     let mut image = [0; 512 * PAGES];
+    let mut scratch = [0; PAGES];
     format(&mut image, Kind::Totals, 0)?;
-    lay_down_bookings(&mut image);
-    audit(&image, &mut [0; PAGES])?;
+    for (v, s, e) in [(6, 10, 40), (3, 20, 50), (7, 30, 60), (5, 20, 25)] {
+        enter(&mut image, &mut scratch, v, s, e)?;
+    }
+    withdraw(&mut image, &mut scratch, 7, 30, 60)?;
+    audit(&image, &mut scratch)?;
 
     let now = instant(&image, 22)?;
     println!("at 22: sum {}, count {}, average {}", now.sum, now.count, in_words(average(&image, 22)?));

@@ -5,18 +5,18 @@
 //! `libluwhenoka.a`, which is written and proved in Rattle; `include/luwhenoka.h` tells each call in full.
 //!
 //! ```
-//! use luwhenoka::{audit, format, instant, listing, runs, Kind, END};
+//! use luwhenoka::{enter, format, instant, listing, runs, Kind, END};
 //!
-//! let mut image = [0; 4 * 512];
+//! let (mut image, mut scratch) = ([0; 4 * 512], [0; 4]);
 //! format(&mut image, Kind::Totals, 0)?;
-//! audit(&image, &mut [0; 4])?;
+//! enter(&mut image, &mut scratch, 6, 10, 40)?;
 //!
-//! let now = instant(&image, 1_000)?;
-//! assert_eq!((now.sum, now.count), (0, 0));
+//! let now = instant(&image, 39)?;
+//! assert_eq!((now.sum, now.count), (6, 1));
 //!
 //! let mut output = [0; 16 * 8];
 //! let number = listing(&image, 0, END, &mut output)?;
-//! assert_eq!(runs(&output, number).count(), 1);
+//! assert_eq!(runs(&output, number).count(), 3);
 //! # Ok::<(), Box<dyn std::error::Error>>(())
 //! ```
 
