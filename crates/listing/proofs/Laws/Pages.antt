@@ -1,10 +1,10 @@
 -- What the walk from a page on is: unfit, or its entries in turn. Assumes nothing.
 use mathlib.Core.Path.{_≡_, refl, sym, ap, ap₂, _∙_}
-use mathlib.Core.Bool.{Bool, true, false, cond}
+use mathlib.Core.Bool.{Bool, true, false, cond, not}
 use mathlib.Core.List.{List, [], _∷_, map-append}
 use Prim.Native.Nat.{ℕ, zero, suc, _≤_, max}
 use native.Mathlib.Omega.{arith}
-use borrow.Author.Tests.{eq-eqb, ne-eqb}
+use borrow.Author.Tests.{eq-eqb, ne-eqb, not-true, not-false}
 use Rattle.rule.specs.declared.Pair.{Pair}
 use Rattle.rule.specs.Pairs.{none, combine}
 use Rattle.rule.proofs.Laws.{lawful}
@@ -43,22 +43,22 @@ under-turn comb p (suc n) f =
     ap (λ l. record { fit = then (in-turn n f) (f n) .fit; runs = l }) (map-append _ (in-turn n f .runs) (f n .runs))
     ∙ ap (λ w. then w (under comb p (f n))) (under-turn comb p n f)
 
--- ---- the ways out of an entry
+-- ---- the ways out of an entry, by the test that the code makes
 
-module _ (img : List ℕ) (q : Task) (on : Spot) (i : ℕ) where
-  pub entry-apart : meets q (bytes-at img on) on i ≡ false → entry-walk img q on i ≡ nothing
+module _ (img : List ℕ) (q : Task) (on : Spot) (i : ℕ) {b : Bool} (told : b ≡ meets q (bytes-at img on) on i) where
+  pub entry-apart : not b ≡ true → entry-walk img q on i ≡ nothing
   unfolding entry-walk
-  entry-apart e = rw e
+  entry-apart e = rw (sym told ∙ not-true b e)
 
-  pub entry-leaf : meets q (bytes-at img on) on i ≡ true → on .at .level ≡ 0
-      → entry-walk img q on i ≡ one-run (max (q .a) (start-at (bytes-at img on) i)) (spot-below q (bytes-at img on) on i .above)
+  pub entry-leaf : not b ≡ false → on .at .level ≡ 0
+      → {start : ℕ} {pair : Pair} → start ≡ max (q .a) (start-at (bytes-at img on) i) → pair ≡ spot-below q (bytes-at img on) on i .above
+      → entry-walk img q on i ≡ one-run start pair
   unfolding entry-walk
-  entry-leaf e z = rw (e, eq-eqb (on .at .level) 0 z)
+  entry-leaf e z s p = rw (sym told ∙ not-false b e, eq-eqb (on .at .level) 0 z) (ap₂ one-run (sym s) (sym p))
 
-  pub entry-inner : {below : Spot} → below ≡ spot-below q (bytes-at img on) on i → meets q (bytes-at img on) on i ≡ true → 1 ≤ on .at .level
-      → entry-walk img q on i ≡ page-walk img q below
+  pub entry-inner : not b ≡ false → 1 ≤ on .at .level → {below : Spot} → below ≡ spot-below q (bytes-at img on) on i → entry-walk img q on i ≡ page-walk img q below
   unfolding entry-walk
-  entry-inner b e l = rw (e, ne-eqb (on .at .level) 0 (λ z. absurd (omega arith))) (ap (page-walk img q) (sym b))
+  entry-inner e l d = rw (sym told ∙ not-false b e, ne-eqb (on .at .level) 0 (λ z. absurd (omega arith))) (ap (page-walk img q) (sym d))
 
 -- ---- a page
 

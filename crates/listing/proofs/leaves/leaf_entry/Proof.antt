@@ -1,7 +1,6 @@
 -- `listing::leaves::leaf_entry` meets its contract: the entry lies apart, or is one run more. Assumes nothing.
-use mathlib.Core.Path.{_≡_, sym, ap₂, _∙_}
+use mathlib.Core.Path.{_≡_}
 use borrow.Author.Needs.{needs}
-use borrow.Author.Tests.{not-true, not-false}
 use Rattle.listing.specs.Walks.{one-run, entry-walk}
 use Rattle.listing.proofs.Laws.Pages.{entry-apart, entry-leaf}
 use Rattle.listing.proofs.Laws.Loops.{does-nothing}
@@ -11,7 +10,7 @@ use Rattle.listing.proofs.leaves.leaf_entry.Tie as tie
 returns : tie.Need-returns
 returns c =
     let args = c .before .before .before .before .args in
-    rw (entry-apart (args .img .now) (args .q) (args .on) (args .i) (sym (c .before .meets .ensures) ∙ not-true _ (c .if1 .taken))) (does-nothing _ _ _)
+    rw (entry-apart (args .img .now) (args .q) (args .on) (args .i) (c .before .meets .ensures) (c .if1 .taken)) (does-nothing _ _ _)
 
 abbrev start : tie.After-total-at → tie.Start
 start c = c .before .before .before .before .before .before .before
@@ -20,8 +19,7 @@ start c = c .before .before .before .before .before .before .before
 found : (c : tie.After-total-at) → entry-walk (start c .args .img .now) (start c .args .q) (start c .args .on) (start c .args .i) ≡ one-run (c .before .run-start .result) (c .total-at .result)
 found c =
     let test = c .before .before .before in
-    entry-leaf _ _ _ _ (sym (test .before .meets .ensures) ∙ not-false _ (test .if1 .left)) (start c .pre .1 .1 .0)
-    ∙ sym (ap₂ one-run (c .before .run-start .ensures) (c .total-at .ensures))
+    entry-leaf _ _ _ _ (test .before .meets .ensures) (test .if1 .left) (start c .pre .1 .1 .0) (c .before .run-start .ensures) (c .total-at .ensures)
 
 run-met-requires : tie.Need-run-met-requires
 run-met-requires c κs = rw (found c) at (start c .pre .1 .1 .1)

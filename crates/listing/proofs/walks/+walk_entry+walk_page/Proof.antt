@@ -3,7 +3,6 @@ use mathlib.Core.Path.{sym, _∙_}
 use Prim.Native.Nat.{ℕ, _+_, _*_, _-_, _<_}
 use native.Mathlib.Omega.{arith}
 use borrow.Author.Needs.{needs}
-use borrow.Author.Tests.{not-true, not-false}
 use borrow.Fn.Kinds.{In}
 use borrow.Fn.PlainCycle.{Measures, is, falls, and}
 use Rattle.listing.proofs.Laws.Pages.{entry-apart, entry-inner}
@@ -57,7 +56,7 @@ pub +walk-entry+walk-page-spec : {M : Type 1} → statement M
     -- returns
     (λ c.
     let args = c .before .before .before .before .args in
-    rw (entry-apart (args .img .now) (args .q) (args .on) (args .i) (sym (c .before .meets .ensures) ∙ not-true _ (c .if1 .taken))) (does-nothing _ _ _))
+    rw (entry-apart (args .img .now) (args .q) (args .on) (args .i) (c .before .meets .ensures) (c .if1 .taken)) (does-nothing _ _ _))
     -- spot-below-requires
     (λ c κs. let pre = c .before .before .before .before .before .pre .1 in (pre .0, (pre .1 .0, pre .1 .1 .0)))
     -- walk-page-requires
@@ -67,8 +66,7 @@ pub +walk-entry+walk-page-spec : {M : Type 1} → statement M
     let args = start .args in
     let pre = start .pre .1 in
     let down = step-down (pre .0) (pre .1 .0) (c .spot-below .ensures) (pre .1 .1 .0) in
-    let met = sym (test .before .meets .ensures) ∙ not-false _ (test .if1 .left) in
-    (omega (arith, down .1, start .pre .0), (down .0, rw (entry-inner (args .img .now) (args .q) (args .on) (args .i) (c .spot-below .ensures) met (pre .1 .1 .0)) at (pre .1 .1 .1))))
+    (omega (arith, down .1, start .pre .0), (down .0, rw (entry-inner (args .img .now) (args .q) (args .on) (args .i) (test .before .meets .ensures) (test .if1 .left) (pre .1 .1 .0) (c .spot-below .ensures)) at (pre .1 .1 .1))))
     -- same-length
     (λ c. search needs)
     -- returns-2
@@ -78,8 +76,7 @@ pub +walk-entry+walk-page-spec : {M : Type 1} → statement M
     let test = down .before .before in
     let start = test .before .before .before .before in
     let args = start .args in
-    let met = sym (test .before .meets .ensures) ∙ not-false _ (test .if1 .left) in
-    rw (entry-inner (args .img .now) (args .q) (args .on) (args .i) (down .spot-below .ensures) met (start .pre .1 .1 .1 .0)) (call .walk-page .ensures)))
+    rw (entry-inner (args .img .now) (args .q) (args .on) (args .i) (test .before .meets .ensures) (test .if1 .left) (start .pre .1 .1 .1 .0) (down .spot-below .ensures)) (call .walk-page .ensures)))
     λ t. walk-page-lts.spec
     (opened-reads.Asked, opened-reads.Learnt, leaf-page-reads.Asked, leaf-page-reads.Learnt, walk-entry-below t, walk-entry.Post)
     (walk-page-at t)
