@@ -1,0 +1,36 @@
+-- `luwbook::read_all` meets its contract. The measure is the turns that are left. Assumes nothing.
+use mathlib.Core.Path.{_≡_, refl, _∙_}
+use lib.ListN.{length}
+use borrow.Author.Needs.{needs}
+use Rattle.luwbook.proofs.read_all.Statement.{statement}
+use Rattle.luwbook.proofs.read_all.Tie as tie
+
+abbrev Inv-loop : tie.InvT-loop
+Inv-loop img₀ p₀ turns₀ img p turns = length img ≡ length img₀
+
+abbrev μ-loop : tie.MeasureT-loop
+μ-loop img₀ p₀ turns₀ img p turns = turns
+
+loop-holds : tie.Need-loop-holds Inv-loop μ-loop
+loop-holds c = refl
+
+loop-again : tie.Need-loop-again Inv-loop μ-loop
+loop-again c =
+    let ran = c .before .before in
+    ran .read-some .kept .0 ∙ ran .before .before .before .before .before .loop .inv
+
+pub read-all-spec : {M : Type 1} → statement M
+read-all-spec =
+    tie.close
+    (tie.spec
+    Inv-loop
+    μ-loop
+    loop-holds
+    (λ c κs. search needs)
+    (λ c. search needs)
+    (λ c. search needs)
+    loop-again
+    (λ c. search needs)
+    (λ c. search needs)
+    (λ c. search needs)
+    (λ c. search needs))

@@ -1,0 +1,112 @@
+// The program of document 01: reads bookings from standard input, says which lines are refused or unread, and lists the runs.
+// What each byte does and what is printed is proved in `program`; here it is read and written, in pieces.
+use libc::STDERR_FILENO;
+use libc::STDIN_FILENO;
+use libc::STDOUT_FILENO;
+use program::Reading;
+use program::ending::put_listing;
+use program::pieces::at_first;
+use program::pieces::begin;
+use program::pieces::flushed;
+use program::pieces::run_last;
+use program::pieces::run_piece;
+ghost use Prim.Native.Nat.{_≤_};
+ghost use lib.ListN.{length};
+
+// Where the program is, whether there is more to read, and whether a read or a write has failed.
+struct Progress {
+    reading: Reading,
+    more: bool,
+    failed: bool,
+}
+
+fn stopped(r: Reading, failed: bool) -> Progress {
+    Progress {
+        reading: r,
+        more: false,
+        failed: failed,
+    }
+}
+
+// Writes the first n bytes, in as many turns as it takes, and answers whether that went well.
+fn write_first(out: &[u8], n: usize) -> bool
+    requires { ⌜ n ≤ length (now out) ⌝ }
+{
+    io::write_all(STDOUT_FILENO, &out[..n])
+}
+
+// Runs what was read, and writes what that prints: at most 55 bytes for each. A line's number has to fit, as it does in any text.
+fn run_some(img: &mut [u8], r: Reading, piece: &[u8]) -> Progress
+    requires { ⌜ length (now piece) ≤ 4096 ⌝ }
+{
+    if r.number > 9223372036854775807 {
+        return stopped(r, true);
+    }
+    let mut out = [0u8; 225280];
+    let q = run_piece(img, &mut out, flushed(r), piece);
+    let at = q.at;
+    let written = write_first(&out, at);
+    Progress {
+        reading: q,
+        more: written,
+        failed: !written,
+    }
+}
+
+// Reads once, and runs what came.
+fn read_some(img: &mut [u8], r: Reading) -> Progress {
+    let mut piece = [0u8; 4096];
+    let got = libc::read(STDIN_FILENO, &mut piece);
+    if got < 0 {
+        io::write_all(STDERR_FILENO, b"luwbook: cannot read\n");
+        return stopped(r, true);
+    }
+    if got == 0 {
+        return stopped(r, false);
+    }
+    let n = io::count(got, &piece);
+    run_some(img, r, &piece[..n])
+}
+
+// A proved loop has to end, and nothing says that the input does: so it counts its turns down, from a number that no run uses up.
+fn read_all(img: &mut [u8], r: Reading) -> Progress {
+    let mut p = Progress {
+        reading: r,
+        more: true,
+        failed: false,
+    };
+    let mut turns = u64::MAX;
+    while turns > 0 && p.more {
+        let q = p.reading;
+        p = read_some(img, q);
+        turns -= 1;
+    }
+    p
+}
+
+// The last line, if its newline is missing, and the runs.
+fn finish(img: &mut [u8], r: Reading) {
+    if r.number > 9223372036854775807 {
+        return;
+    }
+    let mut out = [0u8; 157202];
+    let q = run_last(img, &mut out, flushed(r));
+    let at = q.at;
+    if !write_first(&out, at) {
+        return;
+    }
+    let mut list = [0u8; 22656];
+    let end = put_listing(img, &mut list, &mut out);
+    write_first(&out, end);
+}
+
+// A text that could not be read to its end has no runs: they would look like those of all of it.
+fn main() {
+    let mut img = [0u8; 32768];
+    begin(&mut img);
+    let p = read_all(&mut img, at_first());
+    if p.failed {
+        return;
+    }
+    finish(&mut img, p.reading);
+}

@@ -1,0 +1,3 @@
+pub mod Going
+pub mod Listed
+pub mod Shows
