@@ -3,7 +3,7 @@ use Prim.Native.Nat.{ℕ, _<_, _≤_}
 use mathlib.Core.Path.{_≡_, refl, sym, ap, _∙_, subst, subst⁻¹}
 use mathlib.Core.Logic.{_≢_, _⊎_}
 use mathlib.Core.Bool.{true, cond}
-use mathlib.Core.List.{List, List·Memᴰ}
+use mathlib.Core.List.{List, [], List·Memᴰ}
 use native.Mathlib.Omega.{arith}
 use lib.IntN.{ℤ, pos}
 use Rattle.rule.specs.declared.Pair.{Pair}
@@ -18,7 +18,7 @@ use Rattle.calls.specs.Refusals.{cleared}
 use Rattle.calls.specs.Changes.{Side, entering, Change}
 use Rattle.calls.specs.Calls.{Formatted, Booked, Instant, Averaged, Listed, Audited, head, format, book, instant, average-at, listing, audit}
 use Rattle.calls.specs.Book.{Book, empty-book, book-pair, listing-of}
-use Rattle.calls.specs.Aggregate.{aggregate}
+use Rattle.calls.specs.Aggregate.{aggregate, Matched, live-from}
 use Rattle.calls.specs.Lists.{left-by-all, Refused-formats, All-agree, accepted}
 use Rattle.calls.specs.Demands.{keeps-scratch, Demand-1, History, at-first, at-last, changes, Demand-2, Demand-3-list, Demand-3-two, Demand-3-one, Demand-3, Same-changes, named}
 use Rattle.answers.proofs.Demand.{demand-1}
@@ -161,6 +161,9 @@ module _ {ms : List Made} {last : List ℕ} (F : From-format ms last) where
             p ∙ sym (ap (λ X. listing 12 a b X out) last-is) ∙ of-2 .spans a b out
             ∙ ap (λ cs. listing-of (aggregate (F .kind) (F .window) cs) a b out) changes-are;
         sound-after = sym (ap (sound 12) last-is) ∙ of-2 .sound-after;
+        live =
+            subst (λ cs. Matched [] cs → (t : ℕ) → aggregate (F .kind) (F .window) cs t ≡ aggregate (F .kind) (F .window) (live-from [] cs) t)
+            changes-are (of-2 .live);
       }
 
   pub as-the-book : As-the-book F

@@ -13,7 +13,7 @@ use Rattle.calls.specs.Refusals.{cleared}
 use Rattle.calls.specs.Changes.{Side}
 use Rattle.calls.specs.Calls.{head}
 use Rattle.calls.specs.Book.{empty-book, book-pair, listing-of}
-use Rattle.calls.specs.Aggregate.{aggregate}
+use Rattle.calls.specs.Aggregate.{aggregate, Matched, live-from}
 use Rattle.calls.specs.Demands.{keeps-scratch, Same-changes, named}
 use Rattle.luwhenoka.specs.declared.InstantAnswer.{InstantAnswer}
 use Rattle.luwhenoka.specs.declared.AverageAnswer.{AverageAnswer}
@@ -66,6 +66,11 @@ module _ {ms : List Made} {last : List ℕ} (F : From-format ms last) where
         (a b : ℕ) (out : List ℕ) (r : ListingAnswer) (after : List ℕ) → Lists a b last out r after
         → listed r after ≡ listing-of (aggregate (F .kind) (F .window) (taken-by-all ms)) a b out
     pub sound-after : sound 12 last ≡ true
+    -- "If every withdrawal matches an earlier entry not yet withdrawn, this is the aggregate over live bookings."
+    pub live :
+        Matched [] (taken-by-all ms)
+        → (t : ℕ)
+        → aggregate (F .kind) (F .window) (taken-by-all ms) t ≡ aggregate (F .kind) (F .window) (live-from [] (taken-by-all ms)) t
 
   -- Demand 3, the claim about the list: each call on the way is the book's, and after it the full listing.
   pub record As-the-book : Type 0 where
