@@ -2,6 +2,7 @@
 
 use crate::calls::{Answer, Call};
 use crate::comparer::Comparer;
+use crate::images::instant_of;
 
 impl Comparer {
     pub fn format(&mut self, kind: u32, window: u32) -> Answer {
@@ -53,13 +54,18 @@ impl Comparer {
         self.ask(change(withdrawal, v, s, e), scratch, 0).number
     }
 
-    /// A change of each sort, and back to the image as it was.
+    /// A change of each sort, near the beginning or at a start anywhere, and back to the image as it was.
     pub fn changes_and_back(&mut self) {
         for withdrawal in [false, true] {
             let before = self.image().to_vec();
-            let (s, length) = (self.random.below(300) as u32, 1 + self.random.below(200) as u32);
+            let page = self.random.below(self.pages());
+            let s = match self.random.below(2) {
+                0 => self.random.below(300) as u32,
+                _ => instant_of(&before, page, &mut self.random),
+            };
+            let e = s.saturating_add(1 + self.random.below(200) as u32);
             let v = self.random.between(-1_000_000, 1_000_000);
-            if self.book(withdrawal, v, s, s + length) == 0 {
+            if self.book(withdrawal, v, s, e) == 0 {
                 self.lend(&before);
             }
         }

@@ -152,7 +152,7 @@ pub fn wear(comparer: &mut Comparer, pool: &Pool, part: usize) {
             comparer.audit();
             comparer.listing(0, END);
         }
-        if comparer.random.one_in(30) {
+        if comparer.random.one_in(6) {
             comparer.changes_and_back();
         }
         for page in damaged {

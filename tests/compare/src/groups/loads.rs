@@ -104,30 +104,11 @@ fn value(comparer: &mut Comparer) -> i64 {
     }
 }
 
-// ---------------------------------------------------------------- up and down again
+// ---------------------------------------------------------------- at the brim
 
-/// Bookings one by one up to height 4 and withdrawn again in some order; then full images, at the brim.
-pub fn tides(comparer: &mut Comparer, pool: &Pool, part: usize) {
-    use crate::images::{head, CHANGES, HEIGHT};
-    comparer.lend(&fresh(1_024, 1, 0));
-    let mut live = Vec::new();
-    let height = 2 + part as u32 % 3;
-    while head(comparer.image(), HEIGHT) < height {
-        let s = 20 * (live.len() as u32 + 1);
-        live.push((1 + live.len() as i64 % 5, s, s + 7));
-        let (v, s, e) = live[live.len() - 1];
-        assert_eq!(comparer.book(false, v, s, e), 0);
-    }
-    match part / 3 % 3 {
-        0 => live.reverse(),
-        1 => {}
-        _ => comparer.random.shuffle(&mut live),
-    }
-    for (v, s, e) in live {
-        comparer.book(true, v, s, e);
-        comparer.instant(s);
-    }
-    comparer.listings(0, END);
+/// Full images of the pool: some changes find pages, some don't.
+pub fn brink(comparer: &mut Comparer, pool: &Pool, _: usize) {
+    use crate::images::{head, CHANGES};
     let full = pool.tall.iter().filter(|image| image.len() < 100_000 && head(image, CHANGES) > 250);
     for image in full {
         comparer.lend(image);

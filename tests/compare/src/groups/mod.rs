@@ -4,6 +4,7 @@ mod averages;
 mod bounds;
 mod circles;
 mod damage;
+mod ebbs;
 mod formats;
 mod heights;
 mod lengths;
@@ -27,6 +28,7 @@ pub struct Group {
 
 /// The longest parts first, so that the threads end together.
 pub const GROUPS: &[Group] = &[
+    Group { name: "brims", what: "filled until 24 and emptied", parts: 48, random: true, run: ebbs::brims },
     Group {
         name: "bytes",
         what: "each byte of small images set to several values",
@@ -64,12 +66,14 @@ pub const GROUPS: &[Group] = &[
         run: damage::stale,
     },
     Group {
-        name: "tides",
-        what: "heights 1 to 4 and back, and changes at the brim",
-        parts: 10,
+        name: "ebbs",
+        what: "small ranges of time, where splits and joins alternate",
+        parts: 36,
         random: true,
-        run: loads::tides,
+        run: ebbs::ebbs,
     },
+    Group { name: "tides", what: "up to heights 2 to 4 and back", parts: 9, random: true, run: ebbs::tides },
+    Group { name: "brink", what: "changes of full images", parts: 10, random: true, run: loads::brink },
     Group {
         name: "links",
         what: "pages copied, swapped, freed, marks moved: nearly sound images",
