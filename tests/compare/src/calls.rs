@@ -1,7 +1,7 @@
 //! The calls, as the plain version and as the library do them. A further call is one more case here.
 
 use luwhenoka::raw::ffi;
-use plain::Average;
+use plain::{Average, Told};
 
 #[derive(Clone, Copy, PartialEq, Eq, Debug)]
 pub enum Call {
@@ -90,7 +90,18 @@ pub struct Lent<'a> {
 
 // ---------------------------------------------------------------- the plain version
 
-pub fn by_plain(call: Call, lent: Lent) -> Answer {
+/// Its answer and, of a change, its steps.
+pub fn by_plain(call: Call, lent: Lent) -> (Answer, Option<Told>) {
+    let Lent { image, scratch, output } = lent;
+    let told = match call {
+        Call::Enter { v, s, e } => plain::enter_told(image, scratch, v, s, e),
+        Call::Withdraw { v, s, e } => plain::withdraw_told(image, scratch, v, s, e),
+        _ => return (without_steps(call, Lent { image, scratch, output }), None),
+    };
+    (Answer::number(told.number), Some(told))
+}
+
+fn without_steps(call: Call, lent: Lent) -> Answer {
     let Lent { image, scratch, output } = lent;
     match call {
         Call::Format { kind, window } => Answer::number(plain::format(image, kind, window)),
@@ -108,8 +119,7 @@ pub fn by_plain(call: Call, lent: Lent) -> Answer {
             Answer { number, runs, ..Answer::default() }
         }
         Call::Audit => Answer::number(plain::audit(image, scratch)),
-        Call::Enter { v, s, e } => Answer::number(plain::enter(image, scratch, v, s, e)),
-        Call::Withdraw { v, s, e } => Answer::number(plain::withdraw(image, scratch, v, s, e)),
+        Call::Enter { .. } | Call::Withdraw { .. } => unreachable!("a change has steps"),
     }
 }
 

@@ -1,12 +1,16 @@
 //! One image, lent to the plain version and to the library alike; every call is done by both and compared: the number and
-//! the answer, and every byte of image, scratch and output, with the bytes around them.
+//! the answer, and every byte of image, scratch and output, with the bytes around them. Of a change also the pages that it
+//! wrote, against those that its steps name.
 
 use std::cell::Cell;
 use std::sync::Mutex;
 
+use plain::Told;
+
 use crate::calls::{by_library, by_plain, Answer, Call, Lent};
 use crate::random::Random;
 use crate::room::Room;
+use crate::steps::Change;
 use crate::tally::Tally;
 
 /// Where the comparison is, for a message that lets one repeat it.
@@ -107,10 +111,11 @@ impl Comparer {
         fill(&mut self.output, &mut self.lent_output, &self.noise, output, &mut self.random);
 
         let Comparer { image, scratch, output, .. } = self;
-        let expected = by_plain(call, Lent { image, scratch, output });
+        let (expected, told) = by_plain(call, Lent { image, scratch, output });
         let (image, scratch, output) = (self.lent.lent(), self.lent_scratch.lent(), self.lent_output.lent());
         let answer = by_library(call, Lent { image, scratch, output }, self.null);
-        if let Some(difference) = self.difference(expected, answer) {
+        let difference = self.difference(expected, answer).or_else(|| self.wrong_writes(call, answer, told));
+        if let Some(difference) = difference {
             self.end(&difference);
         }
         self.tally.add(call, &answer);
@@ -132,6 +137,15 @@ impl Comparer {
         byte("image", &self.image, &self.lent)
             .or_else(|| byte("scratch", &self.scratch, &self.lent_scratch))
             .or_else(|| byte("output", &self.output, &self.lent_output))
+    }
+
+    /// What a call wrote to the image that it may not write, by the image ahead of it.
+    fn wrong_writes(&mut self, call: Call, answer: Answer, told: Option<Told>) -> Option<String> {
+        let (before, after) = (&self.before, self.lent.held());
+        if call.writes() && answer.number != 0 {
+            return (before != after).then(|| "image: written by a refused call".to_string());
+        }
+        told.and_then(|told| self.tally.steps.add(&Change { before, after, told: &told }))
     }
 
     /// Tells the difference and how to see it again, keeps the image beside the program, and ends.

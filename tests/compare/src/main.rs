@@ -12,6 +12,7 @@ mod groups;
 mod images;
 mod random;
 mod room;
+mod steps;
 mod tally;
 mod work;
 

@@ -1,8 +1,13 @@
-//! How often each call returned each number.
+//! How often each call returned each number, and what changes did.
 
 use crate::calls::{Answer, Call, NAMES};
+use crate::steps::Steps;
 
 const NUMBERS: usize = 25;
+
+/// A comparison of all groups does at least so many calls, and accepts at least so many changes.
+const FEWEST_CALLS: u64 = 2_000_000;
+const FEWEST_CHANGES: u64 = 150_000;
 
 #[derive(Clone)]
 pub struct Tally {
@@ -12,6 +17,8 @@ pub struct Tally {
     refused_pages: [u64; 5],
     /// Averages by their case: none, hundredths, beyond.
     averages: [u64; 3],
+    /// Of the changes that were accepted.
+    pub steps: Steps,
 }
 
 impl Default for Tally {
@@ -21,6 +28,7 @@ impl Default for Tally {
             answered_pages: [0; 5],
             refused_pages: [0; 5],
             averages: [0; 3],
+            steps: Steps::default(),
         }
     }
 }
@@ -43,6 +51,7 @@ impl Tally {
         add(&mut self.answered_pages, &other.answered_pages);
         add(&mut self.refused_pages, &other.refused_pages);
         add(&mut self.averages, &other.averages);
+        self.steps.add_all(&other.steps);
     }
 
     pub fn calls(&self) -> u64 {
@@ -65,6 +74,7 @@ impl Tally {
             "averages of pairs: none {}, hundredths {}, beyond {}",
             self.averages[0], self.averages[1], self.averages[2]
         );
+        self.steps.print();
     }
 
     /// What should have occurred and didn't.
@@ -85,6 +95,10 @@ impl Tally {
         lacking.extend(
             cases.iter().zip(self.averages).filter(|(_, n)| *n == 0).map(|(case, _)| format!("an average {case}")),
         );
+        lacking.extend(self.steps.lacking());
+        if self.calls() < FEWEST_CALLS || self.steps.changes() < FEWEST_CHANGES {
+            lacking.push(format!("{FEWEST_CALLS} calls and {FEWEST_CHANGES} accepted changes"));
+        }
         lacking
     }
 }
