@@ -47,7 +47,8 @@ module _ (half pages : ℕ) where
   behind-behind xs ys r = λ j. record { written = append-assoc xs ys (r .written) j; image = r .image }
 
   -- a line ends, and the text goes on
-  newline : (g : Going) (more : List ℕ) → Without 10 (g .line) → behind (line-run half pages g .written) (rest-of (line-run half pages g) more) ≡ behind (g .written) (rest-of g (10 ∷ more))
+  newline : (g : Going) (more : List ℕ) → Without 10 (g .line)
+      → behind (line-run half pages g .written) (rest-of (line-run half pages g) more) ≡ behind (g .written) (rest-of g (10 ∷ more))
   unfolding line-run rest-of
   newline g more w =
       let r = line-of-going g in
@@ -73,7 +74,8 @@ module _ (half pages : ℕ) where
           ∙ ap (λ ls. behind (g .written) (ran-lines half pages (g .number) ls (g .image)))
           (sym (ap lines-of (append-nil (g .line)) ∙ line-left w (omega arith)))
 
-  runs-on : (text : List ℕ) (g : Going) → Without 10 (g .line) → left-of (ended half pages (goes-on half pages text g)) ≡ behind (g .written) (rest-of g text)
+  runs-on : (text : List ℕ) (g : Going) → Without 10 (g .line)
+      → left-of (ended half pages (goes-on half pages text g)) ≡ behind (g .written) (rest-of g text)
   unfolding goes-on rest-of line-run
   runs-on [] g w = at-end g w
   runs-on (b ∷ bs) g w = step (ℕ-discrete b 10) (λ h v. runs-on bs h v)
@@ -129,8 +131,10 @@ module _ (half pages : ℕ) where
   goes-onto ws b g = step (eqb b 10) (line-onto ws g)
     where
       step : (t : Bool) → line-run half pages (onto ws g) ≡ onto ws (line-run half pages g)
-          → cond t (line-run half pages (onto ws g)) (record { written = ws ++ g .written; line = g .line ++ (b ∷ []); number = g .number; image = g .image })
-          ≡ onto ws (cond t (line-run half pages g) (record { written = g .written; line = g .line ++ (b ∷ []); number = g .number; image = g .image }))
+          → cond t (line-run half pages (onto ws g))
+          (record { written = ws ++ g .written; line = g .line ++ (b ∷ []); number = g .number; image = g .image })
+          ≡ onto ws (cond t (line-run half pages g)
+          (record { written = g .written; line = g .line ++ (b ∷ []); number = g .number; image = g .image }))
       step true e = e
       step false e = refl
 
@@ -139,8 +143,10 @@ module _ (half pages : ℕ) where
   goes-on-onto ws [] g = refl
   goes-on-onto ws (b ∷ bs) g = ap (goes-on half pages bs) (goes-onto ws b g) ∙ goes-on-onto ws bs (goes half pages b g)
 
-  pub pieces-written : (text : List ℕ) (g : Going) → goes-on half pages text g .written ≡ g .written ++ goes-on half pages text (unwritten g) .written
+  pub pieces-written : (text : List ℕ) (g : Going)
+      → goes-on half pages text g .written ≡ g .written ++ goes-on half pages text (unwritten g) .written
   unfolding unwritten onto
   pieces-written text g =
-      ap (λ ws. goes-on half pages text (record { written = ws; line = g .line; number = g .number; image = g .image }) .written) (sym (append-nil (g .written)))
+      ap (λ ws. goes-on half pages text (record { written = ws; line = g .line; number = g .number; image = g .image }) .written)
+      (sym (append-nil (g .written)))
       ∙ ap (λ (h : Going). h .written) (goes-on-onto (g .written) text (unwritten g))

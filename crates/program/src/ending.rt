@@ -14,7 +14,8 @@ ghost use Rattle.program.specs.Going.{listed-text};
 pub fn put_listing(img: &[u8], list: &mut [u8], out: &mut [u8]) -> usize
     requires { ⌜ length (now list) ≤ 22656 ⌝ }
     requires { ⌜ 157202 ≤ length (now out) ⌝ }
-    ensures { λ r. ⌜ Put (now (out .entry)) 0 (listed-text (listing 12 0 END (now (img .entry)) (now (list .entry)))) (now (out .exit)) r ⌝ }
+    ensures { λ r. ⌜ Put (now (out .entry)) 0
+        (listed-text (listing 12 0 END (now (img .entry)) (now (list .entry)))) (now (out .exit)) r ⌝ }
 {
     let answer = luw_listing(img, 0, 4294967295, list);
     let runs = answer.runs;

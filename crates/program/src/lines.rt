@@ -22,7 +22,8 @@ fn run_booking(
     e: u32,
 ) -> usize
     requires { ⌜ at + 55 ≤ length (now out) ⌝ }
-    ensures { λ r. ⌜ Does (ran-line 12 64 k (booking (side-of withdraws) v s e) (now (img .entry))) (now (img .exit)) (now (out .entry)) at (now (out .exit)) r ⌝ }
+    ensures { λ r. ⌜ Does (ran-line 12 64 k (booking (side-of withdraws) v s e) (now (img .entry)))
+        (now (img .exit)) (now (out .entry)) at (now (out .exit)) r ⌝ }
 {
     let mut scratch = [0u8; 64];
     let number = book(img, &mut scratch, withdraws, v, s, e);
@@ -35,7 +36,8 @@ fn run_booking(
 // Any line: "`line K unread` for any other form".
 pub fn run_line(img: &mut [u8], out: &mut [u8], at: usize, k: u64, line: Parsed) -> usize
     requires { ⌜ at + 55 ≤ length (now out) ⌝ }
-    ensures { λ r. ⌜ Does (ran-line 12 64 k (line-of line) (now (img .entry))) (now (img .exit)) (now (out .entry)) at (now (out .exit)) r ⌝ }
+    ensures { λ r. ⌜ Does (ran-line 12 64 k (line-of line) (now (img .entry)))
+        (now (img .exit)) (now (out .entry)) at (now (out .exit)) r ⌝ }
 {
     match line {
         Parsed::Enter(v, s, e) => {

@@ -84,7 +84,8 @@ fn run_byte(img: &mut [u8], out: &mut [u8], r: Reading, b: u8) -> Reading
 pub fn run_piece(img: &mut [u8], out: &mut [u8], r: Reading, piece: &[u8]) -> Reading
     requires { ⌜ r .at + 55 * length (now piece) ≤ length (now out) ⌝ }
     requires { ⌜ r .number + length (now piece) < 2 ^ 64 ⌝ }
-    ensures { λ q. ⌜ Goes (goes-on 12 64 (now (piece .entry))) r (now (img .entry)) (now (out .entry)) q (now (img .exit)) (now (out .exit)) ⌝ }
+    ensures { λ q. ⌜ Goes (goes-on 12 64 (now (piece .entry))) r
+        (now (img .entry)) (now (out .entry)) q (now (img .exit)) (now (out .exit)) ⌝ }
     ensures { λ q. ⌜ Within (length (now (piece .entry))) r q ⌝ }
 {
     let mut q = r;

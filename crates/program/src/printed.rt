@@ -46,7 +46,9 @@ fn put_one(out: &mut [u8], at: usize, list: &[u8], n: usize, i: usize) -> usize
     requires { ⌜ at + 111 ≤ length (now out) ⌝ }
     requires { ⌜ i < n ⌝ }
     requires { ⌜ 16 * n ≤ length (now list) ⌝ }
-    ensures { λ r. ⌜ Put (now (out .entry)) at (run-text (run-at (now (list .entry)) i) (end-before (now (list .entry)) i (n - (i + 1)))) (now (out .exit)) r ⌝ }
+    ensures { λ r. ⌜ Put (now (out .entry)) at
+        (run-text (run-at (now (list .entry)) i) (end-before (now (list .entry)) i (n - (i + 1))))
+        (now (out .exit)) r ⌝ }
 {
     put_run(
         out,

@@ -42,7 +42,8 @@ module _ (a b : ℕ) (img out : List ℕ) (r : ListingAnswer) (after : List ℕ)
       omega (
         arith,
         ap (λ (l : Listed). l .runs) e,
-        has-room (not (length-ok 12 img)) (not (span-ok a b)) (not (head-ok 12 img && walk-over 12 img a b .fit)) (ltb (length out) (16 * runs)) runs (length out) refl,
+        has-room (not (length-ok 12 img)) (not (span-ok a b)) (not (head-ok 12 img && walk-over 12 img a b .fit))
+            (ltb (length out) (16 * runs)) runs (length out) refl,
       )
 
   pub listed-printed : runs-line (r .runs) ++ runs-text (runs-at after 0 (r .runs)) ≡ listed-text (listing 12 a b img out)

@@ -37,7 +37,8 @@ unfolding unread-text
 length-unread k = omega (arith, length-append (decimal k) (32 ∷ 117 ∷ 110 ∷ 114 ∷ 101 ∷ 97 ∷ 100 ∷ 10 ∷ []), length-decimal k)
 
 -- the same line by another name
-pub does-as : {ran ran′ : Ran} {left out after : List ℕ} {at next : ℕ} → ran ≡ ran′ → Does ran left out at after next → Does ran′ left out at after next
+pub does-as : {ran ran′ : Ran} {left out after : List ℕ} {at next : ℕ} → ran ≡ ran′
+    → Does ran left out at after next → Does ran′ left out at after next
 does-as e d =
     record {
       image = d .image ∙ ap (λ (r : Ran). r .image) e;
@@ -59,16 +60,19 @@ module _ (k : ℕ) (side : Side) (v : ℤ) (s e : ℕ) (img : List ℕ) {n : ℕ
   unfolding ran-of
   silent z = ap (λ t. record { written = cond t [] (refused-text k n); image = left }) (sym (eq-eqb n 0 z))
 
-  told : (n ≡ 0 → ⊥) → record { written = refused-text k n; image = left } ≡ ran-of k (record { number = n; image = left; scratch = scratch })
+  told : (n ≡ 0 → ⊥)
+      → record { written = refused-text k n; image = left } ≡ ran-of k (record { number = n; image = left; scratch = scratch })
   unfolding ran-of
   told z = ap (λ t. record { written = cond t [] (refused-text k n); image = left }) (sym (ne-eqb n 0 z))
 
-  pub does-accepted : n ≡ 0 → (out : List ℕ) (at : ℕ) → at ≤ length out → Does (ran-line 12 64 k (booking side v s e) img) left out at out at
+  pub does-accepted : n ≡ 0 → (out : List ℕ) (at : ℕ) → at ≤ length out
+      → Does (ran-line 12 64 k (booking side v s e) img) left out at out at
   does-accepted z out at h = does-as (silent z ∙ ran-booking) (record { image = λ j. left; printed = put-none out at h; few = omega arith })
 
   pub does-refused : (n ≡ 0 → ⊥) → {out after : List ℕ} {at next : ℕ} → Put out at (refused-text k n) after next
       → Does (ran-line 12 64 k (booking side v s e) img) left out at after next
-  does-refused z p = does-as (told z ∙ ran-booking) (record { image = λ j. left; printed = p; few = omega (arith, p .place, length-refused k n) })
+  does-refused z p =
+      does-as (told z ∙ ran-booking) (record { image = λ j. left; printed = p; few = omega (arith, p .place, length-refused k n) })
 
 -- ---- a line by its case
 

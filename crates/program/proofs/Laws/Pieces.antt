@@ -37,7 +37,8 @@ goes-line parsed empty d had from g s =
     let d′ = does-as (λ j. ran-line 12 64 (s .number j) (e j) (s .image j)) d in
     record { fed = empty; number = omega (arith, s .number); image = d′ .image; printed = put-then (s .printed) (d′ .printed) }
 
-pub within-line : {r : Reading} {fed : Fed} {next : ℕ} → next ≤ r .at + 55 → Within 1 r (record { fed = fed; number = r .number + 1; at = next })
+pub within-line : {r : Reading} {fed : Fed} {next : ℕ} → next ≤ r .at + 55
+    → Within 1 r (record { fed = fed; number = r .number + 1; at = next })
 within-line h = record { number = omega arith; at = omega arith }
 
 -- ---- a byte
@@ -91,23 +92,32 @@ pub record Come (piece : List ℕ) (r : Reading) (img out : List ℕ) (i : ℕ) 
 pub come-none : (piece : List ℕ) (r : Reading) (img out : List ℕ) → Come piece r img out 0 r img out
 unfolding goes-on
 come-none piece r img out =
-    record { within = omega arith; gone = λ had from g s. s; bounds = record { number = omega arith; at = omega arith }; size = refl; pages = refl }
+    record {
+      within = omega arith;
+      gone = λ had from g s. s;
+      bounds = record { number = omega arith; at = omega arith };
+      size = refl;
+      pages = refl;
+    }
 
 pub come-more : {piece : List ℕ} {r : Reading} {img out : List ℕ} {i : ℕ} {q q′ : Reading} {left left′ after after′ : List ℕ}
-    → Come piece r img out i q left after → i < length piece → Goes (goes 12 64 (getD piece i 0)) q left after q′ left′ after′ → Within 1 q q′
+    → Come piece r img out i q left after → i < length piece
+    → Goes (goes 12 64 (getD piece i 0)) q left after q′ left′ after′ → Within 1 q q′
     → length after′ ≡ length after → length left′ ≡ length left → Come piece r img out (i + 1) q′ left′ after′
 come-more {piece} {r} {img} {out} {i} so h f w l k =
     let e : take i piece ++ (getD piece i 0 ∷ []) ≡ take (i + 1) piece = sym (ap (λ k. take k piece) (add-one i) ∙ take-suc piece i 0 h) in
     record {
       within = omega arith;
       gone = λ had from g s.
-          shows-as (goes-on-snoc 12 64 (take i piece) (getD piece i 0) g ∙ ap (λ t. goes-on 12 64 t g) e) (f had from (goes-on 12 64 (take i piece) g) (so .gone had from g s));
+          shows-as (goes-on-snoc 12 64 (take i piece) (getD piece i 0) g ∙ ap (λ t. goes-on 12 64 t g) e)
+          (f had from (goes-on 12 64 (take i piece) g) (so .gone had from g s));
       bounds = record { number = omega (arith, so .bounds .number, w .number); at = omega (arith, so .bounds .at, w .at) };
       size = l ∙ so .size;
       pages = k ∙ so .pages;
     }
 
-module _ {piece : List ℕ} {r : Reading} {img out : List ℕ} {i : ℕ} {q : Reading} {left after : List ℕ} (so : Come piece r img out i q left after) (h : length piece ≤ i) where
+module _ {piece : List ℕ} {r : Reading} {img out : List ℕ} {i : ℕ} {q : Reading} {left after : List ℕ}
+    (so : Come piece r img out i q left after) (h : length piece ≤ i) where
   whole : i ≡ length piece
   whole = omega (arith, so .within)
 

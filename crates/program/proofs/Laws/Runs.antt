@@ -53,7 +53,8 @@ end-next s n i h =
     ap (λ k. run-at s k .start) (add-one i) ∙ ap (end-before s i) z
 
 -- the run and those behind it
-runs-first : (s : List ℕ) (i m : ℕ) → runs-text (runs-at s i (suc m)) ≡ run-text (run-at s i) (end-before s i m) ++ runs-text (runs-at s (suc i) m)
+runs-first : (s : List ℕ) (i m : ℕ)
+    → runs-text (runs-at s i (suc m)) ≡ run-text (run-at s i) (end-before s i m) ++ runs-text (runs-at s (suc i) m)
 unfolding runs-text runs-at end-before
 runs-first s i zero = sym (append-nil (run-text (run-at s i) END))
 runs-first s i (suc m) = refl
@@ -70,9 +71,16 @@ pub record Printing (had : List ℕ) (at : ℕ) (s : List ℕ) (n i : ℕ) (out 
 pub printing-none : (had : List ℕ) (at : ℕ) (s : List ℕ) (n : ℕ) → at + 111 * n ≤ length had → Printing had at s n 0 had at
 printing-none had at s n h =
     let z : n - 0 ≡ n = omega arith in
-    record { within = omega arith; done = []; printed = put-none had at (omega arith); rest = ap (λ k. runs-text (runs-at s 0 k)) z; room = omega arith }
+    record {
+      within = omega arith;
+      done = [];
+      printed = put-none had at (omega arith);
+      rest = ap (λ k. runs-text (runs-at s 0 k)) z;
+      room = omega arith;
+    }
 
-pub printing-more : {had : List ℕ} {at : ℕ} {s : List ℕ} {n i : ℕ} {out out′ : List ℕ} {next next′ : ℕ} → Printing had at s n i out next → i < n
+pub printing-more : {had : List ℕ} {at : ℕ} {s : List ℕ} {n i : ℕ} {out out′ : List ℕ} {next next′ : ℕ}
+    → Printing had at s n i out next → i < n
     → Put out next (run-text (run-at s i) (end-before s i (n - (i + 1)))) out′ next′ → Printing had at s n (i + 1) out′ next′
 printing-more {had} {at} {s} {n} {i} {out} {out′} {next} {next′} so h p =
     let m : ℕ = n - (i + 1) in

@@ -13,7 +13,8 @@ put-runs-requires c κs =
     let line = c .before .before .before .before in
     let call = line .before .before .before .before in
     let start = call .before .before .before .before .before in
-    let room = listed-room 0 END (now (start .args .img)) (now (start .args .list)) (call .luw-listing .result) _ (call .luw-listing .ensures) in (
+    let room =
+    listed-room 0 END (now (start .args .img)) (now (start .args .list)) (call .luw-listing .result) _ (call .luw-listing .ensures) in (
       omega (arith, put-room 26 157176 (line .put-runs-line .ensures) (length-runs-line _) (start .pre .1), room, start .pre .0),
       omega (arith, room, call .luw-listing .kept .1 .1 .1 .0),
     )

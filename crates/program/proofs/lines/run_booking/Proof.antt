@@ -13,7 +13,8 @@ returns c =
     let booked = c .before .before .before .before in
     let start = booked .before .before .before .before .before in
     let a = start .args in
-    does-accepted (a .k) (side-of (a .withdraws)) (a .v) (a .s) (a .e) (now (a .img)) (rw (toZ-ofZ (start .fits .v)) at (booked .book .ensures)) (c .if1 .taken)
+    does-accepted (a .k) (side-of (a .withdraws)) (a .v) (a .s) (a .e) (now (a .img))
+    (rw (toZ-ofZ (start .fits .v)) at (booked .book .ensures)) (c .if1 .taken)
     (now (a .out)) (a .at) (omega (arith, start .pre))
 
 returns-2 : tie.Need-returns-2
@@ -23,7 +24,8 @@ returns-2 c =
     let booked = left .before .before .before .before in
     let start = booked .before .before .before .before .before in
     let a = start .args in
-    does-refused (a .k) (side-of (a .withdraws)) (a .v) (a .s) (a .e) (now (a .img)) (rw (toZ-ofZ (start .fits .v)) at (booked .book .ensures)) (left .if1 .left)
+    does-refused (a .k) (side-of (a .withdraws)) (a .v) (a .s) (a .e) (now (a .img))
+    (rw (toZ-ofZ (start .fits .v)) at (booked .book .ensures)) (left .if1 .left)
     (put .put-refused .ensures)
 
 pub run-booking-spec : {M : Type 1} → statement M

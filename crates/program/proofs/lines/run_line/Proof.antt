@@ -16,7 +16,8 @@ returns c =
     let told = ran .before .before .before in
     let args = told .before .before .before .before .before .args in
     let fits : SFits w64 (told .before .line .given .0 .0) = search needs in
-    does-as (ap (λ l. ran-line 12 64 (args .k) l (now (args .img))) (line-enter (told .before .line .given .1) (toZ-ofZ fits))) (ran .run-booking .ensures)
+    does-as (ap (λ l. ran-line 12 64 (args .k) l (now (args .img))) (line-enter (told .before .line .given .1) (toZ-ofZ fits)))
+    (ran .run-booking .ensures)
 
 returns-2 : tie.Need-returns-2
 returns-2 c =
@@ -24,14 +25,16 @@ returns-2 c =
     let told = ran .before .before .before in
     let args = told .before .before .before .before .before .args in
     let fits : SFits w64 (told .before .line2 .given .0 .0) = search needs in
-    does-as (ap (λ l. ran-line 12 64 (args .k) l (now (args .img))) (line-withdraw (told .before .line2 .given .1) (toZ-ofZ fits))) (ran .run-booking2 .ensures)
+    does-as (ap (λ l. ran-line 12 64 (args .k) l (now (args .img))) (line-withdraw (told .before .line2 .given .1) (toZ-ofZ fits)))
+    (ran .run-booking2 .ensures)
 
 returns-3 : tie.Need-returns-3
 returns-3 c =
     let put = c .before .before in
     let told = put .before .before in
     let args = told .before .before .before .before .args in
-    does-as (ap (λ l. ran-line 12 64 (args .k) l (now (args .img))) (line-unread (told .enum-told .given .1))) (does-unread (args .k) (put .put-unread .ensures))
+    does-as (ap (λ l. ran-line 12 64 (args .k) l (now (args .img))) (line-unread (told .enum-told .given .1)))
+    (does-unread (args .k) (put .put-unread .ensures))
 
 pub run-line-spec : {M : Type 1} → statement M
 run-line-spec =

@@ -8,8 +8,10 @@ returns : tie.Need-returns
 returns c =
     let none = c .before in
     let ran = none .before .before .before .before .before in
-    let parsed = ran .before in
-    (goes-line (λ text h. parsed .parse-fed .ensures text h) (none .none-fed .ensures) (ran .run-line .ensures), within-line (ran .run-line .ensures .few))
+    let parsed = ran .before in (
+      goes-line (parsed .parse-fed .ensures) (none .none-fed .ensures) (ran .run-line .ensures),
+      within-line (ran .run-line .ensures .few),
+    )
 
 pub end-line-spec : {M : Type 1} → statement M
 end-line-spec =

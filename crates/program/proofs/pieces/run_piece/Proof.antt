@@ -27,7 +27,8 @@ loop-again : tie.Need-loop-again Inv-loop μ-loop
 loop-again c =
     let ran = c .before .before .before .before in
     let inside = ran .before .before .before .before in
-    come-more (inside .before .loop .inv) (inside .loop-test .taken) (ran .run-byte .ensures .0) (ran .run-byte .ensures .1) (ran .run-byte .kept .1 .0) (ran .run-byte .kept .0)
+    come-more (inside .before .loop .inv) (inside .loop-test .taken)
+    (ran .run-byte .ensures .0) (ran .run-byte .ensures .1) (ran .run-byte .kept .1 .0) (ran .run-byte .kept .0)
 
 same-length : tie.Need-same-length Inv-loop μ-loop
 same-length c = c .before .loop .inv .pages

@@ -11,7 +11,8 @@ returns c =
     let pair = put .before in
     let end = pair .before in
     let start = end .before in
-    put-as (λ j. run-text (record { start = start .start-of .ensures j; pair = pair .pair-of .ensures j }) (end .end-of .ensures j)) (put .put-run .ensures)
+    put-as (λ j. run-text (record { start = start .start-of .ensures j; pair = pair .pair-of .ensures j }) (end .end-of .ensures j))
+    (put .put-run .ensures)
 
 pub put-one-spec : {M : Type 1} → statement M
 put-one-spec =

@@ -20,7 +20,10 @@ put-one-requires : tie.Need-put-one-requires Inv-loop μ-loop
 put-one-requires c κs = (omega (arith, c .before .before .loop .inv .room), (c .before .loop-test .taken, search needs))
 
 loop-again : tie.Need-loop-again Inv-loop μ-loop
-loop-again c = printing-more (c .before .before .before .before .before .loop .inv) (c .before .before .before .before .loop-test .taken) (c .before .before .put-one .ensures)
+loop-again c =
+    let put = c .before .before in
+    let inside = put .before .before in
+    printing-more (inside .before .loop .inv) (inside .loop-test .taken) (put .put-one .ensures)
 
 same-length : tie.Need-same-length Inv-loop μ-loop
 same-length c = put-length (c .before .loop .inv .printed)
