@@ -1,4 +1,4 @@
--- Byte by byte, the program is document 01's, wherever its text is cut into pieces. Assumes nothing.
+-- Byte by byte, the program is document 01's. Assumes nothing.
 use mathlib.Core.Path.{_≡_, refl, sym, ap, _∙_}
 use mathlib.Core.Bool.{Bool, true, false, cond}
 use mathlib.Core.List.{List, [], _∷_, _++_, append-assoc, append-nil}
@@ -12,7 +12,7 @@ use Rattle.calls.specs.Calls.{runs-over}
 use Rattle.calls.specs.Program.{cut-at, lines-of, line-from, decimal, runs-text, Ran, ran-line, ran-lines, program}
 use Rattle.print.specs.Written.{runs-line}
 use Rattle.text.proofs.Laws.Texts.{Without, without-none, without-more, no-line, line-grows, line-ends, line-left}
-use Rattle.program.specs.Going.{Going, at-first, unwritten, line-run, goes, goes-on, ended, listing-text}
+use Rattle.program.specs.Going.{Going, at-first, line-run, goes, goes-on, ended, listing-text}
 use Rattle.program.proofs.Laws.Pieces.{goes-newline, goes-other, ended-empty, ended-line}
 
 empty : (l : List ℕ) → length l ≡ 0 → l ≡ []
@@ -109,7 +109,7 @@ module _ (half pages : ℕ) where
       listed-behind (rest-of (at-first half pages) text)
       ∙ ap (λ (r : Ran). r .written ++ listing-text half (r .image)) (sym (runs-on text (at-first half pages) (without-none 10)))
 
-  -- ---- a text in two pieces, the second with an output of its own
+  -- ---- a text in two pieces
 
   pub goes-on-append : (xs ys : List ℕ) (g : Going) → goes-on half pages (xs ++ ys) g ≡ goes-on half pages ys (goes-on half pages xs g)
   unfolding goes-on
@@ -117,10 +117,10 @@ module _ (half pages : ℕ) where
   goes-on-append (x ∷ xs) ys g = goes-on-append xs ys (goes half pages x g)
 
   -- what was written before stays, and nothing else depends on it
-  onto : List ℕ → Going → Going
+  unfoldable pub onto : List ℕ → Going → Going
   onto ws g = record { written = ws ++ g .written; line = g .line; number = g .number; image = g .image }
 
-  line-onto : (ws : List ℕ) (g : Going) → line-run half pages (onto ws g) ≡ onto ws (line-run half pages g)
+  pub line-onto : (ws : List ℕ) (g : Going) → line-run half pages (onto ws g) ≡ onto ws (line-run half pages g)
   unfolding line-run onto
   line-onto ws g =
       let r = line-of-going g in
@@ -138,15 +138,7 @@ module _ (half pages : ℕ) where
       step true e = e
       step false e = refl
 
-  goes-on-onto : (ws text : List ℕ) (g : Going) → goes-on half pages text (onto ws g) ≡ onto ws (goes-on half pages text g)
+  pub goes-on-onto : (ws text : List ℕ) (g : Going) → goes-on half pages text (onto ws g) ≡ onto ws (goes-on half pages text g)
   unfolding goes-on
   goes-on-onto ws [] g = refl
   goes-on-onto ws (b ∷ bs) g = ap (goes-on half pages bs) (goes-onto ws b g) ∙ goes-on-onto ws bs (goes half pages b g)
-
-  pub pieces-written : (text : List ℕ) (g : Going)
-      → goes-on half pages text g .written ≡ g .written ++ goes-on half pages text (unwritten g) .written
-  unfolding unwritten onto
-  pieces-written text g =
-      ap (λ ws. goes-on half pages text (record { written = ws; line = g .line; number = g .number; image = g .image }) .written)
-      (sym (append-nil (g .written)))
-      ∙ ap (λ (h : Going). h .written) (goes-on-onto (g .written) text (unwritten g))
