@@ -2,8 +2,8 @@
  * Luwhenoka: a time index in an image of 512-byte pages that the caller lends.
  *
  * Every call may be handed any image, span, instant, value and buffer, unchecked. It returns, and what it turns back is
- * refused by a number. The archive is libluwhenoka.a (`rt staticlib luwhenoka`); it needs no other library but memset of
- * the C library, takes no memory of its own and keeps nothing between two calls.
+ * refused by a number. The archive is libluwhenoka.a (`rt staticlib luwhenoka`); it needs no other library but memset and
+ * memcpy of the C library, takes no memory of its own and keeps nothing between two calls.
  *
  * Time and value. Instants are 0 to 4,294,967,294; LUW_END is no instant. A span [s, e) has s < e <= LUW_END. A value is
  * -1,000,000 to 1,000,000. An index has a kind and a window w, both set at format. A booking on [s, e) counts from s up to

@@ -21,6 +21,7 @@ marks =
       too-small = refl;
       empty-span = refl;
       no-cut = refl;
+      whole-span = refl;
       last-in-window = refl;
       past-window = refl;
       no-withdrawal = refl;

@@ -38,6 +38,10 @@ pair sum count = record { sum = sum; count = count }
 unfoldable pub pair-of : ℕ → List ℕ → Pair
 pair-of t img = instant half t img .pair
 
+-- the number of an instant call with it: a refusal has (0, 0) too
+unfoldable pub told : ℕ → List ℕ → ℕ × Pair
+told t img = (instant half t img .number, pair-of t img)
+
 abbrev pub run : ℕ → Pair → Run
 run start p = record { start = start; pair = p }
 
@@ -74,10 +78,10 @@ pub record Marks : Type 0 where
   pub fresh : instant half 0 (formatted 64 1 0) ≡ record { number = 0; pair = none; pages = 1 }
   -- * "Enter 6 on [10, 40): instant 9 (0, 0); * 10 and 39 (6, 1); * 40 (0, 0)."
   pub enters : number entering (pos 6) 10 40 (formatted 64 1 0) ≡ 0
-  pub before : pair-of 9 one-booking ≡ none
-  pub at-start : pair-of 10 one-booking ≡ pair (pos 6) (pos 1)
-  pub at-end : pair-of 39 one-booking ≡ pair (pos 6) (pos 1)
-  pub behind : pair-of 40 one-booking ≡ none
+  pub before : told 9 one-booking ≡ (0, none)
+  pub at-start : told 10 one-booking ≡ (0, pair (pos 6) (pos 1))
+  pub at-end : told 39 one-booking ≡ (0, pair (pos 6) (pos 1))
+  pub behind : told 40 one-booking ≡ (0, none)
   -- * "Then withdraw it: one run, one leaf entry."
   pub withdraws : number withdrawing (pos 6) 10 40 one-booking ≡ 0
   pub one-run : full-listing withdrawn ≡ run 0 none ∷ []
@@ -88,9 +92,10 @@ pub record Marks : Type 0 where
   pub too-small : number entering (negsuc 1000000) 10 40 (formatted 2 1 0) ≡ 13
   pub empty-span : number entering (pos 1000001) 5 5 (formatted 2 1 0) ≡ 11
   pub no-cut : root-entries (after entering (pos 1) 0 END (formatted 2 1 0)) ≡ 1
+  pub whole-span : full-listing (after entering (pos 1) 0 END (formatted 2 1 0)) ≡ run 0 (pair (pos 1) (pos 1)) ∷ []
   -- * "Kind 2, w = 20, enter 4 on [35, 45): 64 gives (4, 1), * 65 (0, 0); withdrawing gives 22."
-  pub last-in-window : pair-of 64 greatest-booking ≡ pair (pos 4) (pos 1)
-  pub past-window : pair-of 65 greatest-booking ≡ none
+  pub last-in-window : told 64 greatest-booking ≡ (0, pair (pos 4) (pos 1))
+  pub past-window : told 65 greatest-booking ≡ (0, none)
   pub no-withdrawal : number withdrawing (pos 4) 35 45 greatest-booking ≡ 22
   -- * "Sum −1, count 8 averages −13 hundredths; * count −1 none."
   pub half-away : average 1 (pair (negsuc 0) (pos 8)) ≡ Hundredths (negsuc 12)
