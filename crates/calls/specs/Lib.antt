@@ -6,5 +6,3 @@ pub mod Lists
 pub mod Aggregate
 pub mod Demands
 pub mod Program
-pub mod Marks
-pub mod Cases

@@ -2,3 +2,4 @@ pub mod Images
 pub mod Sound
 pub mod Instant
 pub mod Listing
+pub mod Trail

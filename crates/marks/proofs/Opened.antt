@@ -17,12 +17,12 @@ use Rattle.steps.specs.Cut.{cut-leaf-entry, kept, split, settled, cut-entry, ro
 use Rattle.steps.specs.Spread.{inside, meets, start-of, took, sent, spread-entries, spread-over, spread-page, spread}
 use Rattle.steps.specs.Heal.{heals, short, neighbour, left-of, pushed, both, give, merge, lowered, shrunk, turn, heal-page, heal}
 use Rattle.steps.specs.Change.{cuts, lacks-pages, way-from, way, change, cut-names, spread-names, turned-to, heal-names, change-names}
 use Rattle.calls.specs.Changes.{withdraws, effect}
 use Rattle.calls.specs.Refusals.{first, borrowed, scratch-ok, cleared, scratch-after}
 use Rattle.calls.specs.Calls.{head, head-ok, format-number, format, book-early, book-number, changed, book, instant-number, instant, average-at, runs-over, too-short, written, listing-number, listing, audit-early, audit}
 use Rattle.calls.specs.Program.{onto-first, cut-at, without-empty-last, lines-of, all-digits, number-read, number-from, instant-read, value-read, value-from, line-with, signed-line, line-from, decimal-in, decimal, integer, two-decimals, average-text, refused-text, unread-text, run-text, runs-text, ran-line, ran-lines, program}
-use Rattle.calls.specs.Marks.{formatted, number, after, pair-of, told, full-listing, root-entries, one-booking, withdrawn, greatest-booking, in-a-row, example}
-use Rattle.calls.specs.Cases.{with-byte, step, small, grown-root, shrunk-again, again, hurt-leaf, hurt-root, split-below, given-left, given-right, joined-right}
+use Rattle.marks.specs.Marks.{formatted, number, after, pair-of, told, full-listing, root-entries, one-booking, withdrawn, greatest-booking, in-a-row, example}
+use Rattle.marks.specs.Cases.{with-byte, step, small, grown-root, shrunk-again, again, hurt-leaf, hurt-root, split-below, given-left, given-right, joined-right}
 
 -- To name this on an `unfolding` line is to open them all.
 unfoldable pub all-definitions : ℕ

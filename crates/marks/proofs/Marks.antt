@@ -1,7 +1,7 @@
 -- The cases of document 01's test rack hold: each is computed, on images of 2 to 64 pages. Assumes nothing.
 use mathlib.Core.Path.{refl}
-use Rattle.calls.specs.Marks.{Marks}
-use Rattle.calls.proofs.Opened.{all-definitions}
+use Rattle.marks.specs.Marks.{Marks}
+use Rattle.marks.proofs.Opened.{all-definitions}
 
 pub marks : Marks
 unfolding all-definitions

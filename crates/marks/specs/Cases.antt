@@ -12,10 +12,10 @@ use Rattle.fields.specs.Numbers.{u32-bytes, i64-bytes}
 use Rattle.page.specs.Entries.{entry}
 use Rattle.page.specs.Layout.{entries-of}
 use Rattle.image.specs.Images.{page-at}
 use Rattle.calls.specs.Changes.{Side, entering, withdrawing}
 use Rattle.calls.specs.Calls.{head, format, book, instant, listing, audit, runs-over}
 use Rattle.calls.specs.Program.{program}
-use Rattle.calls.specs.Marks.{half, pair, run, formatted, number, after, pair-of, full-listing, one-booking}
+use Rattle.marks.specs.Marks.{half, pair, run, formatted, number, after, pair-of, full-listing, one-booking}
 
 -- s with byte b at place o
 unfoldable pub with-byte : ℕ → ℕ → List ℕ → List ℕ

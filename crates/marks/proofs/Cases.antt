@@ -1,7 +1,7 @@
 -- The further cases hold: each is computed. Assumes nothing.
 use mathlib.Core.Path.{refl}
-use Rattle.calls.specs.Cases.{Cases}
-use Rattle.calls.proofs.Opened.{all-definitions}
+use Rattle.marks.specs.Cases.{Cases}
+use Rattle.marks.proofs.Opened.{all-definitions}
 
 pub cases : Cases
 unfolding all-definitions
