@@ -21,7 +21,7 @@ use Rattle.image.specs.Images.{page-at, pages-in, length-ok}
 use Rattle.image.specs.Listing.{Run, run-bytes, walk-over}
 use Rattle.image.specs.Sound.{sound}
 use Rattle.calls.specs.Calls.{Listed, head, format, book, runs-over, written, listing}
-use Rattle.calls.proofs.Opened.{all-definitions}
+use Rattle.marks.proofs.Opened.{all-definitions}
 use Rattle.calls.specs.Book.{Book, empty-book}
 use Rattle.calls.specs.Program.{Line, booking, unread, ran-line, runs-text, program}
 use Rattle.print.specs.Written.{runs-line}
