@@ -1,0 +1,48 @@
+#!/usr/bin/env bash
+# Every name that docs/CLAIMS.md gives behind a file (`crate/specs/File` `name`, `other`) stands in that file, every edit behind
+# `crate/must-fail` is there, and every path of tests/ exists. Prints what is missing, then how many were looked up; fails if one is
+# missing or if there were fewer than asked for.
+set -u
+cd "$(dirname "$0")/../.." || exit 1
+least=${1:-400}
+missing=0
+looked=0
+
+lost() { missing=$((missing + 1)); printf 'claims: %s\n' "$1"; }
+
+# One line for each name: its file and the name; "-" for a file or path by itself.
+names() {
+    awk '{
+        line = $0
+        while (match(line, /`[^`]+`/)) {
+            token = substr(line, RSTART + 1, RLENGTH - 2)
+            between = substr(line, 1, RSTART - 1)
+            line = substr(line, RSTART + RLENGTH)
+            if (token ~ /^crate\//) file = ""
+            else if (token ~ /^[a-z_]+\/(specs|src|proofs|must-fail)(\/[A-Za-z_\/]+)?$/) { file = token; print file, "-" }
+            else if (token ~ /^tests\//) { file = ""; print token, "-" }
+            else if (file != "" && between ~ /^(,? |, | and | to )$/) print file, token
+            else file = ""
+        }
+        file = ""
+    }' docs/CLAIMS.md
+}
+
+while read -r file name; do
+    looked=$((looked + 1))
+    case $file in
+    tests/*) [ -e "$file" ] || lost "no $file" ;;
+    */must-fail) [ "$name" = - ] || [ -f "crates/$file/$name.edit" ] || lost "no edit $name in $file" ;;
+    *)
+        path=crates/$file.antt
+        [ -f "$path" ] || path=crates/$file.rt
+        if [ ! -f "$path" ]; then
+            lost "no file $file"
+        elif [ "$name" != - ] && ! grep -qE "(^|[^A-Za-z0-9_′-])$name([^A-Za-z0-9_′-]|\$)" "$path"; then
+            lost "no $name in $file"
+        fi
+        ;;
+    esac
+done < <(names)
+printf 'claims: %s names and files looked up, %s missing\n' "$looked" "$missing"
+[ "$missing" -eq 0 ] && [ "$looked" -ge "$least" ]
