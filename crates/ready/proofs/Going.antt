@@ -205,10 +205,10 @@ module _ {half : ℕ} (two : 2 ≤ half) (s e : ℕ) (p : Pair) {X : Image} {Y :
   once-C = once-after step-C once-B
 
   step-D : Stepped XC XD YC YD (heal-names half rule s XC)
-  step-D = heal-is half rule s XC YC (step-C .shown) once-C (formed-full half Leaf two YC formed-C)
+  step-D = heal-is half rule s XC YC (step-C .shown) once-C (formed-full half Leaf two YC formed-C) formed-C
 
   step-E : Stepped XD XE YD YE (heal-names half rule e XD)
-  step-E = heal-is half rule e XD YD (step-D .shown) (once-after step-D once-C) (formed-full half Leaf two YD formed-D)
+  step-E = heal-is half rule e XD YD (step-D .shown) (once-after step-D once-C) (formed-full half Leaf two YD formed-D) formed-D
 
   -- the high mark rises by what the cuts take, and 24 doesn't turn that back
   marks : (YA .supply .mark ≤ X .head .pages) × (YB .supply .mark ≤ X .head .pages)

@@ -6,6 +6,7 @@ use mathlib.Core.List.{List, [], _∷_}
 use lib.IntN.{ℤ, pos, negsuc}
 use Rattle.rule.specs.declared.Pair.{Pair}
 use Rattle.rule.specs.Pairs.{none, entry-effect, opposite, combine}
+use Rattle.rule.specs.Time.{END}
 use Rattle.page.specs.Entries.{entry}
 use Rattle.image.specs.Images.{Image, free, fresh}
 use Rattle.steps.specs.Supply.{entries}
@@ -20,6 +21,13 @@ enter v s e X = change 2 (combine 1) s e (entry-effect v) X
 
 unfoldable pub withdraw : ℤ → ℕ → ℕ → Image → Image
 withdraw v s e X = change 2 (combine 1) s e (opposite (entry-effect v)) X
+
+-- the pages that the five steps of either name
+unfoldable pub enter-names : ℤ → ℕ → ℕ → Image → List ℕ
+enter-names v s e X = change-names 2 (combine 1) s e (entry-effect v) X
+
+unfoldable pub withdraw-names : ℤ → ℕ → ℕ → Image → List ℕ
+withdraw-names v s e X = change-names 2 (combine 1) s e (opposite (entry-effect v)) X
 
 -- one booking, which leaves three entries; a second one, which splits the leaf; and the second withdrawn
 unfoldable pub one : ℕ → Image
@@ -44,9 +52,35 @@ given-left =
     (enter (pos 2) 3 12 (fresh 6 1 0))))))
 
 -- two pages join
+unfoldable pub before-join : Image
+before-join = enter (pos 2) 9 20 (enter (pos 1) 7 12 (enter (pos 2) 6 14 (enter (pos 1) 7 10 (fresh 6 1 0))))
+
 unfoldable pub joined : Image
-joined =
-    withdraw (pos 2) 6 14 (enter (pos 2) 9 20 (enter (pos 1) 7 12 (enter (pos 2) 6 14 (enter (pos 1) 7 10 (fresh 6 1 0)))))
+joined = withdraw (pos 2) 6 14 before-join
+
+-- a leaf that the next cut splits; two leaves, the second of which starts at the end of the first booking
+unfoldable pub four-entries : Image
+four-entries = enter (pos 1) 0 7 (enter (pos 1) 4 5 (fresh 4 1 0))
+
+unfoldable pub end-apart : Image
+end-apart = enter (pos 1) 5 8 (enter (pos 1) 2 4 (fresh 4 1 0))
+
+-- Pages that will turn to a neighbour that no way leads to: page 2, between pages 1 and 4, to page 1, which can give or not; page 1,
+-- the first, to page 4, which can give.
+unfoldable pub giver-left : Image
+giver-left = enter (pos 1) 10 11 (enter (pos 1) 23 24 (enter (pos 1) 17 19 (enter (pos 1) 9 20 (fresh 6 1 0))))
+
+unfoldable pub no-giver : Image
+no-giver = enter (pos 1) 18 23 (enter (pos 1) 12 19 (enter (pos 1) 5 13 (fresh 6 1 0)))
+
+unfoldable pub giver-right : Image
+giver-right = enter (pos 1) 7 12 (enter (pos 1) 14 16 (enter (pos 1) 23 25 (enter (pos 1) 24 28 (fresh 6 1 0))))
+
+-- three levels: page 2 will join page 1, and then their parent, page 3, turns to page 7
+unfoldable pub three-levels : Image
+three-levels =
+    enter (pos 1) 13 17 (enter (pos 1) 12 15 (enter (pos 1) 11 END (enter (pos 1) 16 24 (enter (pos 1) 8 9
+    (enter (pos 1) 20 23 (fresh 9 1 0))))))
 
 pub record Cases : Type 0 where
   -- A. and B.: the leaf that has 20 keeps two entries, a taken page gets three, and a new root leads to both.
@@ -80,7 +114,57 @@ pub record Cases : Type 0 where
   pub zero-counts :
       entries (enter (pos 0) 10 40 (fresh 2 1 0)) 1
       ≡ entry 0 none 0 ∷ entry 10 (pair (pos 0) (pos 1)) 0 ∷ entry 40 none 0 ∷ []
-  -- The pages that the second booking's steps name: the head, the leaf on the way of each step, the two taken, the new root.
-  pub named :
-      change-names 2 (combine 1) 20 25 (entry-effect (pos 1)) (one 4)
-      ≡ 0 ∷ 1 ∷ 1 ∷ 2 ∷ 3 ∷ 3 ∷ 2 ∷ 3 ∷ 2 ∷ 3 ∷ 2 ∷ 3 ∷ 2 ∷ []
+  -- The pages that the steps name: the head, then those of A, of B, of C's two ways, of D and of E, in this order.
+  -- The second booking: the leaf on each way; B takes two pages, of which the second is the new root.
+  pub names-taken : enter-names (pos 1) 20 25 (one 4) ≡ 0 ∷ 1 ∷ 1 ∷ 2 ∷ 3 ∷ 3 ∷ 2 ∷ 3 ∷ 2 ∷ 3 ∷ 2 ∷ 3 ∷ 2 ∷ []
+  -- The same once both are in the chain, from its front.
+  pub names-chain : enter-names (pos 1) 20 25 shrunk ≡ 0 ∷ 1 ∷ 1 ∷ 3 ∷ 2 ∷ 2 ∷ 3 ∷ 2 ∷ 3 ∷ 2 ∷ 3 ∷ 2 ∷ 3 ∷ []
+  -- Each way is taken in the image as the step finds it. A splits the leaf, and B finds the new root; D takes the entry that has e′
+  -- over from page 2 to page 1, where E finds it.
+  pub names-split-first :
+      enter-names (pos 1) 12 20 four-entries ≡ 0 ∷ 1 ∷ 2 ∷ 3 ∷ 3 ∷ 2 ∷ 3 ∷ 2 ∷ 3 ∷ 2 ∷ 3 ∷ 2 ∷ 3 ∷ 2 ∷ []
+  pub names-moved-end :
+      withdraw-names (pos 1) 2 4 end-apart ≡ 0 ∷ 3 ∷ 1 ∷ 3 ∷ 2 ∷ 3 ∷ 1 ∷ 3 ∷ 2 ∷ 3 ∷ 1 ∷ 2 ∷ 3 ∷ 1 ∷ 2 ∷ []
+  -- A left neighbour gives, in E: page 1, and page 4 on the right is not named.
+  pub names-given-left :
+      withdraw-names (pos 1) 17 19 giver-left
+      ≡ 0 ∷ 3 ∷ 2 ∷ 3 ∷ 2 ∷ 3 ∷ 2 ∷ 3 ∷ 2 ∷ 3 ∷ 2 ∷ 3 ∷ 2 ∷ 1 ∷ []
+  pub given-left-before :
+      entries giver-left 1
+      ≡ entry 0 none 0
+      ∷ entry 9 (pair (pos 1) (pos 1)) 0
+      ∷ entry 10 (pair (pos 2) (pos 2)) 0
+      ∷ entry 11 (pair (pos 1) (pos 1)) 0
+      ∷ []
+  pub given-left-after :
+      entries (withdraw (pos 1) 17 19 giver-left) 1
+      ≡ entry 0 none 0 ∷ entry 9 (pair (pos 1) (pos 1)) 0 ∷ entry 10 (pair (pos 2) (pos 2)) 0 ∷ []
+  -- A right neighbour gives, in E: page 4.
+  pub names-given-right :
+      withdraw-names (pos 1) 7 12 giver-right
+      ≡ 0 ∷ 3 ∷ 1 ∷ 3 ∷ 1 ∷ 3 ∷ 1 ∷ 3 ∷ 1 ∷ 3 ∷ 1 ∷ 3 ∷ 1 ∷ 4 ∷ []
+  pub given-right-before :
+      entries giver-right 4
+      ≡ entry 14 (pair (pos 1) (pos 1)) 0 ∷ entry 16 none 0 ∷ entry 23 (pair (pos 1) (pos 1)) 0 ∷ []
+  pub given-right-after :
+      entries (withdraw (pos 1) 7 12 giver-right) 4 ≡ entry 16 none 0 ∷ entry 23 (pair (pos 1) (pos 1)) 0 ∷ []
+  -- A page joins its right neighbour, in D: page 2, which is given back.
+  pub names-joined-right :
+      withdraw-names (pos 2) 6 14 before-join
+      ≡ 0 ∷ 3 ∷ 1 ∷ 3 ∷ 4 ∷ 3 ∷ 1 ∷ 3 ∷ 4 ∷ 3 ∷ 1 ∷ 2 ∷ 3 ∷ 4 ∷ []
+  -- A page joins its left neighbour, in D: page 1. END is no instant: page 4, the last one, is not named.
+  pub names-joined-left : enter-names (pos 1) 13 END no-giver ≡ 0 ∷ 3 ∷ 2 ∷ 3 ∷ 2 ∷ 3 ∷ 2 ∷ 1 ∷ []
+  pub joined-left-after :
+      entries (enter (pos 1) 13 END no-giver) 1
+      ≡ entry 0 none 0 ∷ entry 5 (pair (pos 1) (pos 1)) 0 ∷ entry 12 (pair (pos 2) (pos 2)) 0 ∷ []
+  -- The parent turns too, to page 7, and gets an entry of it.
+  pub names-both-levels :
+      withdraw-names (pos 1) 11 END three-levels ≡ 0 ∷ 8 ∷ 3 ∷ 2 ∷ 8 ∷ 3 ∷ 2 ∷ 8 ∷ 3 ∷ 2 ∷ 1 ∷ 7 ∷ []
+  pub both-levels-after :
+      entries (withdraw (pos 1) 11 END three-levels) 3
+      ≡ entry 0 none 1 ∷ entry 12 (pair (negsuc 0) (negsuc 0)) 5 ∷ []
+  -- The root goes, page 3, in E: its child, page 1, is the neighbour.
+  pub names-lowered :
+      withdraw-names (pos 1) 20 25 grown ≡ 0 ∷ 3 ∷ 2 ∷ 3 ∷ 2 ∷ 3 ∷ 2 ∷ 3 ∷ 2 ∷ 3 ∷ 2 ∷ 3 ∷ 2 ∷ 1 ∷ []
+  -- An effect up to END: B, C's right end and E name no page.
+  pub names-to-end : enter-names (pos 1) 5 END grown ≡ 0 ∷ 3 ∷ 1 ∷ 3 ∷ 1 ∷ 3 ∷ 1 ∷ []

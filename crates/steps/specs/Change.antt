@@ -2,8 +2,9 @@
 use Prim.Native.Nat.{ℕ, zero, suc, _+_, _-_}
 use mathlib.Core.Bool.{Bool, cond}
 use mathlib.Core.List.{List, [], _∷_, _++_}
-use lib.Dec.{ltb}
+use lib.Dec.{leb, ltb}
 use Rattle.rule.specs.declared.Pair.{Pair}
+use Rattle.rule.specs.Time.{END}
 use Rattle.page.specs.declared.Entry.{Entry}
 use Rattle.page.specs.Entries.{at, place}
 use Rattle.image.specs.Images.{Image}
@@ -27,8 +28,9 @@ unfoldable pub way-from : ℕ → ℕ → ℕ → Image → List ℕ
 way-from t zero p X = p ∷ []
 way-from t (suc l) p X = p ∷ way-from t l (at (entries X p) (place t (entries X p)) .child) X
 
+-- "END is no instant": no page is on the way to it.
 unfoldable pub way : ℕ → Image → List ℕ
-way t X = way-from t (X .head .height - 1) (X .head .root) X
+way t X = cond (leb END t) [] (way-from t (X .head .height - 1) (X .head .root) X)
 
 module _ (half : ℕ) (_⊕_ : Pair → Pair → Pair) where
   -- "C. Combine the effect into [s, e′). D. Heal at s. E. Heal at e′. Then changes rises by 1."
@@ -53,8 +55,9 @@ module _ (half : ℕ) (_⊕_ : Pair → Pair → Pair) where
       let n = at (entries X p) (neighbour i) .child in
       turned-to t l q X ++ cond (short half q (heal-page half _⊕_ t l q X)) (n ∷ []) []
 
+  -- no page is on the way to END, so none turns
   unfoldable pub heal-names : ℕ → Image → List ℕ
-  heal-names t X = way t X ++ turned-to t (X .head .height - 1) (X .head .root) X
+  heal-names t X = way t X ++ cond (leb END t) [] (turned-to t (X .head .height - 1) (X .head .root) X)
 
   -- the head, and what each of the five names in the image as it finds it
   unfoldable pub change-names : ℕ → ℕ → Pair → Image → List ℕ

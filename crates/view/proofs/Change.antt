@@ -84,9 +84,9 @@ module _ (half : ℕ) (_⊕_ : Pair → Pair → Pair) where
         let once-b = once-after b once-a in
         let c = spread-is half _⊕_ s e effect B (after-B half _⊕_ s e effect Y) (b .shown) once-b (pass .full-B) (pass .gapless-B) in
         let once-c = once-after c once-b in
-        let d = heal-is half _⊕_ s C (after-C half _⊕_ s e effect Y) (c .shown) once-c (pass .full-C) in
+        let d = heal-is half _⊕_ s C (after-C half _⊕_ s e effect Y) (c .shown) once-c (pass .full-C) (pass .formed-C) in
         let once-d = once-after d once-c in
-        then a (then b (then c (then d (heal-is half _⊕_ e D (after-D half _⊕_ s e effect Y) (d .shown) once-d (pass .full-D)))))
+        then a (then b (then c (then d (heal-is half _⊕_ e D (after-D half _⊕_ s e effect Y) (d .shown) once-d (pass .full-D) (pass .formed-D)))))
 
     pub change-is : Changed s e effect X Y
     unfolding change cuts change-names counted

@@ -1,13 +1,13 @@
 -- A cut does to the tree and the supply that an image shows what it does to trees, and writes the way and the pages it takes.
 -- Assumes nothing.
-use Prim.Native.Nat.{ℕ, zero, suc, _+_, _≤_}
+use Prim.Native.Nat.{ℕ, zero, suc, _+_, _≤_, _<_}
 use mathlib.Core.Path.{_≡_, refl, sym, ap, _∙_, subst}
 use mathlib.Core.Bool.{true, cond}
 use mathlib.Core.List.{List, [], _∷_, _++_}
 use native.Mathlib.Omega.{arith}
 use lib.Dec.{eqb, leb}
 use lib.ListN.{length, take, drop, length-map}
-use borrow.Author.Tests.{eqb-true, eq-eqb, ne-eqb}
+use borrow.Author.Tests.{eqb-true, eq-eqb, ne-eqb, leb-true, leb-false}
 use Rattle.rule.specs.declared.Pair.{Pair}
 use Rattle.rule.specs.Pairs.{none}
 use Rattle.rule.specs.Time.{END}
@@ -30,7 +30,7 @@ use Rattle.view.proofs.Moves.{leaves-shown, Frame, put-else, rooted-sup
 use Rattle.view.proofs.Taking.{firsts, later, firsts-none, firsts-more, later-more, later-held, later-add, firsts-add, spares-are, taken-is}
 use Rattle.view.proofs.Settle.{Grew, settles}
 use Rattle.view.proofs.Stepped.{state, Steady, Stepped, steady-of, steady-then, held-is, once-is}
-use Rattle.view.proofs.Ways.{way-held, kids-shown, bare-same, there, way-top, entries-are, at-bare, has-place, stocked-on, shows-on, way-in, way-below}
+use Rattle.view.proofs.Ways.{way-held, kids-shown, bare-same, there, way-top, way-past, entries-are, at-bare, has-place, stocked-on, shows-on, way-in, way-below}
 
 -- ---- one level up
 
@@ -239,7 +239,7 @@ raised-steady es Z =
     let s : Steady (Z .head) (taken Z .head) = steady-of (taken-lasting Z) in
     record { pages = s .pages; kind = s .kind; window = s .window; changes = s .changes }
 
-module _ (half t : ℕ) (X : Image) (Y : State) (sh : Shown X Y) (once : Once Y) (stock : Full Y) where
+module _ (half t : ℕ) (X : Image) (Y : State) (sh : Shown X Y) (once : Once Y) (stock : Full Y) (instant : t < END) where
   abbrev l : ℕ
   l = Y .tree .level
 
@@ -254,7 +254,7 @@ module _ (half t : ℕ) (X : Image) (Y : State) (sh : Shown X Y) (once : Once Y)
   finish X′ Y′ k a b c f d =
       let n : pages-taken X X′ ≡ k = taken-is k (sh .supplied) (subst (λ R. Supplied X′ R) b (a .supplied)) in
       let w : (q : ℕ) → times q (way t X ++ spares (pages-taken X X′) X) ≡ times q (way-in t (suc l) x₀) + times q (firsts k (Y .supply)) =
-      λ q. rw (n, spares-are k (sh .supplied), way-top t X Y sh stock) (times-append q (way-in t (suc l) x₀) (firsts k (Y .supply))) in
+      λ q. rw (n, spares-are k (sh .supplied), way-top t X Y sh stock instant) (times-append q (way-in t (suc l) x₀) (firsts k (Y .supply))) in
       record {
         shown = a;
         same-held = c;
@@ -325,10 +325,10 @@ pub cut-is : (half : ℕ) (_⊕_ : Pair → Pair → Pair) (t : ℕ) (X : Image)
 unfolding cut-x cut cut-names root-entry root-ent later Full
 cut-is half _⊕_ t X Y sh once stock =
     cond-both (λ X′ Y′. Stepped X X′ Y Y′ (way t X ++ spares (pages-taken X X′) X)) (leb END t) (leb END t) refl
-    (λ e. finish half t X Y sh once stock X Y 0 sh refl (λ q. refl) (λ q h. refl) (steady-of refl))
+    (λ e. still (leb-true END t e))
     (λ e.
     rw same
-    (grows half t X Y sh once stock (r′ .became) (r′ .supply) (cut-entry half t (suc l) (root-ent (Y .tree) .entry) X)
+    (grows half t X Y sh once stock (leb-false END t e) (r′ .became) (r′ .supply) (cut-entry half t (suc l) (root-ent (Y .tree) .entry) X)
     (cut-ent-is half t (suc l) (root-ent (Y .tree)) X (Y .supply) (sh .below) stock (sh .supplied) (λ q. omega (arith, held-is q Y, once-is Y once q)))))
   where
     l : ℕ
@@ -336,6 +336,17 @@ cut-is half _⊕_ t X Y sh once stock =
 
     r′ : Cutting (Kid (suc l))
     r′ = cut-ent half t (suc l) (root-ent (Y .tree)) (Y .supply)
+
+    -- END: no page is taken, none is on a way
+    still : END ≤ t → Stepped X X Y Y (way t X ++ spares (pages-taken X X) X)
+    still h =
+        record {
+          shown = sh;
+          same-held = λ q. refl;
+          frame = λ q h. refl;
+          inside = λ q z. rw (way-past t X h, taken-is 0 (sh .supplied) (sh .supplied), spares-are 0 (sh .supplied)) (firsts-none q (Y .supply));
+          steady = steady-of refl;
+        }
 
     same : cut-entry half t (X .head .height) (entry 0 none (X .head .root)) X ≡ cut-entry half t (suc l) (entry 0 none (Y .tree .root)) X
     same =

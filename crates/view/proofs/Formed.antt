@@ -6,6 +6,7 @@ use Rattle.rule.specs.declared.Pair.{Pair}
 use Rattle.tree.specs.Tree.{Ent, Kid}
 use Rattle.tree.specs.Cut.{State, root-ent}
 use Rattle.tree.specs.Shape.{Seg, done, more, Shaped, root-least, Formed}
+use Rattle.tree.proofs.Shapes.{formed-map}
 use Rattle.tree.specs.Held.{All, all-none, all-more}
 use Rattle.view.specs.View.{Stocked, Full, Ordered, Gapless}
 use Rattle.view.specs.Change.{after-A, after-B, after-C, after-D, Passable}
@@ -66,5 +67,7 @@ formed-passable {P} {Q} {R} {S} {T} half two _⊕_ s e effect Y f a b c d =
       full-B = formed-full half R two (after-B half _⊕_ s e effect Y) b;
       gapless-B = formed-gapless half R (after-B half _⊕_ s e effect Y) b;
       full-C = formed-full half S two (after-C half _⊕_ s e effect Y) c;
+      formed-C = formed-map (λ lo hi x q. tt) c;
       full-D = formed-full half T two (after-D half _⊕_ s e effect Y) d;
+      formed-D = formed-map (λ lo hi x q. tt) d;
     }

@@ -5,9 +5,11 @@ use mathlib.Core.Path.{_≡_, refl, sym, ap, _∙_, subst}
 use mathlib.Core.Bool.{Bool, true, false, cond}
 use mathlib.Core.List.{List, [], _∷_, _++_}
 use native.Mathlib.Omega.{arith}
-use lib.Dec.{ltb}
+use lib.Dec.{leb, ltb}
 use lib.ListN.{length, take, drop, length-map}
+use borrow.Author.Tests.{leb-true}
 use Rattle.rule.specs.declared.Pair.{Pair}
+use Rattle.rule.specs.Time.{END}
 use Rattle.page.specs.declared.Entry.{Entry}
 use Rattle.page.specs.declared.Head.{Head}
 use Rattle.page.specs.Entries.{entry, at, place, splice}
@@ -15,20 +17,21 @@ use Rattle.image.specs.Images.{Image, tree}
 use Rattle.image.specs.Sound.{times}
 use Rattle.steps.specs.Supply.{put, with-supply}
 use Rattle.steps.specs.Heal.{heals, short, neighbour, left-of, shrunk as shrunk-x, turn as turn-x, heal-page, heal as heal-x}
-use Rattle.steps.specs.Change.{way, turned-to, heal-names}
+use Rattle.steps.specs.Change.{way-from, way, turned-to, heal-names}
 use Rattle.steps.proofs.Supply.{put-head}
 use Rattle.tree.specs.Tree.{Ent, Kid, Ents, bare, pages-under}
 use Rattle.tree.specs.Supply.{Supply}
 use Rattle.tree.specs.Cut.{State, root-ent}
-use Rattle.tree.specs.Shape.{root-least}
+use Rattle.tree.specs.Shape.{Asked, root-least, Formed}
 use Rattle.tree.specs.Heal.{Healing, turn, heal-ents, shrunk, heal}
 use Rattle.tree.specs.Held.{times-below, times-spare, all-none, all-more, held}
 use Rattle.view.specs.View.{Shows, Supplied, Shown, Once, Stocked, Full}
 use Rattle.view.proofs.Lists.{below-leaf, ent-at, cond-both, cond-one, map-splice, hit, hit-self, times-cons, times-none, times-append, under-suc, below-one, below-at, below-two, below-splice}
 use Rattle.view.proofs.Moves.{leaves-shown, put-else, put-shows, splice-shown, lasting, put-supplied}
-use Rattle.view.proofs.Ways.{bare-same, from-root, entries-are, at-bare, there, has-place, stocked-on, shows-on, way-in, way-top}
+use Rattle.view.proofs.Ways.{bare-same, from-root, entries-are, at-bare, there, has-place, stocked-on, shows-on, way-in, way-down}
 use Rattle.view.proofs.Stepped.{state, Stepped, steady-of, steady-then, held-is, once-is}
 use Rattle.view.proofs.Shrink.{Shrunk, shrinks}
+use Rattle.view.proofs.Past.{heal-past}
 use Rattle.view.proofs.Turn.{Healed, weighed, neighbours, left-in, turns}
 
 -- every inner page has two entries
@@ -281,10 +284,15 @@ module _ (half : ℕ) (_⊕_ : Pair → Pair → Pair) (t : ℕ) where
 
 -- ---- from the root
 
-pub heal-is : (half : ℕ) (_⊕_ : Pair → Pair → Pair) (t : ℕ) (X : Image) (Y : State) → Shown X Y → Once Y → Full Y
-    → Stepped X (heal-x half _⊕_ t X) Y (heal half _⊕_ t Y) (heal-names half _⊕_ t X)
-unfolding heal-x heal heal-names root-ent lasting with-supply Full
-heal-is half _⊕_ t X Y sh once stock =
+-- on the way down, for END too
+abbrev down : (half : ℕ) (_⊕_ : Pair → Pair → Pair) (t : ℕ) (X : Image) → List ℕ
+down half _⊕_ t X =
+    way-from t (X .head .height - 1) (X .head .root) X ++ turned-to half _⊕_ t (X .head .height - 1) (X .head .root) X
+
+heal-down : (half : ℕ) (_⊕_ : Pair → Pair → Pair) (t : ℕ) (X : Image) (Y : State) → Shown X Y → Once Y → Full Y
+    → Stepped X (heal-x half _⊕_ t X) Y (heal half _⊕_ t Y) (down half _⊕_ t X)
+unfolding heal-x heal root-ent lasting with-supply Full
+heal-down half _⊕_ t X Y sh once stock =
     let l = Y .tree .level in
     let x = root-ent (Y .tree) in
     let Z = heal-page half _⊕_ t l (Y .tree .root) X in
@@ -302,9 +310,11 @@ heal-is half _⊕_ t X Y sh once stock =
     (λ q. omega (arith, held-is q Y′, same q, once-is Y once q))
     (λ q. may-here half _⊕_ t q l x X)
     (g .only) in
-    let names : (q : ℕ) → times q (way t X ++ turned-to half _⊕_ t (X .head .height - 1) (X .head .root) X) ≡ may half _⊕_ t l x X q =
-    λ q. times-append q (way t X) (turned-to half _⊕_ t (X .head .height - 1) (X .head .root) X)
-    ∙ ap (λ (ps : List ℕ). times q ps + times q (turned-to half _⊕_ t (X .head .height - 1) (X .head .root) X)) (way-top t X Y sh stock)
+    let W = way-from t (X .head .height - 1) (X .head .root) X in
+    let N = turned-to half _⊕_ t (X .head .height - 1) (X .head .root) X in
+    let names : (q : ℕ) → times q (W ++ N) ≡ may half _⊕_ t l x X q =
+    λ q. times-append q W N
+    ∙ ap (λ (ps : List ℕ). times q ps + times q N) (way-down t X Y sh stock)
     ∙ from-root sh (λ n p. times q (way-in t (suc l) x) + times q (turned-to half _⊕_ t n p X)) in
     rw (from-root sh (λ n p. heal-page half _⊕_ t n p X))
     (record {
@@ -314,3 +324,30 @@ heal-is half _⊕_ t X Y sh once stock =
       inside = λ q z. omega (arith, names q, may-within half _⊕_ t q l x X (sh .below) stock, held-is q Y);
       steady = steady-then (steady-of (g .head)) (m .steady);
     })
+
+-- END is on no way: the image stays as it is.
+pub heal-is : {B : Asked (Kid 0)} (half : ℕ) (_⊕_ : Pair → Pair → Pair) (t : ℕ) (X : Image) (Y : State) → Shown X Y → Once Y → Full Y
+    → Formed half B (Y .tree)
+    → Stepped X (heal-x half _⊕_ t X) Y (heal half _⊕_ t Y) (heal-names half _⊕_ t X)
+unfolding way heal-names
+heal-is half _⊕_ t X Y sh once stock formed = go (leb END t) refl
+  where
+    d : Stepped X (heal-x half _⊕_ t X) Y (heal half _⊕_ t Y) (down half _⊕_ t X)
+    d = heal-down half _⊕_ t X Y sh once stock
+
+    W : List ℕ
+    W = way-from t (X .head .height - 1) (X .head .root) X
+
+    N : List ℕ
+    N = turned-to half _⊕_ t (X .head .height - 1) (X .head .root) X
+
+    go : (b : Bool) → leb END t ≡ b → Stepped X (heal-x half _⊕_ t X) Y (heal half _⊕_ t Y) (cond b [] W ++ cond b [] N)
+    go false e = d
+    go true e =
+        record {
+          shown = d .shown;
+          same-held = d .same-held;
+          frame = λ q h. ap (λ (Z : Image). Z .page q) (heal-past half _⊕_ t X Y sh stock formed (leb-true END t e));
+          inside = λ q h. times-none q;
+          steady = d .steady;
+        }

@@ -9,6 +9,7 @@ pub mod Spread
 pub mod Order
 pub mod Turn
 pub mod Shrink
+pub mod Past
 pub mod Heal
 pub mod Change
 pub mod Formed

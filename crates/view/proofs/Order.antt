@@ -12,19 +12,20 @@ use Rattle.rule.specs.declared.Pair.{Pair}
 use Rattle.rule.specs.Time.{END}
 use Rattle.page.specs.declared.Entry.{Entry}
 use Rattle.page.specs.Entries.{last-from, place}
-use Rattle.image.specs.Images.{Image}
+use Rattle.image.specs.Images.{Image, tree}
 use Rattle.image.specs.Sound.{times}
-use Rattle.steps.specs.Spread.{inside, meets, start-of, spread as spread-x}
+use Rattle.steps.specs.Spread.{inside, meets, start-of, took, spread as spread-x}
 use Rattle.steps.specs.Change.{way, spread-names}
 use Rattle.tree.specs.Tree.{Ent, Kid, Ents, bare}
 use Rattle.tree.specs.Shape.{Seg, done, more}
 use Rattle.tree.specs.Cut.{State, root-ent}
-use Rattle.tree.specs.Spread.{spread}
-use Rattle.view.specs.View.{Shown, Once, Ordered, Full, Gapless}
-use Rattle.view.proofs.Lists.{ent-at, cond-one, hit, times-cons, times-none, times-append}
-use Rattle.view.proofs.Ways.{way-held, there, way-in, way-top}
+use Rattle.tree.specs.Spread.{with-ends, spread-ent, spread}
+use Rattle.tree.proofs.Seg.{le-or-lt}
+use Rattle.view.specs.View.{Shows, Shown, Once, Ordered, Full, Gapless}
+use Rattle.view.proofs.Lists.{ent-at, cond-one, hit, hit-is, times-cons, times-none, times-append}
+use Rattle.view.proofs.Ways.{there, way-in, way-top, way-within}
 use Rattle.view.proofs.Stepped.{held-is, Stepped, steady-of-same}
-use Rattle.view.proofs.Spread.{over-ends, sent-in, sent-below, spread-root, spread-shown, spread-held}
+use Rattle.view.proofs.Spread.{over-ends, sent-in, sent-below, entry-same, new, spread-root, spread-shown, spread-held}
 
 -- ---- the entry that has t
 
@@ -153,30 +154,69 @@ module _ (s e q : ℕ) where
 
 -- ---- from the root
 
+module _ (_⊕_ : Pair → Pair → Pair) (s e : ℕ) (effect : Pair) where
+  -- an effect from hi on, or later, alters no entry
+  new-same : (l : ℕ) {Q : ℕ → ℕ → Ent (Kid l) → Type 0} {lo hi : ℕ} {es : Ents l} → Seg Q lo hi es → hi ≤ s → bare (new _⊕_ s e effect l hi es) ≡ bare es
+  unfolding with-ends took inside
+  new-same l done h = refl
+  new-same l (more {lo} {mid} {hi} {x} {es} st k q r) h =
+      let n : mid ≤ hi = seg-le r in
+      let end = start-of hi (bare es) in
+      let same : spread-ent _⊕_ s e effect l end x .entry ≡ x .entry =
+      entry-same _⊕_ s e effect l end x ∙ rw (lt-leb s (x .entry .start) (omega arith)) in
+      ap (λ (y : Entry). y ∷ bare (new _⊕_ s e effect l hi es)) same
+      ∙ ap (λ (ys : List Entry). x .entry ∷ ys) (new-same l r h)
+
+  module _ (X : Image) (Y : State) (sh : Shown X Y) (once : Once Y) (stock : Full Y) (order : Gapless Y) where
+    abbrev l : ℕ
+    l = Y .tree .level
+
+    abbrev es : Ents l
+    es = Y .tree .ents
+
+    abbrev U : List ℕ
+    U = sent-below s e l END es
+
+    -- a page that is not on the way to t
+    missed : (q t : ℕ) → times q (way t X) ≡ 0 → t < END → hit q (Y .tree .root) + times q (way-in t l (there l t es)) ≡ 0
+    unfolding way-in root-ent
+    missed q t z h =
+        sym (times-cons q (Y .tree .root) (way-in t l (there l t es))) ∙ ap (λ (ps : List ℕ). times q ps) (sym (way-top t X Y sh stock h)) ∙ z
+
+    -- the root keeps its entries under an effect from END on
+    root-same : END ≤ s → spread-x _⊕_ s e effect X .page (Y .tree .root) ≡ X .page (Y .tree .root)
+    unfolding Shows Ordered root-ent Gapless
+    root-same h =
+        spread-root _⊕_ s e effect X Y sh once .shows .0
+        ∙ ap (λ (ys : List Entry). tree l ys) (new-same l order h)
+        ∙ sym (sh .below .0)
+
+    spread-frame : (q : ℕ) → times q (way s X) ≡ 0 → times q (way e X) ≡ 0 → spread-x _⊕_ s e effect X .page q ≡ X .page q
+    unfolding Ordered root-ent Gapless
+    spread-frame q a b = go (hit q (Y .tree .root)) refl (le-or-lt END s)
+      where
+        u : times q U ≡ 0
+        u = below-clear s e q l 0 END es order (sent-clear s e q l) (λ i j. omega (arith, missed q s a j)) (λ i j. omega (arith, missed q e b j))
+
+        elsewhere : hit q (Y .tree .root) ≡ 0 → spread-x _⊕_ s e effect X .page q ≡ X .page q
+        elsewhere z = spread-root _⊕_ s e effect X Y sh once .frame q (omega (arith, u, times-cons q (Y .tree .root) U))
+
+        go : (n : ℕ) → hit q (Y .tree .root) ≡ n → (END ≤ s) ⊎ (s < END) → spread-x _⊕_ s e effect X .page q ≡ X .page q
+        go zero z c = elsewhere z
+        go (suc n) z (inl past) = rw (hit-is q (Y .tree .root) (omega arith)) (root-same past)
+        go (suc n) z (inr h) = elsewhere (omega (arith, missed q s a h))
+
 pub spread-is : (half : ℕ) (_⊕_ : Pair → Pair → Pair) (s e : ℕ) (effect : Pair) (X : Image) (Y : State) → Shown X Y → Once Y
     → Full Y
     → Gapless Y
     → Stepped X (spread-x _⊕_ s e effect X) Y (spread _⊕_ s e effect Y) (spread-names half _⊕_ s e X)
-unfolding spread-names way-in Ordered root-ent Gapless
+unfolding spread-names
 spread-is half _⊕_ s e effect X Y sh once stock order =
-    let l = Y .tree .level in
-    let es = Y .tree .ents in
-    let U = sent-below s e l END es in
-    let d = spread-root _⊕_ s e effect X Y sh once in
+    let both : (q : ℕ) → times q (way s X ++ way e X) ≡ times q (way s X) + times q (way e X) = λ q. times-append q (way s X) (way e X) in
     record {
       shown = spread-shown _⊕_ s e effect X Y sh once;
       same-held = spread-held _⊕_ s e effect X Y sh once;
-      frame = λ q h.
-          let a : times q (way s X) ≡ hit q (Y .tree .root) + times q (way-in s l (there l s es)) =
-          ap (λ (ps : List ℕ). times q ps) (way-top s X Y sh stock) ∙ times-cons q (Y .tree .root) (way-in s l (there l s es)) in
-          let b : times q (way e X) ≡ hit q (Y .tree .root) + times q (way-in e l (there l e es)) =
-          ap (λ (ps : List ℕ). times q ps) (way-top e X Y sh stock) ∙ times-cons q (Y .tree .root) (way-in e l (there l e es)) in
-          let c : times q (way s X ++ way e X) ≡ times q (way s X) + times q (way e X) = times-append q (way s X) (way e X) in
-          let u : times q U ≡ 0 = below-clear s e q l 0 END es order (sent-clear s e q l) (λ i j. omega arith) (λ i j. omega arith) in
-          d .frame q (omega (arith, times-cons q (Y .tree .root) U));
-      inside = λ q h.
-          let a : times q (way s X) ≡ times q (way-in s (suc l) (root-ent (Y .tree))) = ap (λ (ps : List ℕ). times q ps) (way-top s X Y sh stock) in
-          let b : times q (way e X) ≡ times q (way-in e (suc l) (root-ent (Y .tree))) = ap (λ (ps : List ℕ). times q ps) (way-top e X Y sh stock) in
-          omega (arith, times-append q (way s X) (way e X), way-held q s Y stock, way-held q e Y stock, held-is q Y);
-      steady = steady-of-same (d .head);
+      frame = λ q h. spread-frame _⊕_ s e effect X Y sh once stock order q (omega (arith, both q)) (omega (arith, both q));
+      inside = λ q h. omega (arith, both q, way-within q s X Y sh stock, way-within q e X Y sh stock, held-is q Y);
+      steady = steady-of-same (spread-root _⊕_ s e effect X Y sh once .head);
     }

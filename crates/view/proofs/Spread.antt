@@ -90,7 +90,7 @@ module _ (_⊕_ : Pair → Pair → Pair) (s e : ℕ) (effect : Pair) where
   unfolding took
   took-child hi x = cond-one (λ (y : Entry). y .child ≡ x .child) (inside s e (x .start) hi) (λ e. refl) (λ e. refl)
 
-  entry-same : (l hi : ℕ) (x : Ent (Kid l)) → spread-ent _⊕_ s e effect l hi x .entry ≡ took _⊕_ s e effect hi (x .entry)
+  pub entry-same : (l hi : ℕ) (x : Ent (Kid l)) → spread-ent _⊕_ s e effect l hi x .entry ≡ took _⊕_ s e effect hi (x .entry)
   unfolding spread-ent
   entry-same zero hi x = refl
   entry-same (suc l) hi x = refl

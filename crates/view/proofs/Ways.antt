@@ -3,7 +3,10 @@ use Prim.Native.Nat.{ℕ, zero, suc, _-_, _≤_, _<_}
 use mathlib.Core.Path.{_≡_, refl, sym, ap, _∙_}
 use mathlib.Core.List.{List, [], _∷_}
 use native.Mathlib.Omega.{arith}
+use lib.Dec.{leb}
 use lib.ListN.{length, length-map, List·getD-map}
+use borrow.Author.Tests.{le-leb, lt-leb}
+use Rattle.rule.specs.Time.{END}
 use Rattle.page.specs.declared.Entry.{Entry}
 use Rattle.page.specs.Entries.{no-entry, at, place, splice}
 use Rattle.image.specs.Images.{Image, entries-in}
@@ -15,7 +18,7 @@ use Rattle.tree.specs.Tree.{Ent, Kid, Ents, no-ent, bare, pages-under}
 use Rattle.tree.specs.Shape.{root-least}
 use Rattle.tree.specs.Held.{All}
 use Rattle.view.specs.View.{Shows, Shown, Stocked, Full}
-use Rattle.view.proofs.Lists.{ent-at, map-splice, splice-same, all-at, place-in, times-cons, times-none, under-zero, under-suc, below-at}
+use Rattle.view.proofs.Lists.{ent-at, cond-one, map-splice, splice-same, all-at, place-in, times-cons, times-none, under-zero, under-suc, below-at}
 
 pub entries-are : (l : ℕ) (X : Image) (x : Ent (Kid (suc l))) → Shows (suc l) (X .page) x → entries X (x .entry .child) ≡ bare (x .kid)
 unfolding Shows entries entries-in
@@ -82,9 +85,19 @@ from-root {A} {X} {Y} sh f =
     ap (λ (n : ℕ). f n (X .head .root)) e ∙ ap (λ (p : ℕ). f (Y .tree .level) p) (sh .root)
 
 -- the way from the root
-pub way-top : (t : ℕ) (X : Image) (Y : State) → Shown X Y → Full Y → way t X ≡ way-in t (suc (Y .tree .level)) (root-ent (Y .tree))
-unfolding way root-ent Full
-way-top t X Y sh k = from-root sh (λ n p. way-from t n p X) ∙ way-is t (Y .tree .level) X (root-ent (Y .tree)) k (sh .below)
+pub way-down : (t : ℕ) (X : Image) (Y : State) → Shown X Y → Full Y
+    → way-from t (X .head .height - 1) (X .head .root) X ≡ way-in t (suc (Y .tree .level)) (root-ent (Y .tree))
+unfolding root-ent Full
+way-down t X Y sh k = from-root sh (λ n p. way-from t n p X) ∙ way-is t (Y .tree .level) X (root-ent (Y .tree)) k (sh .below)
+
+-- it is the one to t, unless t is END
+pub way-top : (t : ℕ) (X : Image) (Y : State) → Shown X Y → Full Y → t < END → way t X ≡ way-in t (suc (Y .tree .level)) (root-ent (Y .tree))
+unfolding way
+way-top t X Y sh k h = rw (lt-leb END t h) (way-down t X Y sh k)
+
+pub way-past : (t : ℕ) (X : Image) → END ≤ t → way t X ≡ []
+unfolding way
+way-past t X h = rw (le-leb END t h)
 
 pub way-below : (q t l : ℕ) (x : Ent (Kid l)) → Stocked l x → times q (way-in t l x) ≤ times q (pages-under l x)
 unfolding way-in
@@ -97,3 +110,9 @@ way-below q t (suc l) x k =
 pub way-held : (q t : ℕ) (Y : State) → Full Y → times q (way-in t (suc (Y .tree .level)) (root-ent (Y .tree))) ≤ times q (pages-under (suc (Y .tree .level)) (root-ent (Y .tree)))
 unfolding Full
 way-held q t Y k = way-below q t (suc (Y .tree .level)) (root-ent (Y .tree)) k
+
+pub way-within : (q t : ℕ) (X : Image) (Y : State) → Shown X Y → Full Y → times q (way t X) ≤ times q (pages-under (suc (Y .tree .level)) (root-ent (Y .tree)))
+unfolding way
+way-within q t X Y sh k =
+    cond-one (λ (ps : List ℕ). times q ps ≤ times q (pages-under (suc (Y .tree .level)) (root-ent (Y .tree)))) (leb END t)
+    (λ e. omega (arith, times-none q)) (λ e. rw (way-down t X Y sh k) (way-held q t Y k))

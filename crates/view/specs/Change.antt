@@ -4,6 +4,7 @@ use Rattle.rule.specs.declared.Pair.{Pair}
 use Rattle.tree.specs.Cut.{State, cut}
 use Rattle.tree.specs.Spread.{spread}
 use Rattle.tree.specs.Heal.{heal}
+use Rattle.tree.specs.Shape.{Formed}
 use Rattle.view.specs.View.{Full, Gapless}
 
 module _ (half : ℕ) (_⊕_ : Pair → Pair → Pair) (s e : ℕ) (effect : Pair) where
@@ -23,11 +24,14 @@ module _ (half : ℕ) (_⊕_ : Pair → Pair → Pair) (s e : ℕ) (effect : Pai
   abbrev pub after-E : State → State
   after-E Y = heal half _⊕_ e (after-D Y)
 
-  -- every tree that a step starts from is full, and that of C has no gaps
+  -- Every tree that a step starts from is full; that of C has no gaps, and those of D and E are as sound images have them, whatever
+  -- their leaf entries.
   pub record Passable (Y : State) : Type 0 where
     pub full : Full Y
     pub full-A : Full (after-A Y)
     pub full-B : Full (after-B Y)
     pub gapless-B : Gapless (after-B Y)
     pub full-C : Full (after-C Y)
+    pub formed-C : Formed half (λ lo hi x. Unit {0}) (after-C Y .tree)
     pub full-D : Full (after-D Y)
+    pub formed-D : Formed half (λ lo hi x. Unit {0}) (after-D Y .tree)

@@ -115,8 +115,11 @@ pub fn one_step(image: &mut [u8], step: Step, effect: &Effect) -> Result<StepTal
 }
 
 /// "The way to t, in the image as the step finds it: the root, then each time the child of the last entry starting at t
-/// or before, down to a leaf."
+/// or before, down to a leaf." "END is no instant": no page is on a way to it.
 pub fn way_to(image: &[u8], t: u32) -> Vec<u32> {
+    if t == END {
+        return Vec::new();
+    }
     let mut way = vec![read_head(image).root];
     loop {
         let page = tree_page(image, way[way.len() - 1]);
@@ -272,6 +275,9 @@ impl Work<'_> {
     /// "Heal at t: only if t starts a leaf entry that isn't first in its page, with the same pair as the one before; it
     /// goes." The two entries' own pairs are compared, and END starts no entry (R20).
     fn heal(&mut self, t: u32) {
+        if t == END {
+            return;
+        }
         let way = way_to(self.image, t);
         let leaf_page = way[way.len() - 1];
         let mut leaf = self.page(leaf_page);

@@ -119,6 +119,19 @@ fn split_of_the_root_leaf() {
     assert_image(&image, &pages);
 }
 
+/// "END is no instant": an effect up to it names nothing but the way to its start, and the last page keeps its bytes, for
+/// the root's entry takes the effect.
+#[test]
+fn effect_up_to_the_end() {
+    let mut image = twelve(5, 1);
+    let told = enter(&mut image, 1, 5, END);
+    let ways = told.tales.iter().map(|tale| tale.ways.concat());
+    assert_eq!(ways.collect::<Vec<_>>(), [vec![3, 1], vec![], vec![3, 1], vec![3, 1], vec![]]);
+    assert_eq!(told.named_pages().into_iter().collect::<Vec<u32>>(), [0, 1, 3]);
+    assert_eq!(image[2 * 512..3 * 512], tree_page(0, &leaf(&RIGHT, (0, 0))));
+    assert_eq!(image[3 * 512..4 * 512], tree_page(1, &[(0, 0, 0, 1), (65, 1, 1, 2)]));
+}
+
 /// Without a left neighbour the right one gives; then, with 12 left, it is joined: "the right is given back", the root
 /// after it. The next split takes them from the chain's front.
 #[test]

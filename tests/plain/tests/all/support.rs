@@ -321,8 +321,11 @@ impl Node {
         }
     }
 
-    /// The pages met on the way to t.
+    /// The pages met on the way to t; END is no instant.
     pub fn way(&self, t: u32) -> Vec<u32> {
+        if t == END {
+            return Vec::new();
+        }
         let mut way = vec![self.page()];
         if let Node::Inner { entries, .. } = self {
             let (_, _, below) = entries.iter().rfind(|(start, _, _)| *start <= t).unwrap();
@@ -347,6 +350,9 @@ impl Node {
 
     /// Of the pages on the way to t, from the leaf up: the left neighbour under the same parent, else the right.
     pub fn siblings_of_way(&self, t: u32) -> Vec<u32> {
+        if t == END {
+            return Vec::new();
+        }
         let Node::Inner { entries, .. } = self else { return Vec::new() };
         let i = entries.iter().filter(|(start, _, _)| *start <= t).count() - 1;
         let mut siblings = entries[i].2.siblings_of_way(t);
