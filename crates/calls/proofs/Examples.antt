@@ -8,7 +8,7 @@ use Rattle.calls.specs.Book.{empty-book, entered, items-pair, book-pair,
 use Rattle.calls.specs.Aggregate.{counts-at, counting, signed, sum-of, count-of, best-of, best-pair, aggregate-of, aggregate, same-booking, without, live-has, live-after, live-from, Matched}
 use Rattle.calls.specs.Lists.{left-by, left-by-all, Refused-format, Refused-formats, returned, fed, fed-all, fixed-number, accepted-by, accepted}
 use Rattle.calls.specs.Demands.{couples, Reordered, same, next, swap, then}
-use Rattle.calls.specs.Examples.{prescribed, one, windowed, two, below-zero, Book-cases, prescription, again, twice, three, Aggregate-cases, entry, fresh-image, day, after-one, numbers, struck, List-cases}
+use Rattle.calls.specs.Examples.{prescribed, one, windowed, two, below-zero, Book-cases, prescription, again, twice, three, Aggregate-cases, entry, fresh-image, day, after-one, greatest-one, numbers, struck, List-cases}
 use Rattle.calls.proofs.Opened.{every-call}
 
 pub book-cases : Book-cases
@@ -73,7 +73,7 @@ aggregate-cases =
     }
 
 pub list-cases : List-cases
-unfolding every-call empty-book entered one windowed left-by left-by-all Refused-format Refused-formats returned fed fed-all fixed-number accepted-by accepted couples fresh-image day after-one numbers
+unfolding every-call empty-book entered one windowed left-by left-by-all Refused-format Refused-formats returned fed fed-all fixed-number accepted-by accepted couples fresh-image day after-one greatest-one numbers
 list-cases =
     record {
       fits-at-first = refl;
@@ -85,6 +85,7 @@ list-cases =
       left-two = refl;
       left-all = refl;
       averaged = (refl, refl, refl);
+      averaged-greatest = (refl, refl);
       fed = refl;
       made = refl;
       refused-format = (tt, (tt, (tt, (tt, (tt, (tt, (tt, (tt, (tt, (tt, (tt, (tt, (λ e. absurd (omega arith), tt)))))))))))));

@@ -247,6 +247,10 @@ day =
 unfoldable pub after-one : List ℕ
 after-one = left-by 2 (enters (pos 6) 10 40) fresh-image
 
+-- the same on an image of kind 2
+unfoldable pub greatest-one : List ℕ
+greatest-one = left-by 2 (enters (pos 6) 10 40) (format 2 2 0 (replicate (112 * 2) 0) .image)
+
 -- the numbers that the calls of a list return
 unfoldable pub numbers : ℕ → List Call → List ℕ → List ℕ
 numbers half [] img = []
@@ -275,11 +279,14 @@ pub record List-cases : Type 0 where
   pub left-all :
       map (λ t. instant 2 t (left-by-all 2 day fresh-image) .pair) (9 ∷ 10 ∷ 39 ∷ 40 ∷ [])
       ≡ none ∷ pair (pos 6) (pos 1) ∷ pair (pos 6) (pos 1) ∷ none ∷ []
-  -- An average, at an instant, where nothing counts, and at END.
+  -- An average, at an instant, where nothing counts, and at END; and for kind 2, where there is none.
   pub averaged :
       (average-at 2 20 after-one ≡ record { number = 0; average = Hundredths (pos 600) })
       × (average-at 2 40 after-one ≡ record { number = 0; average = Nothing })
       × (average-at 2 END after-one ≡ record { number = 12; average = Nothing })
+  pub averaged-greatest :
+      (instant 2 20 greatest-one ≡ record { number = 0; pair = pair (pos 6) (pos 1); pages = 1 })
+      × (average-at 2 20 greatest-one ≡ record { number = 0; average = Nothing })
   -- The book gets the three changes that were accepted, and nothing of those that were refused.
   pub fed :
       fed-all 2 day fresh-image (empty-book 1 0) .items
