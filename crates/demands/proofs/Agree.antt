@@ -21,7 +21,7 @@ use Rattle.calls.specs.Changes.{Side, withdraws}
 use Rattle.calls.specs.Refusals.{first, scratch-ok}
 use Rattle.calls.specs.Calls.{head, book-early, book-number, book, instant-number, instant, average-at, audit-early, audit, listing}
 use Rattle.calls.specs.Book.{Book, book-pair, listing-of}
-use Rattle.calls.specs.Lists.{Call, booking, asking, listing-over, auditing, formatting, fixed-number, Refused-format, Refused-formats, Agrees, All-agree}
+use Rattle.calls.specs.Lists.{Call, booking, asking, averaging, listing-over, auditing, formatting, fixed-number, Refused-format, Refused-formats, Agrees, All-agree}
 use Rattle.answers.proofs.Demand.{demand-1}
 use Rattle.answers.proofs.Sound.{sound-number, sound-pair, sound-listing}
 use Rattle.ledger.proofs.Runs.{listing-same}
@@ -73,6 +73,16 @@ module _ {half : ℕ} {img : List ℕ} {B : Book} (K : Kept half img B) where
   pub instant-is : (t : ℕ) → t < END → (instant half t img .number ≡ 0) × (instant half t img .pair ≡ book-pair B t)
   instant-is t l = (sound-number half img (K .length-fits) (K .sound) t l, sound-pair half img (K .length-fits) (K .sound) t l ∙ K .pairs t l)
 
+  average-end : (t : ℕ) → END ≤ t → average-at half t img ≡ record { number = 12; average = Nothing }
+  unfolding average-at
+  average-end t l =
+      let n = instant-end t l .0 in
+      λ i.
+      record {
+        number = n i;
+        average = cond (eqb (n i) 0) (average (head half img .kind) (instant half t img .pair)) Nothing;
+      }
+
   pub average-is : (t : ℕ) → t < END → average-at half t img ≡ record { number = 0; average = average (B .kind) (book-pair B t) }
   unfolding average-at
   average-is t l =
@@ -106,6 +116,7 @@ module _ {half : ℕ} {img : List ℕ} {B : Book} (K : Kept half img B) where
   unfolding Agrees Refused-format
   agrees (booking side v s e scratch) r = agrees-booking side v s e scratch
   agrees (asking t) r = (λ l. instant-end t l .0, λ l. instant-is t l)
+  agrees (averaging t) r = (λ l. average-end t l, λ l. average-is t l)
   agrees (listing-over a b out) r = listing-is a b out
   agrees (auditing scratch) r = agrees-audit scratch
   agrees (formatting kind window) r = demand-1 half .of-format kind window img r

@@ -8,7 +8,7 @@ use lib.Dec.{eqb}
 use Rattle.calls.specs.Changes.{withdraws}
 use Rattle.calls.specs.Calls.{book}
 use Rattle.calls.specs.Book.{Book, empty-book}
-use Rattle.calls.specs.Lists.{Call, booking, asking, listing-over, auditing, formatting, left-by, Refused-format, Refused-formats, returned, fed, accepted}
+use Rattle.calls.specs.Lists.{Call, booking, asking, averaging, listing-over, auditing, formatting, left-by, Refused-format, Refused-formats, returned, fed, accepted}
 use Rattle.calls.specs.Demands.{History, at-first, at-last, changes}
 use Rattle.ledger.specs.Books.{book-of, Each, Spanned, Sided}
 use Rattle.ledger.proofs.Books.{entered-kind}
@@ -23,6 +23,7 @@ fed-kind : (c : Call) (n : ℕ) (B : Book) → fed c n B .kind ≡ B .kind
 unfolding fed
 fed-kind (booking side v s e scratch) n B = entered-kind side v s e B n
 fed-kind (asking t) n B = refl
+fed-kind (averaging t) n B = refl
 fed-kind (listing-over a b out) n B = refl
 fed-kind (auditing scratch) n B = refl
 fed-kind (formatting kind window) n B = refl

@@ -15,7 +15,7 @@ use Rattle.image.specs.Instant.{look-up}
 use Rattle.calls.specs.Changes.{Side, effect}
 use Rattle.calls.specs.Calls.{head, book}
 use Rattle.calls.specs.Book.{Book, entered, book-pair}
-use Rattle.calls.specs.Lists.{Call, booking, asking, listing-over, auditing, formatting, left-by, left-by-all, Refused-format, Refused-formats, returned, fed, fed-all}
+use Rattle.calls.specs.Lists.{Call, booking, asking, averaging, listing-over, auditing, formatting, left-by, left-by-all, Refused-format, Refused-formats, returned, fed, fed-all}
 use Rattle.answers.proofs.Demand.{demand-1}
 use Rattle.ledger.proofs.Books.{entered-onto, entered-refused}
 use Rattle.ledger.proofs.Accepted.{passed}
@@ -74,6 +74,7 @@ module _ {half : ℕ} (wide : Wide half) where
   unfolding left-by returned fed Refused-format
   kept-call (booking side v s e scratch) r K = kept-booking side v s e scratch K
   kept-call (asking t) r K = K
+  kept-call (averaging t) r K = K
   kept-call (listing-over a b out) r K = K
   kept-call (auditing scratch) r K = K
   kept-call {img} (formatting kind window) r K = rw (demand-1 half .of-format kind window img r) K

@@ -16,7 +16,7 @@ use Rattle.calls.specs.Refusals.{Row, first, scratch-ok}
 use Rattle.calls.specs.Changes.{Side, withdraws, Change}
 use Rattle.calls.specs.Calls.{head, book-early, book-number, book}
 use Rattle.calls.specs.Book.{Book, empty-book, entered}
-use Rattle.calls.specs.Lists.{Call, booking, asking, listing-over, auditing, formatting, left-by, returned, fed, fed-all, accepted-by, accepted, Refused-format, Refused-formats}
+use Rattle.calls.specs.Lists.{Call, booking, asking, averaging, listing-over, auditing, formatting, left-by, returned, fed, fed-all, accepted-by, accepted, Refused-format, Refused-formats}
 use Rattle.ledger.specs.Books.{entered-all, book-of, Each, more, Spanned}
 
 -- ---- what its book gets
@@ -34,6 +34,7 @@ fed-accepted half (booking side v s e scratch) img B = go (eqb (book half side v
     go true = refl
     go false = refl
 fed-accepted half (asking t) img B = refl
+fed-accepted half (averaging t) img B = refl
 fed-accepted half (listing-over a b out) img B = refl
 fed-accepted half (auditing scratch) img B = refl
 fed-accepted half (formatting kind window) img B = refl
@@ -102,6 +103,7 @@ module _ {half : ℕ} {I : List ℕ → Type 0} {P : Change → Type 0}
       go true k = more (holds side v s e img scratch i (passed half side v s e img scratch (eqb-true _ 0 k))) h
       go false k = h
   each-by (asking t) img i h = h
+  each-by (averaging t) img i h = h
   each-by (listing-over a b out) img i h = h
   each-by (auditing scratch) img i h = h
   each-by (formatting kind window) img i h = h

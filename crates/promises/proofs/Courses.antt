@@ -11,17 +11,18 @@ use Rattle.image.specs.Images.{pages-in}
 use Rattle.calls.specs.Changes.{Side, Change}
 use Rattle.calls.specs.Calls.{Booked, Formatted, Audited, Listed, Instant, book, format, audit, listing, instant}
 use Rattle.calls.specs.Book.{Book, entered, book-pair, listing-of}
-use Rattle.calls.specs.Lists.{Call, booking, asking, listing-over, auditing, formatting, left-by, left-by-all, Refused-format, Refused-formats, returned, fed, fed-all, fixed-number, Agrees, All-agree, accepted-by, accepted}
+use Rattle.calls.specs.Lists.{Call, booking, asking, averaging, listing-over, auditing, formatting, left-by, left-by-all, Refused-format, Refused-formats, returned, fed, fed-all, fixed-number, Agrees, All-agree, accepted-by, accepted}
 use Rattle.luwhenoka.specs.declared.InstantAnswer.{InstantAnswer}
 use Rattle.luwhenoka.specs.declared.ListingAnswer.{ListingAnswer}
-use Rattle.luwhenoka.specs.Answers.{instant-answer, pair-of, listed}
+use Rattle.luwhenoka.specs.Answers.{instant-answer, pair-of, averaged-answer, listed}
 use Rattle.luwhenoka.specs.Promises.{Answers, Lists}
-use Rattle.promises.specs.Course.{Made, booked, asked, listed-over, audited, formatted, Promised, Course, ends, goes, noted, noted-all, taken-by, taken-by-all, Right, All-right}
+use Rattle.promises.specs.Course.{Made, booked, asked, averaged, listed-over, audited, formatted, Promised, Course, ends, goes, noted, noted-all, taken-by, taken-by-all, Right, All-right}
 
 -- the call that was made
 pub call-of : Made → Call
 call-of (booked side v s e scratch r left) = booking side v s e scratch
 call-of (asked t r) = asking t
+call-of (averaged t r) = averaging t
 call-of (listed-over a b out r written) = listing-over a b out
 call-of (audited scratch r left) = auditing scratch
 call-of (formatted kind window r) = formatting kind window
@@ -37,6 +38,7 @@ left-is : (m : Made) (img mid : List ℕ) → Promised m img mid → left-by 12 
 unfolding call-of Promised left-by
 left-is (booked side v s e scratch r left) img mid p = sym (ap (λ (b : Booked). b .image) p)
 left-is (asked t r) img mid p = sym (p .1)
+left-is (averaged t r) img mid p = sym (p .1)
 left-is (listed-over a b out r written) img mid p = sym (p .1)
 left-is (audited scratch r left) img mid p = sym (p .1)
 left-is (formatted kind window r) img mid p = sym (ap (λ (f : Formatted). f .image) (p .0))
@@ -45,6 +47,7 @@ refused-is : (m : Made) (img mid : List ℕ) → Promised m img mid → Refused-
 unfolding call-of Promised Refused-format
 refused-is (booked side v s e scratch r left) img mid p = tt
 refused-is (asked t r) img mid p = tt
+refused-is (averaged t r) img mid p = tt
 refused-is (listed-over a b out r written) img mid p = tt
 refused-is (audited scratch r left) img mid p = tt
 refused-is (formatted kind window r) img mid p = λ z. p .1 (ap (λ (f : Formatted). f .number) (p .0) ∙ z)
@@ -54,6 +57,7 @@ fed-is : (m : Made) (img mid : List ℕ) (B : Book) → Promised m img mid → f
 unfolding call-of Promised fed returned noted
 fed-is (booked side v s e scratch r left) img mid B p = ap (λ n. entered n side v s e B) (sym (ap (λ (b : Booked). b .number) p))
 fed-is (asked t r) img mid B p = refl
+fed-is (averaged t r) img mid B p = refl
 fed-is (listed-over a b out r written) img mid B p = refl
 fed-is (audited scratch r left) img mid B p = refl
 fed-is (formatted kind window r) img mid B p = refl
@@ -63,6 +67,7 @@ unfolding call-of Promised accepted-by taken-by
 taken-is (booked side v s e scratch r left) img mid p =
     ap (λ n. cond (eqb n 0) (record { side = side; v = v; s = s; e = e } ∷ []) []) (sym (ap (λ (b : Booked). b .number) p))
 taken-is (asked t r) img mid p = refl
+taken-is (averaged t r) img mid p = refl
 taken-is (listed-over a b out r written) img mid p = refl
 taken-is (audited scratch r left) img mid p = refl
 taken-is (formatted kind window r) img mid p = refl
@@ -78,12 +83,13 @@ answer-pair t img p = ap (λ (a : InstantAnswer). pair-of a) p
 
 -- what demand 3 claims of the call, it claims of what was made
 right-is : (m : Made) (img mid : List ℕ) (B : Book) → Promised m img mid → Agrees 12 (call-of m) img B → Right m (pages-in 12 img) B
-unfolding call-of Promised Agrees Right
+unfolding call-of Promised Agrees Right averaged-answer
 right-is (booked side v s e scratch r left) img mid B p a =
     subst⁻¹ (λ n. (n ≡ fixed-number (pages-in 12 img) side v s e scratch B) ⊎ ((fixed-number (pages-in 12 img) side v s e scratch B ≡ 0) × (n ≡ 24)))
     (ap (λ (b : Booked). b .number) p) a
 right-is (asked t r) img mid B p a =
     (λ l. answer-number t img (p .0) ∙ a .0 l, λ l. (answer-number t img (p .0) ∙ a .1 l .0, answer-pair t img (p .0) ∙ a .1 l .1))
+right-is (averaged t r) img mid B p a = (λ l. p .0 ∙ ap averaged-answer (a .0 l), λ l. p .0 ∙ ap averaged-answer (a .1 l))
 right-is (listed-over a b out r written) img mid B p q = p .0 ∙ q
 right-is (audited scratch r left) img mid B p a = ap (λ (x : Audited). x .number) (p .0) ∙ a
 right-is (formatted kind window r) img mid B p a = tt
