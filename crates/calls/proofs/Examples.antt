@@ -8,7 +8,7 @@ use Rattle.calls.specs.Book.{empty-book, entered, items-pair, book-pair,
 use Rattle.calls.specs.Aggregate.{counts-at, counting, signed, sum-of, count-of, best-of, best-pair, aggregate-of, aggregate, same-booking, without, live-has, live-after, live-from, Matched}
 use Rattle.calls.specs.Lists.{left-by, left-by-all, Refused-format, Refused-formats, returned, fed, fed-all, fixed-number, accepted-by, accepted}
 use Rattle.calls.specs.Demands.{couples, Reordered, same, next, swap, then}
-use Rattle.calls.specs.Examples.{prescribed, one, windowed, two, below-zero, Book-cases, prescription, again, twice, three, Aggregate-cases, entry, fresh-image, day, after-one, greatest-one, numbers, struck, List-cases}
+use Rattle.calls.specs.Examples.{prescribed, one, windowed, two, below-zero, Book-cases, prescription, again, twice, three, Aggregate-cases, entry, fresh-image, day, after-one, greatest-one, numbers, struck, struck-too, List-cases}
 use Rattle.calls.proofs.Opened.{every-call}
 
 pub book-cases : Book-cases
@@ -101,5 +101,13 @@ list-cases =
             left = entry (pos 6) 10 40 ∷ entry (pos 3) 20 50 ∷ [];
             of-x = same;
             of-y = swap;
+          };
+      struck-from-both =
+          record {
+            struck-x = struck ∷ struck-too ∷ [];
+            struck-y = struck-too ∷ [];
+            left = entry (pos 3) 20 50 ∷ [];
+            of-x = then (next swap) (next (next (next swap)));
+            of-y = then (next swap) swap;
           };
     }

@@ -256,9 +256,12 @@ unfoldable pub numbers : ℕ → List Call → List ℕ → List ℕ
 numbers half [] img = []
 numbers half (c ∷ cs) img = returned half c img ∷ numbers half cs (left-by half c img)
 
--- the booking that is struck out below
+-- the bookings that are struck out below
 abbrev pub struck : Booking
 struck = record { v = pos 6; s = 10; e = 40 }
+
+abbrev pub struck-too : Booking
+struck-too = record { v = negsuc 0; s = 0; e = 9 }
 
 pub record List-cases : Type 0 where
   -- "Each gets the image as the last one left it": 3 on [20, 50) fits in the fresh image, and not in what the first booking left.
@@ -307,3 +310,8 @@ pub record List-cases : Type 0 where
       Same-changes (withdrawal (pos 6) 10 40 ∷ entry (pos 3) 20 50 ∷ entry (pos 6) 10 40 ∷ []) (entry (pos 3) 20 50 ∷ [])
   pub other-order :
       Same-changes (entry (pos 6) 10 40 ∷ entry (pos 3) 20 50 ∷ []) (entry (pos 3) 20 50 ∷ entry (pos 6) 10 40 ∷ [])
+  -- "Any number may be struck out, each entry with one withdrawal, from either list."
+  pub struck-from-both :
+      Same-changes
+      (entry (pos 6) 10 40 ∷ entry (negsuc 0) 0 9 ∷ withdrawal (pos 6) 10 40 ∷ entry (pos 3) 20 50 ∷ withdrawal (negsuc 0) 0 9 ∷ [])
+      (withdrawal (negsuc 0) 0 9 ∷ entry (pos 3) 20 50 ∷ entry (negsuc 0) 0 9 ∷ [])
