@@ -28,7 +28,7 @@ keeps-scratch number = eqb number 16 || (eqb number 17 || (eqb number 11 || eqb 
 
 -- Demand 1. "A caller may hand any public call any image, span, value or output buffer, unchecked; the call returns, and what
 -- document 01 turns back is refused by its number there, with image and output as before." That a call returns is part of every
--- function's proof; its number is by definition the first row that turns it back (Refusals.antt). What is left to say:
+-- function's proof; that its number is that of the first row that turns it back is `Turned-back` (Tables.antt). What is left to say:
 -- "A refusal returns its number and zeros (instant: the pages read too). Image and output keep their bytes".
 pub record Demand-1 (half : ℕ) : Type 0 where
   pub of-format : (kind window : ℕ) (img : List ℕ) → format half kind window img .number ≢ 0 → format half kind window img .image ≡ img

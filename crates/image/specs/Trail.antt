@@ -2,7 +2,8 @@
 -- has it, a listing below each entry that overlaps its span, an audit below every entry. "if a page is unfit, the pages up to and
 -- including it": there a walk ends. Assumes nothing.
 use Prim.Native.Nat.{ℕ, zero, suc, _-_}
-use mathlib.Core.Bool.{Bool, true, cond, _&&_}
+use mathlib.Core.Path.{_≡_}
+use mathlib.Core.Bool.{Bool, true, false, cond, _&&_}
 use mathlib.Core.List.{List, [], _∷_, _++_}
 use lib.Dec.{eqb}
 use Rattle.page.specs.declared.Head.{Head}
@@ -35,6 +36,14 @@ module _ (half : ℕ) (h : Head) (img : List ℕ) where
   unfoldable pub up-to-unfit : List Visit → List Visit
   up-to-unfit [] = []
   up-to-unfit (v ∷ vs) = let rest = up-to-unfit vs in v ∷ cond (finds-fit v) rest []
+
+  -- looks that end with one at an unfit page, the only such
+  pub record Ends-unfit (looks : List Visit) : Type 0 where
+    pub before : List Visit
+    pub last : Visit
+    pub in-turn : looks ≡ before ++ (last ∷ [])
+    pub fit-before : all-fit before ≡ true
+    pub unfit-last : finds-fit last ≡ false
 
   -- Page p at its place, of the level named, and then the pages below those of its entries that a walk goes into. An unfit page has
   -- no entries that could be trusted.

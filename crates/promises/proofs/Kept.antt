@@ -32,22 +32,12 @@ use Rattle.luwhenoka.specs.Promises.{Formats, Books, Answers, Averages, Lists, 
 use Rattle.promises.specs.Course.{Made, Course, noted-all, taken-by-all, All-right}
 use Rattle.promises.specs.Demands.{Refusing, From-format, Aggregates, As-the-book, One-more, Same-listing, Demands-met}
 use Rattle.promises.proofs.Courses.{calls-of, answer-number, answer-pair, left-all, refused-all, taken-all, Rights, rights}
+use Rattle.promises.proofs.Tables.{answer-pages, average-number, by-number}
 
 -- ---- demand 1
 
 abbrev d1 : Demand-1 12
 d1 = demand-1 12
-
-answer-pages : (t : ℕ) (img : List ℕ) {r : InstantAnswer} → Answers t img r → r .pages ≡ instant 12 t img .pages
-unfolding instant-answer
-answer-pages t img p = ap (λ (a : InstantAnswer). a .pages) p
-
--- the numbers of an average's answer
-answer-of : (n : ℕ) (a : Average) → average-answer n a .number ≡ n
-unfolding average-answer
-answer-of n Nothing = refl
-answer-of n (Hundredths x) = refl
-answer-of n Beyond = refl
 
 never-beyond : (n : ℕ) (a : Average) → a ≢ Beyond → average-answer n a .answer ≢ 2
 unfolding average-answer
@@ -61,7 +51,7 @@ unfolding averaged-answer average-answer
 averaged t img r p = (refused, beyond)
   where
     number : r .number ≡ average-at 12 t img .number
-    number = ap (λ (a : AverageAnswer). a .number) p ∙ answer-of (average-at 12 t img .number) (average-at 12 t img .average)
+    number = average-number t img p
 
     refused : r .number ≢ 0 → (r .answer ≡ 0) × (r .hundredths ≡ pos 0)
     refused d =
@@ -233,6 +223,7 @@ pub demands-met : Demands-met
 demands-met =
     record {
       demand-1 = refusing;
+      demand-1-numbers = by-number;
       demand-2 = λ F. aggregates F;
       demand-3-list = λ F. as-the-book F;
       demand-3-two = λ F G. same-listing F G;

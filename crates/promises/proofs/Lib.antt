@@ -1,2 +1,3 @@
 pub mod Courses
+pub mod Tables
 pub mod Kept

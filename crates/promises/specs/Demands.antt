@@ -21,6 +21,7 @@ use Rattle.luwhenoka.specs.declared.ListingAnswer.{ListingAnswer}
 use Rattle.luwhenoka.specs.Answers.{pair-of, average-answer, listed}
 use Rattle.luwhenoka.specs.Promises.{Formats, Books, Answers, Averages, Lists, Audits}
 use Rattle.promises.specs.Course.{Made, Course, noted-all, taken-by-all, All-right}
+use Rattle.promises.specs.Tables.{By-number}
 
 -- "A refusal returns its number and zeros (instant: the pages read too). Image and output keep their bytes; scratch is untouched at 16
 -- and 17, also at 11 and 13, else its n bytes are 0." That every call returns is part of its function's proof.
@@ -105,6 +106,7 @@ Same-listing {ms} {ns} {last} {end} F G =
 -- All three.
 pub record Demands-met : Type 0 where
   pub demand-1 : Refusing
+  pub demand-1-numbers : By-number
   pub demand-2 : {ms : List Made} {last : List ℕ} (F : From-format ms last) → Aggregates F
   pub demand-3-list : {ms : List Made} {last : List ℕ} (F : From-format ms last) → As-the-book F
   pub demand-3-two : {ms ns : List Made} {last end : List ℕ} (F : From-format ms last) (G : From-format ns end) → Same-listing F G
