@@ -126,15 +126,7 @@ module _ (bytes : List ℕ) (r : Reading) (img : List ℕ) {p : Progress} where
 pub well-first : {r : Reading} {img : List ℕ} → Standing r img → Well (record { reading = r; more = true; failed = false }) img
 well-first s = record { sure = λ m. refl; standing = λ f. s }
 
-or-false : (a b : Bool) → a || b ≡ false → a ≡ false
-or-false true b e = e
-or-false false b e = refl
-
--- where it ends without a failure, and with no more to read
-pub well-last : {p q : Progress} {img : List ℕ} → Well p img
-    → q ≡ record { reading = p .reading; more = false; failed = p .failed || p .more } → Well q img
-well-last {p} {q} {img} w e = record {
-  sure = λ m. absurd (false≢true (sym (ap (λ (x : Progress). x .more) e) ∙ m));
-  standing = λ f. subst⁻¹ (λ x. Standing x img) (ap (λ (x : Progress). x .reading) e)
-      (w .standing (or-false (p .failed) (p .more) (sym (ap (λ (x : Progress). x .failed) e) ∙ f)));
-}
+-- where neither has failed nor is more
+pub or-false : (a b : Bool) → a || b ≡ false → (a ≡ false) × (b ≡ false)
+or-false true b e = absurd (true≢false e)
+or-false false b e = (refl, e)

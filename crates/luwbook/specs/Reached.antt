@@ -55,3 +55,7 @@ Takes (pos (suc k)) bytes r img p after = Ran (take (suc k) bytes) r img p after
 pub record Well (p : Progress) (img : List ℕ) : Type 0 where
   pub sure : p .more ≡ true → p .failed ≡ false
   pub standing : p .failed ≡ false → Standing (p .reading) img
+
+-- The last line was run, if its newline is missing.
+abbrev pub Ends : Reading → List ℕ → List ℕ → Type 0
+Ends r img after = (g : Going) → Stands g r img → after ≡ ended 12 64 (unwritten g) .image

@@ -15,8 +15,7 @@ ghost use mathlib.Core.Path.{_≡_};
 ghost use mathlib.Core.Bool.{true, false};
 ghost use lib.ListN.{length, take};
 ghost use Rattle.libc.specs.Io.{Moved};
-ghost use Rattle.program.specs.Going.{Going, unwritten, ended};
-ghost use Rattle.luwbook.specs.Reached.{Printed, Stands, Standing, Ran, Takes, Well};
+ghost use Rattle.luwbook.specs.Reached.{Printed, Standing, Ran, Takes, Well, Ends};
 
 // Where the program is, whether there is more to read, and whether a read or a write has failed.
 struct Progress {
@@ -100,11 +99,10 @@ fn read_some(img: &mut [u8], r: Reading) -> Progress
     take_in(img, r, &bytes, got)
 }
 
-// Reads to the end. A proved loop has to end, and nothing says that the input does: so it counts its turns down, from a number that no
-// run uses up; if one did, that would be a failure.
+// Reads to the end, or to a failure. A proved loop has to end, and nothing says that the input does: so it counts its turns down, from a
+// number that no run uses up.
 fn read_all(img: &mut [u8], r: Reading) -> Progress
     requires { ⌜ Standing r (now img) ⌝ }
-    ensures { λ p. ⌜ p .more ≡ false ⌝ }
     ensures { λ p. ⌜ Well p (now (img .exit)) ⌝ }
 {
     let mut p = Progress {
@@ -118,16 +116,15 @@ fn read_all(img: &mut [u8], r: Reading) -> Progress
         p = read_some(img, q);
         turns -= 1;
     }
-    let q = p.reading;
-    stopped(q, p.failed | p.more)
+    p
 }
 
-// The last line, if its newline is missing, and the runs. A text that could not be read to its end has none: they would look like those
-// of all of it.
+// The last line, if its newline is missing, and the runs; whether all is written. A text that could not be read to its end has no runs:
+// they would look like those of all of it.
 fn finish(img: &mut [u8], p: Progress) -> bool
     requires { ⌜ (p .more ≡ false) × (p .failed ≡ false) ⌝ }
     requires { ⌜ Standing (p .reading) (now img) ⌝ }
-    ensures { λ r. ⌜ (r ≡ true → (g : Going) → Stands g (p .reading) (now (img .entry)) → now (img .exit) ≡ ended 12 64 (unwritten g) .image) ⌝ }
+    ensures { λ r. ⌜ (r ≡ true → Ends (p .reading) (now (img .entry)) (now (img .exit))) ⌝ }
 {
     let r = p.reading;
     if r.number > 9223372036854775807 {
@@ -148,7 +145,7 @@ fn main() {
     let mut img = [0u8; 32768];
     begin(&mut img);
     let p = read_all(&mut img, at_first());
-    if p.failed {
+    if p.failed | p.more {
         return;
     }
     finish(&mut img, p);

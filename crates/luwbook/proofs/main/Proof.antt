@@ -1,6 +1,6 @@
 -- `luwbook::main` meets what it calls asks. Assumes nothing.
 use borrow.Author.Needs.{needs}
-use Rattle.luwbook.proofs.Laws.{begun}
+use Rattle.luwbook.proofs.Laws.{begun, or-false}
 use Rattle.luwbook.proofs.main.Statement.{statement}
 use Rattle.luwbook.proofs.main.Tie as tie
 
@@ -9,9 +9,8 @@ read-all-requires c κs = begun (c .at-first .ensures) (c .before .before .befor
 
 finish-requires : tie.Need-finish-requires
 finish-requires c κs =
-    let went = c .before .if1 .left in
-    let read = c .before .before .before .read-all .ensures in
-    ((read .0, went), read .1 .standing went)
+    let went = or-false _ _ (c .before .if1 .left) in
+    ((went .1, went .0), c .before .before .before .before .read-all .ensures .standing (went .0))
 
 pub main-spec : {M : Type 1} → statement M
 main-spec =

@@ -1,10 +1,9 @@
 -- `luwbook::read_all` meets its contract. The measure is the turns that are left. Assumes nothing.
-use mathlib.Core.Path.{_≡_, refl, ap, _∙_}
+use mathlib.Core.Path.{_≡_, refl, _∙_}
 use lib.ListN.{length}
 use borrow.Author.Needs.{needs}
-use Rattle.luwbook.specs.declared.Progress.{Progress}
 use Rattle.luwbook.specs.Reached.{Well}
-use Rattle.luwbook.proofs.Laws.{well-first, well-last}
+use Rattle.luwbook.proofs.Laws.{well-first}
 use Rattle.luwbook.proofs.read_all.Statement.{statement}
 use Rattle.luwbook.proofs.read_all.Tie as tie
 
@@ -27,9 +26,6 @@ loop-again c =
     let ran = c .before .before in
     (ran .read-some .kept .0 ∙ ran .before .before .before .before .before .loop .inv .0, ran .read-some .ensures)
 
-returns : tie.Need-returns Inv-loop μ-loop
-returns c = (ap (λ (p : Progress). p .more) (c .stopped .ensures), well-last (c .before .before .before .before .loop .inv .1) (c .stopped .ensures))
-
 pub read-all-spec : {M : Type 1} → statement M
 read-all-spec =
     tie.close
@@ -41,6 +37,7 @@ read-all-spec =
     (λ c. search needs)
     (λ c. search needs)
     loop-again
-    (λ c κs. search needs)
-    (λ c. c .before .before .before .before .loop .inv .0)
-    returns)
+    (λ c. c .before .before .loop .inv .0)
+    (λ c. c .before .before .loop .inv .1)
+    (λ c. c .before .loop .inv .0)
+    (λ c. c .before .loop .inv .1))

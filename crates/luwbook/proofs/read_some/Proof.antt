@@ -8,7 +8,9 @@ use Rattle.luwbook.proofs.read_some.Tie as tie
 take-in-requires : tie.Need-take-in-requires
 take-in-requires c κs =
     let did = c .before .before .before .read in
-    (omega (arith, did .kept .1 .0), (moved-as _ _ (did .result) (did .kept .1 .0) (record { sfits = did .ok }) (did .ensures), c .before .before .before .before .before .before .pre))
+    let same = did .kept .1 .0 in
+    let moved = moved-as _ _ (did .result) same (record { sfits = did .ok }) (did .ensures) in
+    (omega (arith, same), (moved, c .before .before .before .before .before .before .pre))
 
 returns : tie.Need-returns
 returns c =
