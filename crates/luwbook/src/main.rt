@@ -11,7 +11,11 @@ use program::pieces::flushed;
 use program::pieces::run_last;
 use program::pieces::run_piece;
 ghost use Prim.Native.Nat.{_≤_};
-ghost use lib.ListN.{length};
+ghost use mathlib.Core.Path.{_≡_};
+ghost use mathlib.Core.Bool.{true, false};
+ghost use lib.ListN.{length, take};
+ghost use Rattle.libc.specs.Io.{Moved};
+ghost use Rattle.luwbook.specs.Reached.{Printed, Standing, Ran, Takes, Well, Ends};
 
 // Where the program is, whether there is more to read, and whether a read or a write has failed.
 struct Progress {
@@ -20,7 +24,9 @@ struct Progress {
     failed: bool,
 }
 
-fn stopped(r: Reading, failed: bool) -> Progress {
+fn stopped(r: Reading, failed: bool) -> Progress
+    ensures { λ p. ⌜ p ≡ record { reading = r; more = false; failed = failed } ⌝ }
+{
     Progress {
         reading: r,
         more: false,
@@ -28,16 +34,28 @@ fn stopped(r: Reading, failed: bool) -> Progress {
     }
 }
 
-// Writes the first n bytes, in as many turns as it takes, and answers whether that went well.
+// Writes the first n bytes, in as many turns as it takes, and answers whether that went well; if not, that is told on standard error.
+// No contract can say what reaches standard output: this one says what may be handed to it.
 fn write_first(out: &[u8], n: usize) -> bool
     requires { ⌜ n ≤ length (now out) ⌝ }
+    requires { ⌜ Printed (take n (now out)) ⌝ }
+    ensures { λ r. ⌜ (n ≡ 0 → r ≡ true) ⌝ }
 {
-    io::write_all(STDOUT_FILENO, &out[..n])
+    if n == 0 {
+        return true;
+    }
+    if io::write_all(STDOUT_FILENO, &out[..n]) {
+        return true;
+    }
+    io::write_all(STDERR_FILENO, b"luwbook: cannot write\n");
+    false
 }
 
 // Runs what was read, and writes what that prints: at most 55 bytes for each. A line's number has to fit, as it does in any text.
 fn run_some(img: &mut [u8], r: Reading, piece: &[u8]) -> Progress
     requires { ⌜ length (now piece) ≤ 4096 ⌝ }
+    requires { ⌜ Standing r (now img) ⌝ }
+    ensures { λ p. ⌜ Ran (now (piece .entry)) r (now (img .entry)) p (now (img .exit)) ⌝ }
 {
     if r.number > 9223372036854775807 {
         return stopped(r, true);
@@ -53,10 +71,13 @@ fn run_some(img: &mut [u8], r: Reading, piece: &[u8]) -> Progress
     }
 }
 
-// Reads once, and runs what came.
-fn read_some(img: &mut [u8], r: Reading) -> Progress {
-    let mut piece = [0u8; 4096];
-    let got = libc::read(STDIN_FILENO, &mut piece);
+// What a read's answer means: a failure is told on standard error.
+fn take_in(img: &mut [u8], r: Reading, bytes: &[u8], got: isize) -> Progress
+    requires { ⌜ length (now bytes) ≤ 4096 ⌝ }
+    requires { ⌜ Moved (length (now bytes)) got ⌝ }
+    requires { ⌜ Standing r (now img) ⌝ }
+    ensures { λ p. ⌜ Takes got (now (bytes .entry)) r (now (img .entry)) p (now (img .exit)) ⌝ }
+{
     if got < 0 {
         io::write_all(STDERR_FILENO, b"luwbook: cannot read\n");
         return stopped(r, true);
@@ -64,12 +85,26 @@ fn read_some(img: &mut [u8], r: Reading) -> Progress {
     if got == 0 {
         return stopped(r, false);
     }
-    let n = io::count(got, &piece);
-    run_some(img, r, &piece[..n])
+    let n = io::count(got, bytes);
+    run_some(img, r, &bytes[..n])
 }
 
-// A proved loop has to end, and nothing says that the input does: so it counts its turns down, from a number that no run uses up.
-fn read_all(img: &mut [u8], r: Reading) -> Progress {
+// Reads once, and runs what came.
+fn read_some(img: &mut [u8], r: Reading) -> Progress
+    requires { ⌜ Standing r (now img) ⌝ }
+    ensures { λ p. ⌜ Well p (now (img .exit)) ⌝ }
+{
+    let mut bytes = [0u8; 4096];
+    let got = libc::read(STDIN_FILENO, &mut bytes);
+    take_in(img, r, &bytes, got)
+}
+
+// Reads to the end, or to a failure. A proved loop has to end, and nothing says that the input does: so it counts its turns down, from a
+// number that no run uses up.
+fn read_all(img: &mut [u8], r: Reading) -> Progress
+    requires { ⌜ Standing r (now img) ⌝ }
+    ensures { λ p. ⌜ Well p (now (img .exit)) ⌝ }
+{
     let mut p = Progress {
         reading: r,
         more: true,
@@ -84,29 +119,34 @@ fn read_all(img: &mut [u8], r: Reading) -> Progress {
     p
 }
 
-// The last line, if its newline is missing, and the runs.
-fn finish(img: &mut [u8], r: Reading) {
+// The last line, if its newline is missing, and the runs; whether all is written. A text that could not be read to its end has no runs:
+// they would look like those of all of it.
+fn finish(img: &mut [u8], p: Progress) -> bool
+    requires { ⌜ (p .more ≡ false) × (p .failed ≡ false) ⌝ }
+    requires { ⌜ Standing (p .reading) (now img) ⌝ }
+    ensures { λ r. ⌜ (r ≡ true → Ends (p .reading) (now (img .entry)) (now (img .exit))) ⌝ }
+{
+    let r = p.reading;
     if r.number > 9223372036854775807 {
-        return;
+        return false;
     }
     let mut out = [0u8; 157202];
     let q = run_last(img, &mut out, flushed(r));
     let at = q.at;
     if !write_first(&out, at) {
-        return;
+        return false;
     }
     let mut list = [0u8; 22656];
     let end = put_listing(img, &mut list, &mut out);
-    write_first(&out, end);
+    write_first(&out, end)
 }
 
-// A text that could not be read to its end has no runs: they would look like those of all of it.
 fn main() {
     let mut img = [0u8; 32768];
     begin(&mut img);
     let p = read_all(&mut img, at_first());
-    if p.failed {
+    if p.failed | p.more {
         return;
     }
-    finish(&mut img, p.reading);
+    finish(&mut img, p);
 }

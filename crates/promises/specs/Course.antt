@@ -1,5 +1,5 @@
--- Calls that were made, by what the functions for C promise: each one's contract stands here by its own name (`luwhenoka` Promises), so
--- what is proved of a course of calls is proved of what runs. Assumes nothing.
+-- Calls that were made, by what the functions for C promise (`luwhenoka` Promises); that each function keeps its promise, in these very
+-- words, is the contract of its namesake in `src`, so what is proved of a course of calls is proved of what runs. Assumes nothing.
 use Prim.Native.Nat.{ℕ, _<_, _≤_}
 use mathlib.Core.Path.{_≡_}
 use mathlib.Core.Logic.{_≢_, _⊎_}

@@ -1,4 +1,4 @@
--- `luwbook::write_first` is safe: it writes a part. Assumes nothing.
+-- `luwbook::write_first` meets its contract: it writes a part. Assumes nothing.
 use mathlib.Core.Path.{sym}
 use lib.Seq.{length-take-le}
 use borrow.Author.Needs.{needs}
@@ -6,7 +6,19 @@ use Rattle.luwbook.proofs.write_first.Statement.{statement}
 use Rattle.luwbook.proofs.write_first.Tie as tie
 
 slice-aggregate-write-all : tie.Need-slice-aggregate-write-all
-slice-aggregate-write-all c = sym (length-take-le _ _ (c .before .before .pre))
+slice-aggregate-write-all c = sym (length-take-le _ _ (c .before .before .before .pre .0))
+
+returns-3 : tie.Need-returns-3
+returns-3 c = λ z. absurd (c .before .before .before .before .before .if1 .left z)
 
 pub write-first-spec : {M : Type 1} → statement M
-write-first-spec = tie.close (tie.spec slice-aggregate-write-all (λ c κs. search needs) (λ c. search needs))
+write-first-spec =
+    tie.close
+    (tie.spec
+    (λ c. search needs)
+    slice-aggregate-write-all
+    (λ c κs. search needs)
+    (λ c. search needs)
+    (λ c. search needs)
+    (λ c κs. search needs)
+    returns-3)
