@@ -5,4 +5,5 @@ pub mod Book
 pub mod Lists
 pub mod Aggregate
 pub mod Demands
+pub mod Accepted
 pub mod Program

@@ -22,9 +22,9 @@ use Rattle.calls.specs.Refusals.{first, borrowed, scratch-ok, cleared, scratch-
 use Rattle.calls.specs.Calls.{head, head-ok, format-number, format, book-early, book-number, changed, book, instant-number, instant, average-at, runs-over, too-short, written, listing-number, listing, audit-early, audit}
 use Rattle.calls.specs.Program.{onto-first, cut-at, without-empty-last, lines-of, all-digits, number-read, number-from, instant-read, value-read, value-from, line-with, signed-line, line-from, decimal-in, decimal, integer, two-decimals, average-text, refused-text, unread-text, run-text, runs-text, ran-line, ran-lines, program}
 use Rattle.marks.specs.Marks.{formatted, number, after, pair-of, told, full-listing, root-entries, one-booking, withdrawn, greatest-booking, in-a-row, example}
-use Rattle.marks.specs.Cases.{with-byte, step, small, grown-root, shrunk-again, again, hurt-leaf, hurt-root, split-below, given-left, given-right, joined-right}
+use Rattle.marks.specs.Cases.{with-byte, step, small, grown-root, shrunk-again, again, hurt-leaf, unhealed, hurt-root, split-below, given-left, given-right, joined-right}
 
 -- To name this on an `unfolding` line is to open them all.
 unfoldable pub all-definitions : ℕ
-unfolding span-ok value-ok kind-ok window-ok lengthened covers same-number same-pair added greater lesser better combine nearest hundredths signed-as average part patch unused all-are every num digits u32-at i32-at i64-at u32-bytes i32-bytes i64-bytes last-from place end-of splice inserted push level-of number-of listed start-at pair-at child-at entry-at entries-of unused-ok joined entry-bytes tree-bytes next-of free-bytes free-ok never-used-ok head-of head-bytes root-place end-at place-below fewest number-ok starts-ok child-ok children-ok pair-ok pairs-ok page-fit ranges-ok head-fit page-at pages-in length-ok entries-in next-in cell-of cell-bytes image-of image-bytes fresh-page fresh tree-fit tree-pages chain-pages times all-of each-once sound stopped leaf-answer above look look-up run-bytes nothing stopped′ then in-turn under leaf-run overlaps walk-page walk join-after join walk-over entries put with-supply spare taken given-back spares pages-taken with-root counted cut-leaf-entry kept split settled cut-entry root-entry raised grown cut inside meets start-of took sent spread-entries spread-over spread-page spread heals short neighbour left-of pushed both give merge lowered shrunk turn heal-page heal cuts lacks-pages way-from way change cut-names spread-names turned-to heal-names change-names withdraws effect first borrowed scratch-ok cleared scratch-after head head-ok format-number format book-early book-number changed book instant-number instant average-at runs-over too-short written listing-number listing audit-early audit formatted number after pair-of told full-listing root-entries one-booking withdrawn greatest-booking in-a-row example with-byte step small grown-root shrunk-again again hurt-leaf hurt-root split-below given-left given-right joined-right onto-first cut-at without-empty-last lines-of all-digits number-read number-from instant-read value-read value-from line-with signed-line line-from decimal-in decimal integer two-decimals average-text refused-text unread-text run-text runs-text ran-line ran-lines program
+unfolding span-ok value-ok kind-ok window-ok lengthened covers same-number same-pair added greater lesser better combine nearest hundredths signed-as average part patch unused all-are every num digits u32-at i32-at i64-at u32-bytes i32-bytes i64-bytes last-from place end-of splice inserted push level-of number-of listed start-at pair-at child-at entry-at entries-of unused-ok joined entry-bytes tree-bytes next-of free-bytes free-ok never-used-ok head-of head-bytes root-place end-at place-below fewest number-ok starts-ok child-ok children-ok pair-ok pairs-ok page-fit ranges-ok head-fit page-at pages-in length-ok entries-in next-in cell-of cell-bytes image-of image-bytes fresh-page fresh tree-fit tree-pages chain-pages times all-of each-once sound stopped leaf-answer above look look-up run-bytes nothing stopped′ then in-turn under leaf-run overlaps walk-page walk join-after join walk-over entries put with-supply spare taken given-back spares pages-taken with-root counted cut-leaf-entry kept split settled cut-entry root-entry raised grown cut inside meets start-of took sent spread-entries spread-over spread-page spread heals short neighbour left-of pushed both give merge lowered shrunk turn heal-page heal cuts lacks-pages way-from way change cut-names spread-names turned-to heal-names change-names withdraws effect first borrowed scratch-ok cleared scratch-after head head-ok format-number format book-early book-number changed book instant-number instant average-at runs-over too-short written listing-number listing audit-early audit formatted number after pair-of told full-listing root-entries one-booking withdrawn greatest-booking in-a-row example with-byte step small grown-root shrunk-again again hurt-leaf unhealed hurt-root split-below given-left given-right joined-right onto-first cut-at without-empty-last lines-of all-digits number-read number-from instant-read value-read value-from line-with signed-line line-from decimal-in decimal integer two-decimals average-text refused-text unread-text run-text runs-text ran-line ran-lines program
 all-definitions = 0

@@ -1,2 +1,3 @@
 pub mod Courses
+pub mod Changes
 pub mod Kept
