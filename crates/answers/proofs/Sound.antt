@@ -6,13 +6,13 @@ use mathlib.Core.List.{List}
 use Rattle.rule.specs.Time.{END}
 use Rattle.page.specs.declared.Head.{Head}
 use Rattle.page.specs.Fit.{root-place}
-use Rattle.image.specs.Images.{page-at, length-ok}
+use Rattle.image.specs.Images.{page-at}
 use Rattle.image.specs.Sound.{sound}
 use Rattle.image.specs.Instant.{look-up}
 use Rattle.image.specs.Listing.{walk-over}
 use Rattle.calls.specs.Calls.{head-ok, instant, listing}
 use Rattle.calls.specs.Book.{listing-of}
-use Rattle.audit.proofs.Sound.{the-head, sound-facts}
+use Rattle.audit.proofs.Sound.{the-head, sound-facts, sound-whole}
 use Rattle.answers.proofs.Look.{half-some, tree-top, look-fit}
 use Rattle.answers.proofs.Walk.{walk-fit}
 use Rattle.answers.proofs.Calls.{Answered, answers, instant-pair}
@@ -38,11 +38,10 @@ module _ (half : ℕ) (img : List ℕ) (fits : sound half img ≡ true) where
       let h : Head = the-head half img in
       walk-fit half h img a b (h .height - 1) (root-place h) (h .root) (sound-facts half img fits .fit .tree)
 
--- of a length in range: no instant and no listing is turned back by the image
-module _ (half : ℕ) (img : List ℕ) (range : length-ok half img ≡ true) (fits : sound half img ≡ true) where
+  -- no instant and no listing is turned back by the image
   sound-answered : (t : ℕ) → t < END → Answered half t img
   sound-answered t l =
-      record { length-fits = range; before-end = l; head-fits = sound-head half img fits; look-fits = sound-look half img fits t }
+      record { length-fits = sound-whole half img fits; before-end = l; head-fits = sound-head; look-fits = sound-look t }
 
   pub sound-number : (t : ℕ) → t < END → instant half t img .number ≡ 0
   sound-number t l = answers half t img (sound-answered t l)
@@ -52,5 +51,5 @@ module _ (half : ℕ) (img : List ℕ) (range : length-ok half img ≡ true) (fi
 
   pub sound-listing : (a b : ℕ) (out : List ℕ) → listing half a b img out ≡ listing-of (λ t. instant half t img .pair) a b out
   sound-listing a b out =
-      listing-answered half a b img out range
-      (λ _. and-eq-true-iff (head-ok half img) (walk-over half img a b .fit) .1 (sound-head half img fits, sound-walk half img fits a b))
+      listing-answered half a b img out (sound-whole half img fits)
+      (λ _. and-eq-true-iff (head-ok half img) (walk-over half img a b .fit) .1 (sound-head, sound-walk a b))

@@ -1,4 +1,4 @@
--- Soundness by counting is soundness: the same answer on every image of a length in range. Assumes nothing.
+-- Soundness by counting is soundness: the same answer on every image. Assumes nothing.
 use mathlib.Core.Path.{_≡_, refl, sym}
 use mathlib.Core.Bool.{Bool, true, false, and-eq-true-iff}
 use mathlib.Core.List.{List}
@@ -7,7 +7,7 @@ use native.Mathlib.Omega.{arith}
 use lib.ListN.{length}
 use borrow.Author.Tests.{eqb-true, eq-eqb}
 use Rattle.page.specs.Layout.{free-ok}
-use Rattle.image.specs.Images.{page-at, pages-in, length-ok}
+use Rattle.image.specs.Images.{page-at, pages-in}
 use Rattle.image.specs.Sound.{times, sound}
 use Rattle.audit.specs.Counting.{chain-ends, sound-by-counting}
 use Rattle.audit.proofs.Times.{count-of-once, once-of-count}
@@ -26,15 +26,19 @@ pub counted-facts : (half : ℕ) (img : List ℕ) → sound-by-counting half img
 unfolding sound-by-counting
 counted-facts half img e =
     let k = simp and-eq-true-iff at e in
-    record { fit = fit-image half img (k .0) (k .1 .0) (k .1 .1 .1 .1); count = eqb-true _ _ (k .1 .1 .0); ends = k .1 .1 .1 .0 }
+    record {
+      fit = fit-image half img (k .0) (k .1 .0) (k .1 .1 .0) (k .1 .1 .1 .1 .1);
+      count = eqb-true _ _ (k .1 .1 .1 .0);
+      ends = k .1 .1 .1 .1 .0;
+    }
 
 pub facts-counted : (half : ℕ) (img : List ℕ) → Counted half img → sound-by-counting half img ≡ true
 unfolding sound-by-counting
 facts-counted half img f =
     simp and-eq-true-iff
-    (f .fit .head-fits, (f .fit .tree, (eq-eqb _ _ (f .count), (f .ends, never-passes half img (f .fit)))))
+    (f .fit .whole, (f .fit .head-fits, (f .fit .tree, (eq-eqb _ _ (f .count), (f .ends, never-passes half img (f .fit))))))
 
-module _ {half : ℕ} {img : List ℕ} (ok : length-ok half img ≡ true) where
+module _ {half : ℕ} {img : List ℕ} where
   -- A chain that ends is its list, all free pages and none twice; so with as many pages as lie below the mark, each is there once.
   pub counted-sound : Counted half img → Sound-facts half img
   counted-sound f = record { fit = f .fit; once = once; chain-length = chain 0 .long; free = free }
@@ -52,8 +56,8 @@ module _ {half : ℕ} {img : List ℕ} (ok : length-ok half img ≡ true) where
       once : (p : ℕ) → 1 ≤ p → p < the-head half img .mark → times p (the-tree half img) + times p (the-chain half img) ≡ 1
       once zero l h = absurd (omega arith)
       once (suc i) l h =
-          once-of-count (the-head half img .mark - 1) (the-tree half img) (the-chain half img) (tree-within ok (f .fit))
-          (chain-within ok (f .fit) free) (used-once ok (f .fit) free (λ p. chain p .most)) (omega (arith, f .count, chain 0 .long)) i (omega arith)
+          once-of-count (the-head half img .mark - 1) (the-tree half img) (the-chain half img) (tree-within (f .fit))
+          (chain-within (f .fit) free) (used-once (f .fit) free (λ p. chain p .most)) (omega (arith, f .count, chain 0 .long)) i (omega arith)
 
   -- Pages that are there once each are as many as lie below the mark; so the chain's list was not cut off, and the chain ends.
   pub sound-counted : Sound-facts half img → Counted half img
@@ -61,12 +65,12 @@ module _ {half : ℕ} {img : List ℕ} (ok : length-ok half img ≡ true) where
     where
       count : length (the-tree half img) + length (the-chain half img) ≡ the-head half img .mark - 1
       count =
-          count-of-once (the-head half img .mark - 1) (the-tree half img) (the-chain half img) (tree-within ok (f .fit))
-          (chain-within ok (f .fit) (f .free)) (λ i l. f .once (suc i) (omega arith) (omega arith))
+          count-of-once (the-head half img .mark - 1) (the-tree half img) (the-chain half img) (tree-within (f .fit))
+          (chain-within (f .fit) (f .free)) (λ i l. f .once (suc i) (omega arith) (omega arith))
 
       ends : chain-ends half img (length (the-chain half img)) (the-head half img .free) ≡ true
       ends =
-          listed-ends half img ok (pages-in half img) (the-head half img .free)
+          listed-ends half img (f .fit .whole) (pages-in half img) (the-head half img .free)
           (omega (arith, count, f .fit .head, tree-some half img (the-head half img .height - 1) (the-head half img .root))) (f .free)
 
 same-test : (a b : Bool) → (a ≡ true → b ≡ true) → (b ≡ true → a ≡ true) → a ≡ b
@@ -74,7 +78,7 @@ same-test true b f g = sym (f refl)
 same-test false true f g = g refl
 same-test false false f g = refl
 
-pub counting-sound : (half : ℕ) (img : List ℕ) → length-ok half img ≡ true → sound-by-counting half img ≡ sound half img
-counting-sound half img ok =
-    same-test (sound-by-counting half img) (sound half img) (λ e. facts-sound half img (counted-sound ok (counted-facts half img e)))
-    (λ e. facts-counted half img (sound-counted ok (sound-facts half img e)))
+pub counting-sound : (half : ℕ) (img : List ℕ) → sound-by-counting half img ≡ sound half img
+counting-sound half img =
+    same-test (sound-by-counting half img) (sound half img) (λ e. facts-sound half img (counted-sound (counted-facts half img e)))
+    (λ e. facts-counted half img (sound-counted (sound-facts half img e)))

@@ -12,7 +12,7 @@ use Rattle.fields.proofs.Laws.Tests.{every-all, every-of}
 use Rattle.page.specs.declared.Head.{Head}
 use Rattle.page.specs.Layout.{free-ok, never-used-ok, head-of}
 use Rattle.page.specs.Fit.{root-place, head-fit}
-use Rattle.image.specs.Images.{page-at, pages-in}
+use Rattle.image.specs.Images.{page-at, pages-in, length-ok}
 use Rattle.image.specs.Sound.{tree-fit, tree-pages, chain-pages, times, sound}
 use Rattle.audit.proofs.Times.{all-of-each, each-all-of, once-each, each-once-of}
 use Rattle.audit.proofs.Fitness.{Head-facts, head-facts}
@@ -38,16 +38,19 @@ tree-test half img =
 abbrev pub never-test : ℕ → List ℕ → Bool
 never-test half img = every (pages-in half img - the-head half img .mark) (λ i. never-used-ok (page-at half img (the-head half img .mark + i)))
 
--- head and tree are fit, and all is FF from the high mark on
+-- the length is in range, head and tree are fit, and all is FF from the high mark on
 pub record Fit-image (half : ℕ) (img : List ℕ) : Type 0 where
+  pub whole : length-ok half img ≡ true
   pub head-fits : head-test half img ≡ true
   pub head : Head-facts (pages-in half img) (the-head half img)
   pub tree : tree-test half img ≡ true
   pub never : (p : ℕ) → the-head half img .mark ≤ p → p < pages-in half img → never-used-ok (page-at half img p) ≡ true
 
-pub fit-image : (half : ℕ) (img : List ℕ) → head-test half img ≡ true → tree-test half img ≡ true → never-test half img ≡ true → Fit-image half img
-fit-image half img h t n =
+pub fit-image : (half : ℕ) (img : List ℕ) → length-ok half img ≡ true → head-test half img ≡ true → tree-test half img ≡ true
+    → never-test half img ≡ true → Fit-image half img
+fit-image half img w h t n =
     record {
+      whole = w;
       head-fits = h;
       head = head-facts half (pages-in half img) (page-at half img 0) h;
       tree = t;
@@ -72,22 +75,29 @@ unfolding sound
 sound-facts half img e =
     let k = simp and-eq-true-iff at e in
     record {
-      fit = fit-image half img (k .0) (k .1 .0) (k .1 .1 .1 .1 .1);
-      once = once-each _ _ _ (k .1 .1 .0);
-      chain-length = eqb-true _ _ (k .1 .1 .1 .0);
-      free = all-of-each _ _ (k .1 .1 .1 .1 .0);
+      fit = fit-image half img (k .0) (k .1 .0) (k .1 .1 .0) (k .1 .1 .1 .1 .1 .1);
+      once = once-each _ _ _ (k .1 .1 .1 .0);
+      chain-length = eqb-true _ _ (k .1 .1 .1 .1 .0);
+      free = all-of-each _ _ (k .1 .1 .1 .1 .1 .0);
     }
 
 pub facts-sound : (half : ℕ) (img : List ℕ) → Sound-facts half img → sound half img ≡ true
 unfolding sound
 facts-sound half img f =
     simp and-eq-true-iff (
-      f .fit .head-fits,
+      f .fit .whole,
       (
-        f .fit .tree,
+        f .fit .head-fits,
         (
-          each-once-of _ _ _ (f .once),
-          (eq-eqb _ _ (f .chain-length), (each-all-of _ _ (f .free), never-passes half img (f .fit))),
+          f .fit .tree,
+          (
+            each-once-of _ _ _ (f .once),
+            (eq-eqb _ _ (f .chain-length), (each-all-of _ _ (f .free), never-passes half img (f .fit))),
+          ),
         ),
       ),
     )
+
+-- what every call needs of it first
+pub sound-whole : (half : ℕ) (img : List ℕ) → sound half img ≡ true → length-ok half img ≡ true
+sound-whole half img e = sound-facts half img e .fit .whole

@@ -7,7 +7,7 @@ use native.Mathlib.Omega.{arith}
 use native.Mathlib.Decide.{decLe}
 use Rattle.page.specs.Layout.{level-of, free-ok}
 use Rattle.page.specs.Fit.{root-place}
-use Rattle.image.specs.Images.{page-at, pages-in, length-ok}
+use Rattle.image.specs.Images.{page-at, pages-in}
 use Rattle.image.specs.Sound.{times}
 use Rattle.audit.proofs.Times.{Within}
 use Rattle.audit.proofs.Levels.{free-level-is, free-in, used-below}
@@ -15,7 +15,7 @@ use Rattle.audit.proofs.Tree.{Placed, tree-placed}
 use Rattle.audit.proofs.Chain.{chain-least}
 use Rattle.audit.proofs.Sound.{the-head, the-tree, the-chain, Fit-image}
 
-module _ {half : ℕ} {img : List ℕ} (ok : length-ok half img ≡ true) (f : Fit-image half img) where
+module _ {half : ℕ} {img : List ℕ} (f : Fit-image half img) where
   placed : (p : ℕ)
       → Placed (times p (the-tree half img)) p (page-at half img p) (suc (the-head half img .height - 1)) (root-place (the-head half img) .lo)
       (root-place (the-head half img) .hi) (the-head half img .pages)
@@ -33,12 +33,12 @@ module _ {half : ℕ} {img : List ℕ} (ok : length-ok half img ≡ true) (f : F
   pub tree-within : Within (the-head half img .mark - 1) (the-tree half img)
   tree-within p h =
       let n : (1 ≤ p) × (p < the-head half img .pages) = placed p .number h in
-      omega (arith, used-below half img ok (the-head half img .mark) p (f .never) (omega arith) (omega (arith, tree-level p h)))
+      omega (arith, used-below half img (f .whole) (the-head half img .mark) p (f .never) (omega arith) (omega (arith, tree-level p h)))
 
   -- a free page
   pub free-within : (p : ℕ) → free-ok half (page-at half img p) ≡ true → p < the-head half img .mark
   free-within p e =
-      used-below half img ok (the-head half img .mark) p (f .never) (free-in half img ok p e)
+      used-below half img (f .whole) (the-head half img .mark) p (f .never) (free-in half img (f .whole) p e)
       (omega (arith, free-level-is half (page-at half img p) e))
 
   pub tree-not-free : (p : ℕ) → 1 ≤ times p (the-tree half img) → free-ok half (page-at half img p) ≡ true → ⊥

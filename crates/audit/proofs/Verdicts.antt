@@ -31,7 +31,7 @@ pub record Walked (img : List ℕ) (h : Head) (a : Counted) : Type 0 where
 
 pub unsound-head : (img : List ℕ) → length-ok 12 img ≡ true → head-test 12 img ≡ false → false ≡ sound 12 img
 unfolding sound-by-counting
-unsound-head img ok f = fails _ f ∙ counting-sound 12 img ok
+unsound-head img ok f = passes ok (fails _ f) ∙ counting-sound 12 img
 
 module _ {img : List ℕ} {h : Head} (o : Opened img h) where
   pub root-standing : Standing img h (root-place h) (h .root)
@@ -56,7 +56,7 @@ module _ {img : List ℕ} {h : Head} (o : Opened img h) where
       && every (pages-in 12 img - h .mark) (λ i. never-used-ok (page-at 12 img (h .mark + i))))))
       ≡ sound 12 img
   unfolding sound-by-counting root-place
-  sound-parts = rw (o .shown) (passes (o .fit) refl ∙ counting-sound 12 img (o .whole))
+  sound-parts = rw (o .shown) (passes (o .whole) (passes (o .fit) refl) ∙ counting-sound 12 img)
 
 module _ {img : List ℕ} {h : Head} {a : Counted} (w : Walked img h a) where
   pub unsound-tree : a ≡ Unfit → false ≡ sound 12 img

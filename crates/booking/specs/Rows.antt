@@ -8,7 +8,7 @@ use lib.IntN.{ℤ}
 use Rattle.rule.specs.Time.{value-ok, lengthened}
 use Rattle.page.specs.declared.Head.{Head}
 use Rattle.page.specs.Fit.{most-changes}
-use Rattle.image.specs.Images.{length-ok, image-of}
+use Rattle.image.specs.Images.{image-of}
 use Rattle.image.specs.Sound.{sound}
 use Rattle.steps.specs.Change.{lacks-pages}
 use Rattle.calls.specs.Refusals.{Row, first}
@@ -33,7 +33,6 @@ judged side s e img =
 
 -- No row turns the booking back, and h is the image's head.
 pub record Accepts (side : Side) (v : ℤ) (s e : ℕ) (img : List ℕ) (h : Head) : Type 0 where
-  pub whole : length-ok 12 img ≡ true
   pub span : s < e
   pub fits : value-ok v ≡ true
   pub judged-so : Accepted h ≡ judged side s e img

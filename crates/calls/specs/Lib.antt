@@ -6,5 +6,6 @@ pub mod Book
 pub mod Lists
 pub mod Aggregate
 pub mod Demands
+pub mod Accepted
 pub mod Program
 pub mod Examples

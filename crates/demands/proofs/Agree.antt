@@ -13,7 +13,7 @@ use Rattle.rule.specs.Time.{END, span-ok, value-ok, lengthened}
 use Rattle.rule.specs.Pairs.{none}
 use Rattle.rule.specs.Averages.{average}
 use Rattle.page.specs.Fit.{most-changes}
-use Rattle.image.specs.Images.{pages-in, image-of}
+use Rattle.image.specs.Images.{pages-in, length-ok, image-of}
 use Rattle.image.specs.Sound.{sound}
 use Rattle.image.specs.Instant.{look-up}
 use Rattle.steps.specs.Change.{lacks-pages}
@@ -22,6 +22,7 @@ use Rattle.calls.specs.Refusals.{first, scratch-ok}
 use Rattle.calls.specs.Calls.{head, book-early, book-number, book, instant-number, instant, average-at, audit-early, audit, listing}
 use Rattle.calls.specs.Book.{Book, book-pair, listing-of}
 use Rattle.calls.specs.Lists.{Call, booking, asking, averaging, listing-over, auditing, formatting, fixed-number, Refused-format, Refused-formats, Agrees, All-agree}
+use Rattle.audit.proofs.Sound.{sound-whole}
 use Rattle.answers.proofs.Demand.{demand-1}
 use Rattle.answers.proofs.Sound.{sound-number, sound-pair, sound-listing}
 use Rattle.ledger.proofs.Runs.{listing-same}
@@ -54,29 +55,35 @@ numbers b17 b11 b13 c22 c23 b24 e16 e21 e22 e23 = rw (e16, e21, e22, e23) (go b1
     go false false false false false true = inr (refl, refl)
     go false false false false false false = inl refl
 
+-- ---- END, and what lies past it
+
+pub instant-end : (half : ℕ) (img : List ℕ) → sound half img ≡ true → (t : ℕ) → END ≤ t → (instant half t img .number ≡ 12) × (instant half t img .pair ≡ none)
+unfolding instant
+instant-end half img fits t l =
+    let n : instant-number half t img ≡ 12 =
+    unfold instant-number in first-off 16 _ (ap not (sound-whole half img fits)) ∙ first-on 12 _ (le-leb END t l) in
+    (n, ap (λ k. cond (eqb k 0) (look-up half img t .pair) none) n)
+
 module _ {half : ℕ} {img : List ℕ} {B : Book} (K : Kept half img B) where
+  passes-16 : not (length-ok half img) ≡ false
+  passes-16 = ap not (sound-whole half img (K .sound))
+
   agrees-booking : (side : Side) (v : ℤ) (s e : ℕ) (scratch : List ℕ) → Agrees half (booking side v s e scratch) img B
   unfolding Agrees book book-number book-early fixed-number
   agrees-booking side v s e scratch =
       numbers (not (scratch-ok (pages-in half img) scratch)) (not (span-ok s e)) (not (value-ok v)) (withdraws side && not (eqb (B .kind) 1))
       (eqb (length (B .items)) most-changes) (lacks-pages half s (lengthened e (head half img .window)) (image-of half img))
-      (ap not (K .length-fits)) (ap not (K .sound)) (ap (λ k. withdraws side && not (eqb k 1)) (K .kind)) (ap (λ n. eqb n most-changes) (K .changes))
+      passes-16 (ap not (K .sound)) (ap (λ k. withdraws side && not (eqb k 1)) (K .kind)) (ap (λ n. eqb n most-changes) (K .changes))
 
   -- ---- an instant, and an average
 
-  pub instant-end : (t : ℕ) → END ≤ t → (instant half t img .number ≡ 12) × (instant half t img .pair ≡ none)
-  unfolding instant
-  instant-end t l =
-      let n : instant-number half t img ≡ 12 = unfold instant-number in first-off 16 _ (ap not (K .length-fits)) ∙ first-on 12 _ (le-leb END t l) in
-      (n, ap (λ k. cond (eqb k 0) (look-up half img t .pair) none) n)
-
   pub instant-is : (t : ℕ) → t < END → (instant half t img .number ≡ 0) × (instant half t img .pair ≡ book-pair B t)
-  instant-is t l = (sound-number half img (K .length-fits) (K .sound) t l, sound-pair half img (K .length-fits) (K .sound) t l ∙ K .pairs t l)
+  instant-is t l = (sound-number half img (K .sound) t l, sound-pair half img (K .sound) t l ∙ K .pairs t l)
 
   average-end : (t : ℕ) → END ≤ t → average-at half t img ≡ record { number = 12; average = Nothing }
   unfolding average-at
   average-end t l =
-      let n = instant-end t l .0 in
+      let n = instant-end half img (K .sound) t l .0 in
       λ i.
       record {
         number = n i;
@@ -97,7 +104,7 @@ module _ {half : ℕ} {img : List ℕ} {B : Book} (K : Kept half img B) where
 
   agrees-audit : (scratch : List ℕ) → Agrees half (auditing scratch) img B
   unfolding Agrees audit audit-early
-  agrees-audit scratch = first-off 16 _ (ap not (K .length-fits)) ∙ go (not (scratch-ok (pages-in half img) scratch))
+  agrees-audit scratch = first-off 16 _ passes-16 ∙ go (not (scratch-ok (pages-in half img) scratch))
     where
       go : (x : Bool) → first ((17, x) ∷ (21, not (sound half img)) ∷ []) ≡ first ((17, x) ∷ [])
       go true = unfold first in refl
@@ -107,7 +114,7 @@ module _ {half : ℕ} {img : List ℕ} {B : Book} (K : Kept half img B) where
 
   pub listing-is : (a b : ℕ) (out : List ℕ) → listing half a b img out ≡ listing-of (book-pair B) a b out
   listing-is a b out =
-      sound-listing half img (K .length-fits) (K .sound) a b out
+      sound-listing half img (K .sound) a b out
       ∙ listing-same (λ t. instant half t img .pair) (book-pair B) a b out (λ t l h below. instant-is t below .1)
 
   -- ---- any call
@@ -115,7 +122,7 @@ module _ {half : ℕ} {img : List ℕ} {B : Book} (K : Kept half img B) where
   pub agrees : (c : Call) → Refused-format half c img → Agrees half c img B
   unfolding Agrees Refused-format
   agrees (booking side v s e scratch) r = agrees-booking side v s e scratch
-  agrees (asking t) r = (λ l. instant-end t l .0, λ l. instant-is t l)
+  agrees (asking t) r = (λ l. instant-end half img (K .sound) t l .0, λ l. instant-is t l)
   agrees (averaging t) r = (λ l. average-end t l, λ l. average-is t l)
   agrees (listing-over a b out) r = listing-is a b out
   agrees (auditing scratch) r = agrees-audit scratch

@@ -14,12 +14,11 @@ use lib.Seq.{take-nil}
 use borrow.Author.Tests.{eqb-false}
 use Rattle.rule.specs.Time.{END, lengthened, covers}
 use Rattle.rule.specs.Pairs.{combine}
-use Rattle.fields.specs.Bytes.{part}
-use Rattle.fields.proofs.Laws.Digits.{Bytes}
+use Rattle.fields.specs.Bytes.{Bytes, part}
 use Rattle.page.specs.declared.Head.{Head}
 use Rattle.page.specs.Layout.{page-size}
 use Rattle.page.specs.Fit.{most-changes, most-height}
-use Rattle.image.specs.Images.{Image, page-at, pages-in, length-ok, cell-bytes, image-of, image-bytes}
+use Rattle.image.specs.Images.{Image, page-at, cell-bytes, image-of, image-bytes}
 use Rattle.image.specs.Sound.{sound}
 use Rattle.image.specs.Instant.{Looked, look-up}
 use Rattle.audit.proofs.Sound.{the-head}
@@ -35,8 +34,8 @@ use Rattle.state.proofs.From.Good.{sound-good}
 use Rattle.state.proofs.From.Canonical.{canonical}
 use Rattle.state.proofs.From.Look.{look-good}
 use Rattle.image.proofs.Written.{bytes-written}
-use Rattle.state.proofs.To.Sound.{length-written, pages-written, length-fits, page-written, head-read-back, good-sound, look-written}
-use Rattle.ledger.proofs.Accepted.{Passed}
+use Rattle.state.proofs.To.Sound.{length-written, page-written, head-read-back, good-sound, look-written}
+use Rattle.ledger.proofs.Accepted.{Passed, passed}
 use Rattle.demands.proofs.Change.{effective, good-changed, next, next-pairs, good-change}
 
 -- What is asked of half the capacity of a page: 12 has it.
@@ -46,7 +45,7 @@ pub record Wide (half : ℕ) : Type 0 where
 
 -- ---- the image that it leaves
 
-pub image-accepted : (half : ℕ) (side : Side) (v : ℤ) (s e : ℕ) (img scratch : List ℕ) → book half side v s e img scratch .number ≡ 0
+image-accepted : (half : ℕ) (side : Side) (v : ℤ) (s e : ℕ) (img scratch : List ℕ) → book half side v s e img scratch .number ≡ 0
     → book half side v s e img scratch .image ≡ changed half side v s e img
 unfolding book
 image-accepted half side v s e img scratch n = ap (λ k. cond (eqb k 0) (changed half side v s e img) img) n
@@ -64,10 +63,9 @@ beyond half img n p e h =
 -- ---- what holds of it
 
 pub record Left-by-change (half : ℕ) (side : Side) (v : ℤ) (s e : ℕ) (img img′ : List ℕ) : Type 0 where
-  pub length-fits : length-ok half img′ ≡ true
   pub bytes : Bytes img′
   pub sound : sound half img′ ≡ true
-  pub pages : pages-in half img′ ≡ pages-in half img
+  pub size : length img′ ≡ length img
   pub kind : head half img′ .kind ≡ head half img .kind
   pub window : head half img′ .window ≡ head half img .window
   pub changes : head half img′ .changes ≡ suc (head half img .changes)
@@ -90,7 +88,7 @@ module _ {half : ℕ} (wide : Wide half) (side : Side) (v : ℤ) (s e : ℕ) (im
   end = lengthened e (X .head .window)
 
   g : Good half X Y
-  g = sound-good half img some (a .long) (a .whole)
+  g = sound-good half img some (a .whole)
 
   abbrev Z : Image
   Z = change half (combine (X .head .kind)) s end (effect side v) X
@@ -103,7 +101,7 @@ module _ {half : ℕ} (wide : Wide half) (side : Side) (v : ℤ) (s e : ℕ) (im
 
   -- the bytes that it had before are those of its cells
   was : image-bytes half X ≡ img
-  was = canonical half img some (a .long) b (a .whole)
+  was = canonical half img some b (a .whole)
 
   tall : X .head .height ≤ most-height
   tall = wide .low X Y g
@@ -154,20 +152,26 @@ module _ {half : ℕ} (wide : Wide half) (side : Side) (v : ℤ) (s e : ℕ) (im
       ∙ next-pairs (wide .two) s end (effect side v) g t below
       ∙ ap (λ q. cond (covers s end t) (combine (X .head .kind) q (effect side v)) q) (sym before)
 
-  pub change-leaves : Left-by-change half side v s e img (changed half side v s e img)
+  change-leaves : Left-by-change half side v s e img (changed half side v s e img)
   unfolding changed head image-of named
   change-leaves =
       let U : State = next (wide .two) s end (effect side v) g in
       let c = good-changed (wide .two) s end (effect side v) g in
       let h = head-read-back half Z U some g′ tall′ in
       record {
-        length-fits = length-fits half Z U some g′ tall′;
         bytes = bytes-written half Z;
         sound = good-sound half Z U some g′ tall′;
-        pages = pages-written half Z U some g′ tall′ ∙ same-pages ∙ sym (pages-written half X Y some g tall) ∙ ap (pages-in half) was;
+        size = size′ ∙ sym size;
         kind = ap (λ (k : Head). k .kind) h ∙ c .kind;
         window = ap (λ (k : Head). k .window) h ∙ c .window;
         changes = ap (λ (k : Head). k .changes) h ∙ c .changes;
         pairs = paired;
         frame = framed;
       }
+
+-- by the number that it returned
+pub booked : {half : ℕ} → Wide half → (side : Side) (v : ℤ) (s e : ℕ) (img scratch : List ℕ) → Bytes img → book half side v s e img scratch .number ≡ 0
+    → Left-by-change half side v s e img (book half side v s e img scratch .image)
+booked {half} wide side v s e img scratch b n =
+    rw (image-accepted half side v s e img scratch n)
+    (change-leaves wide side v s e img b (passed half side v s e img scratch n))

@@ -1,26 +1,24 @@
 -- Demands 2 and 3, of every history. Assumes nothing.
-use Prim.Native.Nat.{ℕ, _≤_, _<_}
+use Prim.Native.Nat.{ℕ, _<_}
 use mathlib.Core.Path.{_≡_, sym, ap, _∙_}
-use mathlib.Core.Logic.{_⊎_}
 use mathlib.Core.List.{List}
-use native.Mathlib.Decide.{decLe}
-use native.Mathlib.Omega.{arith}
 use lib.IntN.{ℤ}
 use Rattle.rule.specs.declared.Pair.{Pair}
-use Rattle.rule.specs.Time.{END, lengthened}
+use Rattle.rule.specs.Time.{END}
 use Rattle.rule.specs.Averages.{average}
 use Rattle.calls.specs.Changes.{Side, Change}
-use Rattle.calls.specs.Calls.{book, instant}
-use Rattle.calls.specs.Book.{Book, entered, book-pair, listing-of}
+use Rattle.calls.specs.Calls.{head, book}
+use Rattle.calls.specs.Book.{Book, book-pair, listing-of}
 use Rattle.calls.specs.Aggregate.{aggregate}
+use Rattle.calls.specs.Accepted.{Accepted-change, Every-change}
 use Rattle.calls.specs.Demands.{History, at-first, at-last, changes, Demand-2, Demand-3-list, Demand-3-two, Demand-3-one, Demand-3}
 use Rattle.ledger.specs.Books.{book-of, Each, Sided}
-use Rattle.ledger.proofs.Books.{entered-outside, book-is}
+use Rattle.ledger.proofs.Books.{book-is}
 use Rattle.ledger.proofs.Aggregates.{book-aggregate, aggregate-live}
 use Rattle.ledger.proofs.Listings.{book-listing, listing-same-changes}
 use Rattle.demands.proofs.Booked.{Wide}
-use Rattle.demands.proofs.Kept.{Kept, booked, kept-accepted}
-use Rattle.demands.proofs.Agree.{instant-end, instant-is, average-is, listing-is, all-agree}
+use Rattle.demands.proofs.Agree.{instant-is, average-is, listing-is, all-agree}
+use Rattle.demands.proofs.Accepted.{every-change}
 use Rattle.demands.proofs.Histories.{Told, told}
 
 module _ {half : ℕ} (wide : Wide half) where
@@ -64,30 +62,20 @@ module _ {half : ℕ} (wide : Wide half) where
 
     -- ---- demand 3, one more change
 
-    module _ (side : Side) (v : ℤ) (s e : ℕ) (scratch : List ℕ) (n : book half side v s e (at-last half H) scratch .number ≡ 0) where
-      abbrev after : List ℕ
-      after = book half side v s e (at-last half H) scratch .image
+    -- what holds of every change
+    one-more : (side : Side) (v : ℤ) (s e : ℕ) (scratch : List ℕ) → book half side v s e (at-last half H) scratch .number ≡ 0
+        → Accepted-change half side v s e (at-last half H) (book half side v s e (at-last half H) scratch .image)
+    unfolding Every-change
+    one-more side v s e scratch n = every-change wide side v s e (at-last half H) scratch (of-H .last .bytes) n
 
-      agreed : Kept half after (entered 0 side v s e written-in)
-      agreed = kept-accepted wide side v s e scratch (of-H .last) n
-
-      window-is : written-in .window ≡ H .window
-      window-is = ap (λ (B : Book). B .window) (book-is (H .kind) (H .window) (changes half H))
-
-      other-instants : (t : ℕ) → (t < s) ⊎ (lengthened e (H .window) ≤ t) → instant half t after .pair ≡ instant half t (at-last half H) .pair
-      other-instants t o = go (decLe END t)
-        where
-          go : Dec (END ≤ t) → instant half t after .pair ≡ instant half t (at-last half H) .pair
-          go (yes l) = instant-end agreed t l .1 ∙ sym (instant-end (of-H .last) t l .1)
-          go (no l) =
-              let below : t < END = omega arith in
-              instant-is agreed t below .1 ∙ entered-outside side v s e written-in t (rw window-is o) ∙ sym (instant-is (of-H .last) t below .1)
+    window-is : head half (at-last half H) .window ≡ H .window
+    window-is = of-H .last .window ∙ ap (λ (B : Book). B .window) (book-is (H .kind) (H .window) (changes half H))
 
     pub demand-3-one : Demand-3-one half H
     demand-3-one =
         record {
-          instants = other-instants;
-          bytes = λ side v s e scratch n. booked wide side v s e scratch (of-H .last) n .frame;
+          instants = λ side v s e scratch n t o. one-more side v s e scratch n .outside t (rw window-is o);
+          bytes = λ side v s e scratch n. one-more side v s e scratch n .unnamed;
         }
 
   -- ---- demand 3, two images

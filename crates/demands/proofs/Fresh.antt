@@ -26,7 +26,7 @@ use Rattle.view.proofs.Fresh.{fresh-state, fresh-shown}
 use Rattle.state.specs.Good.{Bounds, Good}
 use Rattle.state.proofs.From.Good.{pages-range}
 use Rattle.image.proofs.Written.{bytes-written}
-use Rattle.state.proofs.To.Sound.{length-fits, head-read-back, good-sound, look-written}
+use Rattle.state.proofs.To.Sound.{head-read-back, good-sound, look-written}
 use Rattle.demands.proofs.Rows.{first-none}
 use Rattle.demands.proofs.Kept.{Kept}
 
@@ -91,7 +91,6 @@ module _ (half pages kind window : ℕ) (some : 1 ≤ half) (least : 2 ≤ pages
   kept-fresh =
       let h = head-read-back half X fresh-state some fresh-good tall in
       record {
-        length-fits = length-fits half X fresh-state some fresh-good tall;
         bytes = bytes-written half X;
         sound = good-sound half X fresh-state some fresh-good tall;
         kind = ap (λ (g : Head). g .kind) h ∙ unfold fresh in refl;

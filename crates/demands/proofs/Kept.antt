@@ -8,8 +8,7 @@ use lib.IntN.{ℤ}
 use lib.ListN.{length}
 use Rattle.rule.specs.Time.{END, lengthened, covers}
 use Rattle.rule.specs.Pairs.{combine}
-use Rattle.fields.proofs.Laws.Digits.{Bytes}
-use Rattle.image.specs.Images.{length-ok}
+use Rattle.fields.specs.Bytes.{Bytes}
 use Rattle.image.specs.Sound.{sound}
 use Rattle.image.specs.Instant.{look-up}
 use Rattle.calls.specs.Changes.{Side, effect}
@@ -18,11 +17,9 @@ use Rattle.calls.specs.Book.{Book, entered, book-pair}
 use Rattle.calls.specs.Lists.{Call, booking, asking, averaging, listing-over, auditing, formatting, left-by, left-by-all, Refused-format, Refused-formats, returned, fed, fed-all}
 use Rattle.answers.proofs.Demand.{demand-1}
 use Rattle.ledger.proofs.Books.{entered-onto, entered-refused}
-use Rattle.ledger.proofs.Accepted.{passed}
-use Rattle.demands.proofs.Booked.{Wide, image-accepted, Left-by-change, change-leaves}
+use Rattle.demands.proofs.Booked.{Wide, booked}
 
 pub record Kept (half : ℕ) (img : List ℕ) (B : Book) : Type 0 where
-  pub length-fits : length-ok half img ≡ true
   pub bytes : Bytes img
   pub sound : sound half img ≡ true
   pub kind : head half img .kind ≡ B .kind
@@ -34,18 +31,11 @@ pub record Kept (half : ℕ) (img : List ℕ) (B : Book) : Type 0 where
 
 module _ {half : ℕ} (wide : Wide half) where
   module _ (side : Side) (v : ℤ) (s e : ℕ) {img : List ℕ} (scratch : List ℕ) {B : Book} (K : Kept half img B) where
-    -- what it leaves
-    pub booked : book half side v s e img scratch .number ≡ 0 → Left-by-change half side v s e img (book half side v s e img scratch .image)
-    booked n =
-        rw (image-accepted half side v s e img scratch n)
-        (change-leaves wide side v s e img (K .bytes) (passed half side v s e img scratch n))
-
     pub kept-accepted : book half side v s e img scratch .number ≡ 0 → Kept half (book half side v s e img scratch .image) (entered 0 side v s e B)
     unfolding entered
     kept-accepted n =
-        let c = booked n in
+        let c = booked wide side v s e img scratch (K .bytes) n in
         record {
-          length-fits = c .length-fits;
           bytes = c .bytes;
           sound = c .sound;
           kind = c .kind ∙ K .kind;

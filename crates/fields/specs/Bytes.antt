@@ -1,9 +1,13 @@
 -- Parts of a list of bytes and the writing of a part: the one vocabulary for every byte that is read or written. Assumes nothing.
-use Prim.Native.Nat.{ℕ, zero, suc, _+_}
+use Prim.Native.Nat.{ℕ, zero, suc, _+_, _<_}
 use mathlib.Core.Bool.{Bool, true, _&&_}
 use mathlib.Core.List.{List, [], _∷_, _++_}
-use lib.ListN.{length, take, drop, replicate}
+use lib.ListN.{length, getD, take, drop, replicate}
 use lib.Dec.{eqb}
+
+-- Each number of a list is a byte: below 256. Any slice of bytes has this.
+abbrev pub Bytes : List ℕ → Type 0
+Bytes s = (i : ℕ) → getD s i 0 < 256
 
 -- the n bytes of s from place o on
 unfoldable pub part : List ℕ → ℕ → ℕ → List ℕ

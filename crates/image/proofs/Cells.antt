@@ -7,9 +7,9 @@ use native.Mathlib.Omega.{arith}
 use lib.Dec.{eqb}
 use lib.ListN.{length}
 use borrow.Author.Tests.{eq-eqb, ne-eqb}
-use Rattle.fields.specs.Bytes.{unused}
+use Rattle.fields.specs.Bytes.{Bytes, unused}
 use Rattle.fields.specs.Numbers.{num, u32-at}
-use Rattle.fields.proofs.Laws.Digits.{Bytes, bytes-unused}
+use Rattle.fields.proofs.Laws.Digits.{bytes-unused}
 use Rattle.fields.proofs.Laws.Tests.{length-unused, part-unused}
 use Rattle.page.specs.declared.Entry.{Entry}
 use Rattle.page.specs.Layout.{capacity, page-size, level-of, entries-of, next-of, free-level, tree-bytes, free-bytes, never-used-ok}

@@ -7,9 +7,9 @@ use native.Mathlib.Nat.{mul-zero, mul-suc, add-comm, mul-div-cancel-left}
 use native.Mathlib.Omega.{arith}
 use lib.ListN.{length, length-append}
 use borrow.Author.Tests.{eq-eqb, le-leb}
-use Rattle.fields.specs.Bytes.{part}
+use Rattle.fields.specs.Bytes.{Bytes, part}
 use Rattle.fields.proofs.Laws.Parts.{part-middle, part-append-right}
-use Rattle.fields.proofs.Laws.Digits.{Bytes, bytes-append}
+use Rattle.fields.proofs.Laws.Digits.{bytes-append}
 use Rattle.page.specs.Layout.{page-size, head-of, head-bytes, listed}
 use Rattle.page.specs.Widths.{Head-fits}
 use Rattle.page.proofs.Laws.Heads.{bytes-head, length-head, head-of-head}

@@ -10,7 +10,7 @@ use Rattle.page.specs.declared.Entry.{Entry}
 use Rattle.page.specs.declared.Head.{Head}
 use Rattle.page.specs.Layout.{number-of, child-at, entries-of, next-of, free-ok, never-used-ok, head-of, joined}
 use Rattle.page.specs.Fit.{Place, root-place, place-below, page-fit, head-fit}
-use Rattle.image.specs.Images.{page-at, pages-in}
+use Rattle.image.specs.Images.{page-at, pages-in, length-ok}
 
 -- "Audit goes by page and entry in turn: a page is checked by its entries, and an inner entry by its page below."
 -- The level falls on the way down, so that the walk ends on every image.
@@ -45,17 +45,19 @@ all-of ok (p ∷ ps) = ok p && all-of ok ps
 unfoldable pub each-once : ℕ → List ℕ → List ℕ → Bool
 each-once mark tree chain = every (mark - 1) (λ i. eqb (times (suc i) tree + times (suc i) chain) 1)
 
--- "An image is sound if head and all tree pages are fit, each page below the high mark except 0 is once in the tree or once in
--- the chain, the chain length is true, and free and never used pages read as above."
+-- "The image is n pages of 512 bytes, n from 2 to 1,024." That is asked first, so that nothing else is no sound image. "An image is
+-- sound if head and all tree pages are fit, each page below the high mark except 0 is once in the tree or once in the chain, the
+-- chain length is true, and free and never used pages read as above."
 unfoldable pub sound : ℕ → List ℕ → Bool
 sound half img =
     let n = pages-in half img in
     let h = head-of (page-at half img 0) in
     let tree = tree-pages half img (h .height - 1) (h .root) in
     let chain = chain-pages half img n (h .free) in
-    head-fit half n (page-at half img 0)
+    length-ok half img
+    && (head-fit half n (page-at half img 0)
     && (tree-fit half h img (h .height - 1) (root-place h) (h .root)
     && (each-once (h .mark) tree chain
     && (eqb (length chain) (h .chain)
     && (all-of (λ p. free-ok half (page-at half img p)) chain
-    && every (n - h .mark) (λ i. never-used-ok (page-at half img (h .mark + i)))))))
+    && every (n - h .mark) (λ i. never-used-ok (page-at half img (h .mark + i))))))))

@@ -9,7 +9,7 @@ use lib.IntN.{ℤ}
 use borrow.Author.Tests.{eqb-true, not-false}
 use Rattle.rule.specs.Time.{span-ok, value-ok, lengthened}
 use Rattle.page.specs.Fit.{most-changes}
-use Rattle.image.specs.Images.{length-ok, pages-in, image-of}
+use Rattle.image.specs.Images.{pages-in, image-of}
 use Rattle.image.specs.Sound.{sound}
 use Rattle.steps.specs.Change.{lacks-pages}
 use Rattle.calls.specs.Refusals.{Row, first, scratch-ok}
@@ -55,7 +55,6 @@ fed-book half kind w cs img = fed-all-accepted half cs img (empty-book kind w)
 
 -- A booking that returned 0: no row turned it back.
 pub record Passed (half : ℕ) (side : Side) (v : ℤ) (s e : ℕ) (img scratch : List ℕ) : Type 0 where
-  pub long : length-ok half img ≡ true
   pub lent : scratch-ok (pages-in half img) scratch ≡ true
   pub span : span-ok s e ≡ true
   pub value : value-ok v ≡ true
@@ -81,7 +80,6 @@ passed half side v s e img scratch h =
     let r23 = row 22 _ _ (r22 .1) in
     let r24 = row 23 _ _ (r23 .1) in
     record {
-      long = not-false _ (r16 .0);
       lent = not-false _ (r17 .0);
       span = not-false _ (r11 .0);
       value = not-false _ (r13 .0);

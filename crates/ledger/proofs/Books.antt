@@ -1,7 +1,7 @@
 -- The plain book over lists of changes: entering step by step, and its pair as a total. Assumes nothing.
-use Prim.Native.Nat.{ℕ, suc, _≤_, _<_}
+use Prim.Native.Nat.{ℕ, suc}
 use mathlib.Core.Path.{_≡_, refl, sym, ap, _∙_}
-use mathlib.Core.Logic.{_≢_, _⊎_}
+use mathlib.Core.Logic.{_≢_}
 use mathlib.Core.Bool.{Bool, true, false, cond}
 use mathlib.Core.List.{List, [], _∷_}
 use lib.Dec.{eqb}
@@ -15,7 +15,6 @@ use Rattle.calls.specs.Changes.{Side, effect, Change}
 use Rattle.calls.specs.Book.{Book, empty-book, entered, items-pair, book-pair}
 use Rattle.calls.specs.Demands.{Reordered, Same-changes}
 use Rattle.ledger.specs.Books.{effect-of, entered-all, book-of, item-of, items-onto, items-of, Each, Sided}
-use Rattle.ledger.proofs.Spans.{covers-not}
 use Rattle.ledger.proofs.Totals.{total, total-reordered, between, unit-right, cond-unit}
 use Rattle.ledger.proofs.Struck.{same-changes-total}
 use Rattle.ledger.proofs.Shares.{share, sided-undone}
@@ -59,10 +58,6 @@ module _ (side : Side) (v : ℤ) (s e : ℕ) (B : Book) where
   pub entered-length : length (entered 0 side v s e B .items) ≡ suc (length (B .items))
   unfolding entered
   entered-length = refl
-
-  -- "one more accepted change alters no instant's pair outside its span (lengthened by the window)"
-  pub entered-outside : (t : ℕ) → (t < s) ⊎ (lengthened e (B .window) ≤ t) → book-pair (entered 0 side v s e B) t ≡ book-pair B t
-  entered-outside t h = entered-pair t ∙ ap (λ x. cond x (combine (B .kind) (effect side v) (book-pair B t)) (book-pair B t)) (covers-not s (lengthened e (B .window)) t h)
 
 -- ---- the book of a list
 

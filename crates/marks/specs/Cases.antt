@@ -2,7 +2,8 @@
 -- Most are on pages of four entries (half of which is 2), where splits and joins come early. Assumes nothing.
 use Prim.Native.Nat.{ℕ, _*_, _+_}
 use mathlib.Core.Path.{_≡_}
-use mathlib.Core.List.{List, [], _∷_}
+use mathlib.Core.Bool.{true, false}
+use mathlib.Core.List.{List, [], _∷_, _++_}
 use lib.ListN.{replicate}
 use lib.IntN.{ℤ, pos, negsuc}
 use Rattle.rule.specs.Time.{END, lengthened}
@@ -11,7 +12,8 @@ use Rattle.fields.specs.Bytes.{part, patch}
 use Rattle.fields.specs.Numbers.{u32-bytes, i64-bytes}
 use Rattle.page.specs.Entries.{entry}
 use Rattle.page.specs.Layout.{entries-of}
-use Rattle.image.specs.Images.{page-at}
+use Rattle.image.specs.Images.{page-at, image-bytes, fresh}
+use Rattle.image.specs.Sound.{sound}
 use Rattle.calls.specs.Changes.{Side, entering, withdrawing}
 use Rattle.calls.specs.Calls.{head, format, book, instant, listing, audit, runs-over}
 use Rattle.calls.specs.Program.{program}
@@ -47,6 +49,10 @@ hurt-leaf = with-byte (2 * 112 + 8) 0 grown-root
 
 unfoldable pub hurt-root : List ℕ
 hurt-root = with-byte (3 * 112 + 8) 0 grown-root
+
+-- A sound image that no call leaves: nothing was changed since format, and yet its leaf has two entries, of equal pairs.
+unfoldable pub unhealed : List ℕ
+unhealed = patch (patch (with-byte (112 + 4) 2 (small 4)) (112 + 36) (u32-bytes 10)) (112 + 64) (replicate 16 0)
 
 -- a page below the root splits
 unfoldable pub split-below : List ℕ
@@ -110,6 +116,16 @@ pub record Cases : Type 0 where
   pub least : pair-of 10 (after entering (pos 4) 10 40 (after entering (pos 7) 5 30 (formatted 2 3 0))) ≡ pair (pos 4) (pos 1)
   -- A change is counted.
   pub changes : head half one-booking .changes ≡ 1
+  -- "The image is n pages of 512 bytes, n from 2 to 1,024." Fresh pages are a sound image; with a byte more or less, or as 1,025 pages of
+  -- four entries, they are none, whatever head and tree show.
+  pub length-exact : sound half (formatted 2 1 0) ≡ true
+  pub length-over : sound half (formatted 2 1 0 ++ (255 ∷ [])) ≡ false
+  pub length-under : sound half (part (formatted 2 1 0) 0 1023) ≡ false
+  pub length-1025 : sound 2 (image-bytes 2 (fresh 1025 1 0)) ≡ false
+  -- An image that has no history is changed like any other: its leaf's entries stay, and what is left is sound.
+  pub unhealed-sound : sound 2 unhealed ≡ true
+  pub unhealed-left : entries-of 2 (page-at 2 (step entering (pos 1) 20 25 unhealed) 1) ≡ entry 0 none 0 ∷ entry 10 none 0 ∷ entry 20 (pair (pos 1) (pos 1)) 0 ∷ entry 25 none 0 ∷ []
+  pub unhealed-after : sound 2 (step entering (pos 1) 20 25 unhealed) ≡ true
   -- The chain length is true.
   pub chain-length : audit half (with-byte 16 1 (formatted 2 1 0)) (0 ∷ 0 ∷ []) .number ≡ 21
   -- A split root: the leaf takes first, the root after it, and the old page keeps its half.

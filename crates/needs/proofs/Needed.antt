@@ -14,7 +14,7 @@ use Rattle.rule.specs.Pairs.{none, combine}
 use Rattle.rule.proofs.Laws.{lawful}
 use Rattle.page.specs.declared.Entry.{Entry}
 use Rattle.page.specs.Entries.{entry, at, place}
-use Rattle.image.specs.Images.{Image, length-ok, image-of}
+use Rattle.image.specs.Images.{Image, image-of}
 use Rattle.image.specs.Sound.{sound}
 use Rattle.steps.specs.Supply.{entries, pages-taken}
 use Rattle.steps.specs.Cut.{root-entry, cut as cut-x}
@@ -130,10 +130,10 @@ pub needed-good : {half : ℕ} → 2 ≤ half → (s e : ℕ) → s < e → e �
 needed-good two s e lt end g = needed two leaf-cuttable s e lt end (g .shown) (good-once g) (g .formed)
 
 -- of a sound image: 24's condition before anything is written
-pub lacks-is : {half : ℕ} → 2 ≤ half → (s e : ℕ) → s < e → e ≤ END → (img : List ℕ) → sound half img ≡ true → length-ok half img ≡ true
+pub lacks-is : {half : ℕ} → 2 ≤ half → (s e : ℕ) → s < e → e ≤ END → (img : List ℕ) → sound half img ≡ true
     → (let X = image-of half img in
     ltb (X .head .chain + (X .head .pages - X .head .mark)) (pages-needed half s e X) ≡ lacks-pages half s e X)
 unfolding lacks-pages
-lacks-is {half} two s e lt end img ok long =
+lacks-is {half} two s e lt end img ok =
     let X = image-of half img in
-    ap (ltb (X .head .chain + (X .head .pages - X .head .mark))) (needed-good two s e lt end (sound-good half img (omega arith) long ok))
+    ap (ltb (X .head .chain + (X .head .pages - X .head .mark))) (needed-good two s e lt end (sound-good half img (omega arith) ok))

@@ -53,7 +53,7 @@ module _ {img : List ℕ} {h : Head} (o : Sound-image img h) where
       (record {
         head = the-head 12 img;
         at = root-place (the-head 12 img);
-        size = length-is img (o .whole) ∙ ap (λ n. 512 * n) (sym (f .head .pages-is));
+        size = length-is img (f .whole) ∙ ap (λ n. 512 * n) (sym (f .head .pages-is));
         inside = omega (arith, f .head .root-below, f .head .pages-is);
         level = refl;
         low = omega (arith, f .head .height-least, f .head .height-most);
@@ -101,4 +101,4 @@ module _ {img : List ℕ} {h : Head} (o : Sound-image img h) where
   lacks-asked s e {n} lt end same =
       ap (λ (g : Head). ltb (g .chain + (g .pages - g .mark)) (n .adds + n .pages)) (o .shown)
       ∙ (ap (λ (m : Need). ltb (the-head 12 img .chain + (the-head 12 img .pages - the-head 12 img .mark)) (m .adds + m .pages)) same
-      ∙ lacks-is (omega arith) s e lt end img (o .sound) (o .whole))
+      ∙ lacks-is (omega arith) s e lt end img (o .sound))

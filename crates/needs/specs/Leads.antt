@@ -9,7 +9,7 @@ use Rattle.page.specs.Entries.{at as entry-in, place}
 use Rattle.page.specs.declared.Head.{Head}
 use Rattle.page.specs.Layout.{head-of}
 use Rattle.page.specs.Fit.{Place, most-height}
-use Rattle.image.specs.Images.{page-at, length-ok}
+use Rattle.image.specs.Images.{page-at}
 use Rattle.image.specs.Sound.{tree-fit, sound}
 use Rattle.needs.specs.declared.Need.{Need}
 use Rattle.needs.specs.declared.Met.{Met}
@@ -45,6 +45,5 @@ Leads img t (suc l) e = Fit-from img t l (e .child)
 
 -- A sound image, and the numbers of its head.
 pub record Sound-image (img : List ℕ) (h : Head) : Type 0 where
-  pub whole : length-ok 12 img ≡ true
   pub sound : sound 12 img ≡ true
   pub shown : h ≡ head-of (page-at 12 img 0)

@@ -33,6 +33,7 @@ use Rattle.promises.specs.Course.{Made, Course, noted-all, taken-by-all,
 use Rattle.promises.specs.Demands.{Refusing, From-format, Aggregates, As-the-book, One-more, Same-listing, Demands-met}
 use Rattle.promises.proofs.Courses.{calls-of, answer-number, answer-pair, left-all, refused-all, taken-all, Rights, rights}
 use Rattle.promises.proofs.Tables.{answer-pages, average-number, by-number}
+use Rattle.promises.proofs.Changes.{every-change-promised}
 
 -- ---- demand 1
 
@@ -217,7 +218,7 @@ same-listing {ms} {ns} {last} {end} F G k w S out r q after left a b =
     ∙ ap (λ X. listing 12 0 END X out) (last-is G)
     ∙ sym b
 
--- ---- all three
+-- ---- all of them
 
 pub demands-met : Demands-met
 demands-met =
@@ -228,4 +229,5 @@ demands-met =
       demand-3-list = λ F. as-the-book F;
       demand-3-two = λ F G. same-listing F G;
       demand-3-one = λ F. one-more F;
+      every-change = every-change-promised;
     }

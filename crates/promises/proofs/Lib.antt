@@ -1,3 +1,4 @@
 pub mod Courses
 pub mod Tables
+pub mod Changes
 pub mod Kept

@@ -20,6 +20,7 @@ use Rattle.luwhenoka.specs.declared.AverageAnswer.{AverageAnswer}
 use Rattle.luwhenoka.specs.declared.ListingAnswer.{ListingAnswer}
 use Rattle.luwhenoka.specs.Answers.{pair-of, average-answer, listed}
 use Rattle.luwhenoka.specs.Promises.{Formats, Books, Answers, Averages, Lists, Audits}
+use Rattle.promises.specs.Changes.{Every-change-promised}
 use Rattle.promises.specs.Course.{Made, Course, noted-all, taken-by-all, All-right}
 use Rattle.promises.specs.Tables.{By-number}
 
@@ -103,7 +104,7 @@ Same-listing {ms} {ns} {last} {end} F G =
     → Lists 0 END end out q left
     → listed r after ≡ listed q left
 
--- All three.
+-- All three; and what every accepted change leaves, on any image: the header promises that with no word of a course.
 pub record Demands-met : Type 0 where
   pub demand-1 : Refusing
   pub demand-1-numbers : By-number
@@ -111,3 +112,4 @@ pub record Demands-met : Type 0 where
   pub demand-3-list : {ms : List Made} {last : List ℕ} (F : From-format ms last) → As-the-book F
   pub demand-3-two : {ms ns : List Made} {last end : List ℕ} (F : From-format ms last) (G : From-format ns end) → Same-listing F G
   pub demand-3-one : {ms : List Made} {last : List ℕ} (F : From-format ms last) → One-more F
+  pub every-change : Every-change-promised

@@ -1,3 +1,4 @@
 pub mod Course
 pub mod Tables
+pub mod Changes
 pub mod Demands

@@ -4,23 +4,25 @@ use mathlib.Core.Path.{_≡_, sym, ap, _∙_}
 use mathlib.Core.Bool.{true}
 use mathlib.Core.List.{List}
 use native.Mathlib.Omega.{arith}
-use Rattle.fields.proofs.Laws.Digits.{Bytes, bytes-part}
+use Rattle.fields.specs.Bytes.{Bytes}
+use Rattle.fields.proofs.Laws.Digits.{bytes-part}
 use Rattle.page.proofs.Laws.Heads.{head-of-fits}
-use Rattle.image.specs.Images.{page-at, pages-in, length-ok, image-of}
+use Rattle.image.specs.Images.{page-at, pages-in, image-of}
 use Rattle.image.specs.Sound.{sound}
 use Rattle.audit.proofs.Sound.{Sound-facts, sound-facts}
 use Rattle.state.proofs.From.Canonical.{canonical, canonical-kept}
 use Rattle.state.proofs.From.Good.{pages-range}
 use Rattle.store.specs.Holding.{Holds}
 
-pub sound-holds : (img : List ℕ) → length-ok 12 img ≡ true → Bytes img → sound 12 img ≡ true → Holds img (image-of 12 img)
+pub sound-holds : (img : List ℕ) → Bytes img → sound 12 img ≡ true → Holds img (image-of 12 img)
 unfolding image-of page-at
-sound-holds img ok b e =
+sound-holds img b e =
     let f : Sound-facts 12 img = sound-facts 12 img e in
+    let r = pages-range 12 img (f .fit .whole) in
     record {
-      bytes = sym (canonical 12 img (omega arith) ok b e);
-      sized-kept = canonical-kept 12 img ok b e;
+      bytes = sym (canonical 12 img (omega arith) b e);
+      sized-kept = canonical-kept 12 img b e;
       head-fits = head-of-fits _ (bytes-part img 0 512 b);
-      pages-least = omega (arith, pages-range 12 img ok, f .fit .head .pages-is);
-      pages-most = omega (arith, pages-range 12 img ok, f .fit .head .pages-is);
+      pages-least = omega (arith, r, f .fit .head .pages-is);
+      pages-most = omega (arith, r, f .fit .head .pages-is);
     }

@@ -14,7 +14,7 @@ use Rattle.page.specs.Layout.{number-of, start-at, pair-at, child-at, entry-at,
 use Rattle.page.specs.Fit.{Place, end-at, root-place, place-below, page-fit}
 use Rattle.page.proofs.Laws.Joined.{joined-append, joined-one}
 use Rattle.fit.proofs.Laws.Pages.{page-fit-is}
-use Rattle.image.specs.Images.{page-at, pages-in, length-ok}
+use Rattle.image.specs.Images.{page-at, pages-in}
 use Rattle.image.specs.Listing.{Run, Walked, nothing, stopped, then, in-turn, overlaps, under, leaf-run, walk-page, walk, walk-over, join-after, join}
 use Rattle.image.specs.Sound.{tree-pages, sound}
 use Rattle.calls.specs.Calls.{runs-over}
@@ -150,12 +150,12 @@ join-few [] = omega arith
 join-few (r ∷ rs) = omega (arith, join-after-few (r .pair) rs)
 
 -- "(64 pages ..)"
-pub runs-few : (a b : ℕ) (img : List ℕ) → length-ok 12 img ≡ true → sound 12 img ≡ true → pages-in 12 img ≡ 64
+pub runs-few : (a b : ℕ) (img : List ℕ) → sound 12 img ≡ true → pages-in 12 img ≡ 64
     → length (runs-over 12 a b img) ≤ 1416
 unfolding runs-over walk-over
-runs-few a b img ok fits n =
+runs-few a b img fits n =
     let h : Head = the-head 12 img in
-    let c = sound-counted ok (sound-facts 12 img fits) in
+    let c = sound-counted (sound-facts 12 img fits) in
     let t = leaves-few img (h .height - 1) (h .root) (omega (arith, c .count, c .fit .head .mark-most)) in
     omega (
       arith,

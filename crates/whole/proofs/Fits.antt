@@ -14,7 +14,8 @@ use Rattle.rule.specs.Time.{END, most-value}
 use Rattle.rule.specs.Pairs.{added, combine}
 use Rattle.rule.proofs.Signed.{natAbs-add}
 use Rattle.rule.proofs.Laws.{combine-sum-bound}
-use Rattle.fields.proofs.Laws.Digits.{Bytes, bytes-part}
+use Rattle.fields.specs.Bytes.{Bytes}
+use Rattle.fields.proofs.Laws.Digits.{bytes-part}
 use Rattle.fields.proofs.Laws.Places.{u32}
 use Rattle.page.specs.declared.Head.{Head}
 use Rattle.page.specs.Layout.{start-at, pair-at, child-at, head-of}

@@ -2,7 +2,7 @@
 use mathlib.Core.Path.{_≡_, refl, sym, ap, _∙_, subst}
 use mathlib.Core.Bool.{Bool, true, false, cond}
 use mathlib.Core.List.{List, [], _∷_, _++_}
-use Prim.Native.Nat.{ℕ, suc, _+_, _*_, _-_, _≤_, _<_, _^_}
+use Prim.Native.Nat.{ℕ, suc, _+_, _*_, _-_, _/_, _≤_, _<_, _^_}
 use native.Mathlib.Decide.{ℕ-discrete}
 use native.Mathlib.Omega.{arith}
 use lib.ListN.{length, replicate}
@@ -17,7 +17,7 @@ use Rattle.fields.proofs.Laws.Parts.{part-patch-same}
 use Rattle.page.specs.declared.Head.{Head}
 use Rattle.page.specs.Layout.{page-size, joined}
 use Rattle.page.specs.Fit.{root-place}
-use Rattle.image.specs.Images.{page-at, pages-in, length-ok}
+use Rattle.image.specs.Images.{page-at, pages-in}
 use Rattle.image.specs.Listing.{Run, run-bytes, walk-over}
 use Rattle.image.specs.Sound.{sound}
 use Rattle.calls.specs.Calls.{Listed, head, format, book, runs-over, written, listing}
@@ -26,10 +26,11 @@ use Rattle.calls.specs.Book.{Book, empty-book}
 use Rattle.calls.specs.Program.{Line, booking, unread, ran-line, runs-text, program}
 use Rattle.print.specs.Written.{runs-line}
 use Rattle.runs.proofs.Laws.Entries.{length-runs-bytes}
-use Rattle.audit.proofs.Sound.{the-head, sound-facts}
+use Rattle.audit.proofs.Sound.{the-head, sound-facts, sound-whole}
 use Rattle.answers.proofs.Demand.{demand-1}
 use Rattle.answers.proofs.Sound.{sound-head, sound-walk}
-use Rattle.demands.proofs.Kept.{Kept, booked, kept-accepted}
+use Rattle.demands.proofs.Booked.{booked}
+use Rattle.demands.proofs.Kept.{Kept, kept-accepted}
 use Rattle.demands.proofs.Fresh.{kept-format}
 use Rattle.demands.proofs.All.{twelve}
 use Rattle.luwhenoka.proofs.Laws.Listings.{listing-0}
@@ -50,6 +51,10 @@ pub record Reached (img : List ℕ) : Type 0 where
 
 -- ---- every line leaves such an image
 
+same-pages : (img img′ : List ℕ) → length img′ ≡ length img → pages-in 12 img′ ≡ pages-in 12 img
+unfolding pages-in
+same-pages img img′ e = ap (λ n. n / page-size 12) e
+
 reached-line : (k : ℕ) (l : Line) {img : List ℕ} → Reached img → Reached (ran-line 12 64 k l img .image)
 unfolding ran-line
 reached-line k unread R = R
@@ -57,11 +62,11 @@ reached-line k (booking side v s e) {img} R = step (ℕ-discrete (book 12 side v
   where
     step : Dec (book 12 side v s e img (replicate 64 0) .number ≡ 0) → Reached (book 12 side v s e img (replicate 64 0) .image)
     step (yes n) =
-        let left = booked twelve side v s e (replicate 64 0) (R .kept) n in
+        let left = booked twelve side v s e img (replicate 64 0) (R .kept .bytes) n in
         record {
           book = _;
           kept = kept-accepted twelve side v s e (replicate 64 0) (R .kept) n;
-          pages = left .pages ∙ R .pages;
+          pages = same-pages img (book 12 side v s e img (replicate 64 0) .image) (left .size) ∙ R .pages;
           kind = left .kind ∙ R .kind;
         }
     step (no n) = subst Reached (sym (demand-1 12 .of-booking side v s e img (replicate 64 0) n)) R
@@ -115,10 +120,10 @@ pub listing-printed : {img : List ℕ} → Reached img → (list : List ℕ) →
 unfolding listed-text listing-text written
 listing-printed {img} R list n =
     let rs : List Run = runs-over 12 0 END img in
-    let few = runs-few 0 END img (R .kept .length-fits) (R .kept .sound) (R .pages) in
+    let few = runs-few 0 END img (R .kept .sound) (R .pages) in
     let bs : List ℕ = joined run-bytes rs in
     ap listed-text
-    (sym (listing-0 0 END img list (R .kept .length-fits) (omega arith) (omega arith) (sound-head 12 img (R .kept .sound))
+    (sym (listing-0 0 END img list (sound-whole 12 img (R .kept .sound)) (omega arith) (omega arith) (sound-head 12 img (R .kept .sound))
     (sound-walk 12 img (R .kept .sound) 0 END) (omega (arith, few, n))))
     ∙ ap (λ q. runs-line (length rs) ++ runs-text q)
     (runs-back (patch list 0 bs) 0 (fits R) (part-patch-same list 0 bs (16 * length rs) (length-runs-bytes rs) (omega arith)))

@@ -13,9 +13,9 @@ use Rattle.rule.specs.Time.{lengthened}
 use Rattle.rule.specs.Pairs.{combine}
 use Rattle.page.specs.declared.Head.{Head}
 use Rattle.page.specs.Fit.{most-changes}
-use Rattle.image.specs.Images.{Image, length-ok, image-of, image-bytes}
+use Rattle.image.specs.Images.{Image, image-of, image-bytes}
 use Rattle.image.specs.Sound.{sound}
-use Rattle.fields.proofs.Laws.Digits.{Bytes}
+use Rattle.fields.specs.Bytes.{Bytes}
 use Rattle.steps.specs.Change.{lacks-pages, change}
 use Rattle.calls.specs.Refusals.{first}
 use Rattle.calls.specs.Changes.{Side, withdraws, effect}
@@ -74,7 +74,7 @@ module _ {side : Side} {v : ℤ} {s e : ℕ} {img : List ℕ} {h : Head} (a : Ac
   ready : Changeable (head 12 img .kind) s end (effect side v) X
   unfolding image-of head
   ready =
-      let g = sound-good 12 img (omega arith) (a .whole) accepted-sound in
+      let g = sound-good 12 img (omega arith) accepted-sound in
       let f = facts .0 in
       let n : head 12 img .changes ≢ most-changes = eqb-false (head 12 img .changes) most-changes (f .few) in
       changeable s end (effect side v) g (effective (head 12 img .kind) side v (a .fits) (f .sided))
@@ -90,7 +90,7 @@ module _ {side : Side} {v : ℤ} {s e : ℕ} {img : List ℕ} {h : Head} (a : Ac
         (subst⁻¹ (λ t. Changeable (head 12 img .kind) s t p X) same-end (subst⁻¹ (λ q. Changeable (head 12 img .kind) s end q X) same-effect ready))
 
     holds : Holds img X
-    holds = sound-holds img (a .whole) bytes accepted-sound
+    holds = sound-holds img bytes accepted-sound
 
     pub accepted-some : Some img (Changeable k s to p)
     accepted-some = record { image = X; holds = holds; ready = ready-so }

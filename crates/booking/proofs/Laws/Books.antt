@@ -135,4 +135,4 @@ module _ (side : Side) (v : ℤ) (s e : ℕ) (img scratch : List ℕ) where
     book-done j a c = by-late (sym (accepted-row (first late) (head 12 img) j)) a c
 
     pub accepts : {h : Head} → Accepted h ≡ judged side s e img → Accepts side v s e img h
-    accepts j = record { whole = early-whole; span = early-span; fits = early-fits; judged-so = j }
+    accepts j = record { span = early-span; fits = early-fits; judged-so = j }

@@ -10,15 +10,14 @@ use lib.Arith.{mod-mul}
 use lib.Dec.{lit<}
 use mir.Syntax.{w8}
 use mir.Val.{Fits}
-use mir.Facts.{fits-lit}
-use Rattle.fields.specs.Bytes.{part, patch, unused}
+use Rattle.fields.specs.Bytes.{Bytes, part, patch, unused}
 use Rattle.fields.specs.Numbers.{num, digits}
 
 -- ---- all elements are bytes
 
 -- what `.slice-known .given` and `.shared-slice-known .given` say of a slice
-abbrev pub Bytes : List ℕ → Type 0
-Bytes s = (i : ℕ) → Fits w8 (getD s i 0)
+pub bytes-of : (s : List ℕ) → ((i : ℕ) → Fits w8 (getD s i 0)) → Bytes s
+bytes-of s h i = omega (arith, h i)
 
 pub bytes-append : (xs ys : List ℕ) → Bytes xs → Bytes ys → Bytes (xs ++ ys)
 bytes-append [] ys g h i = h i
@@ -26,8 +25,8 @@ bytes-append (x ∷ xs) ys g h zero = g zero
 bytes-append (x ∷ xs) ys g h (suc i) = bytes-append xs ys (λ j. g (suc j)) h i
 
 bytes-take : (n : ℕ) (s : List ℕ) → Bytes s → Bytes (take n s)
-bytes-take zero s h i = fits-lit tt
-bytes-take (suc n) [] h i = fits-lit tt
+bytes-take zero s h i = lit< tt
+bytes-take (suc n) [] h i = lit< tt
 bytes-take (suc n) (x ∷ s) h zero = h zero
 bytes-take (suc n) (x ∷ s) h (suc i) = bytes-take n s (λ j. h (suc j)) i
 
@@ -43,18 +42,18 @@ unfolding patch
 bytes-patch s o bs g h =
     bytes-append (take o s) (bs ++ drop (o + length bs) s) (bytes-take o s g) (bytes-append bs (drop (o + length bs) s) h (bytes-drop (o + length bs) s g))
 
-pub bytes-replicate : (n b : ℕ) → Fits w8 b → Bytes (replicate n b)
-bytes-replicate zero b h i = fits-lit tt
+pub bytes-replicate : (n b : ℕ) → b < 256 → Bytes (replicate n b)
+bytes-replicate zero b h i = lit< tt
 bytes-replicate (suc n) b h zero = h
 bytes-replicate (suc n) b h (suc i) = bytes-replicate n b h i
 
 pub bytes-unused : (n : ℕ) → Bytes (unused n)
 unfolding unused
-bytes-unused n = bytes-replicate n 255 (fits-lit tt)
+bytes-unused n = bytes-replicate n 255 (lit< tt)
 
 pub bytes-digits : (k v : ℕ) → Bytes (digits k v)
 unfolding digits
-bytes-digits zero v i = fits-lit tt
+bytes-digits zero v i = lit< tt
 bytes-digits (suc k) v zero = omega arith
 bytes-digits (suc k) v (suc i) = bytes-digits k (v / 256) i
 
@@ -75,7 +74,7 @@ pub digits-num : (bs : List ℕ) → Bytes bs → digits (length bs) (num bs) �
 unfolding num digits
 digits-num [] h = refl
 digits-num (b ∷ bs) h =
-    let l : Fits w8 b = h zero in
+    let l : b < 256 = h zero in
     let e : (b + 256 * num bs) % 256 ≡ b = omega arith in
     let f : (b + 256 * num bs) / 256 ≡ num bs = omega arith in
     rw (e, f) (ap (λ r. b ∷ r) (digits-num bs (λ i. h (suc i))))

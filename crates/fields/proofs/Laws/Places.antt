@@ -11,10 +11,10 @@ use lib.Dec.{lit<}
 use mir.Syntax.{Width, w32, w64}
 use mir.Val.{Fits, SFits, bits, toZ, ofZ}
 use mir.ValLaws.{toZ-ofZ, ofZ-toZ, toZ-fits, ofZ-fits}
-use Rattle.fields.specs.Bytes.{part, patch, unused}
+use Rattle.fields.specs.Bytes.{Bytes, part, patch, unused}
 use Rattle.fields.specs.Numbers.{num, digits, u32-at, i32-at, i64-at, u32-bytes, i32-bytes, i64-bytes}
 use Rattle.fields.proofs.Laws.Parts.{length-part, part-first, part-add, part-part, part-append-left, part-append-right, part-patch-same, part-patch-before, part-patch-after, part-patch-inside}
-use Rattle.fields.proofs.Laws.Digits.{Bytes, bytes-part, bytes-digits, length-digits, num-lt, digits-num, num-digits, num-append}
+use Rattle.fields.proofs.Laws.Digits.{bytes-part, bytes-digits, length-digits, num-lt, digits-num, num-digits, num-append}
 
 -- A number of `size` bytes: `at` reads it and `bytes` has its bytes. `Fit` says which numbers have that many bytes.
 pub record Field {A : Type 0} (at : List ℕ → ℕ → A) (bytes : A → List ℕ) (size : ℕ) (Fit : A → Type 0) : Type 0 where

@@ -6,10 +6,10 @@ use native.Mathlib.Nat.{add-zero}
 use native.Mathlib.Omega.{arith}
 use lib.ListN.{length, length-append}
 use lib.Dec.{lit<}
-use Rattle.fields.specs.Bytes.{part, patch}
+use Rattle.fields.specs.Bytes.{Bytes, part, patch}
 use Rattle.fields.proofs.Laws.Parts.{patch-patch-next}
 use Rattle.fields.specs.Numbers.{u32-bytes, i32-bytes, i64-bytes}
-use Rattle.fields.proofs.Laws.Digits.{Bytes, bytes-append}
+use Rattle.fields.proofs.Laws.Digits.{bytes-append}
 use Rattle.fields.proofs.Laws.Places.{Field, u32, i32, i64}
 use Rattle.page.specs.declared.Entry.{Entry}
 use Rattle.page.specs.Entries.{no-entry}

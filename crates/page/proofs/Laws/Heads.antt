@@ -5,10 +5,10 @@ use mathlib.Core.List.{List, [], _∷_}
 use Prim.Native.Nat.{ℕ, _+_, _-_, _*_, _^_, _<_}
 use native.Mathlib.Omega.{arith}
 use lib.ListN.{length, getD, length-append}
-use Rattle.fields.specs.Bytes.{part, unused, all-are}
+use Rattle.fields.specs.Bytes.{Bytes, part, unused, all-are}
 use Rattle.fields.specs.Numbers.{u32-at, u32-bytes}
 use Rattle.fields.proofs.Laws.Parts.{length-part, part-whole}
-use Rattle.fields.proofs.Laws.Digits.{Bytes, bytes-append, bytes-unused}
+use Rattle.fields.proofs.Laws.Digits.{bytes-append, bytes-unused}
 use Rattle.fields.proofs.Laws.Places.{Field, u32}
 use Rattle.fields.proofs.Laws.Tests.{length-unused, all-are-unused, unused-all-are}
 use Rattle.page.specs.declared.Head.{Head}

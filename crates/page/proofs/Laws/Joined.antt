@@ -7,10 +7,10 @@ use native.Mathlib.Nat.{mul-zero, mul-suc, mul-add, add-comm, add-zero, sub-zero
 use native.Mathlib.Numerals.{add-one}
 use native.Mathlib.Omega.{arith}
 use lib.ListN.{length, getD, length-append}
-use mir.Facts.{fits-lit}
-use Rattle.fields.specs.Bytes.{part, patch, unused}
+use lib.Dec.{lit<}
+use Rattle.fields.specs.Bytes.{Bytes, part, patch, unused}
 use Rattle.fields.proofs.Laws.Parts.{part-none, part-add, part-append-right, part-middle, patch-append-left, patch-append-right, patch-whole}
-use Rattle.fields.proofs.Laws.Digits.{Bytes, bytes-append, bytes-unused}
+use Rattle.fields.proofs.Laws.Digits.{bytes-append, bytes-unused}
 use Rattle.fields.proofs.Laws.Tests.{length-unused, unused-add}
 use Rattle.page.specs.Layout.{listed, joined}
 use Rattle.page.proofs.Laws.Listed.{length-listed}
@@ -28,7 +28,7 @@ module _ {A : Type 0} (f : A → List ℕ) where
 
   pub bytes-joined : ((x : A) → Bytes (f x)) → (xs : List A) → Bytes (joined f xs)
   unfolding joined
-  bytes-joined h [] i = fits-lit tt
+  bytes-joined h [] i = lit< tt
   bytes-joined h (x ∷ xs) i = bytes-append (f x) (joined f xs) (h x) (bytes-joined h xs) i
 
 -- A run of `room` places of k bytes: the bytes of xs, the others unused.

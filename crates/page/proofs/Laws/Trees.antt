@@ -7,10 +7,10 @@ use Prim.Native.Nat.{ℕ, _+_, _-_, _*_, _^_, _≤_, _<_, min}
 use native.Mathlib.Nat.{min-eq-left}
 use native.Mathlib.Omega.{arith}
 use lib.ListN.{length, length-append}
-use Rattle.fields.specs.Bytes.{part, patch, unused, all-are}
+use Rattle.fields.specs.Bytes.{Bytes, part, patch, unused, all-are}
 use Rattle.fields.specs.Numbers.{u32-bytes}
 use Rattle.fields.proofs.Laws.Parts.{length-part, part-whole, part-middle, part-append-left}
-use Rattle.fields.proofs.Laws.Digits.{Bytes, bytes-append, bytes-unused}
+use Rattle.fields.proofs.Laws.Digits.{bytes-append, bytes-unused}
 use Rattle.fields.proofs.Laws.Places.{Field, u32}
 use Rattle.fields.proofs.Laws.Tests.{length-unused, unused-add, all-are-unused, unused-all-are}
 use Rattle.page.specs.declared.Entry.{Entry}

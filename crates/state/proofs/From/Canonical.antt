@@ -8,9 +8,9 @@ use native.Mathlib.Omega.{arith}
 use native.Mathlib.Decide.{ℕ-discrete, decLe}
 use lib.ListN.{length}
 use lib.Dec.{eqb}
-use Rattle.fields.specs.Bytes.{part}
+use Rattle.fields.specs.Bytes.{Bytes, part}
 use Rattle.fields.proofs.Laws.Parts.{part-whole}
-use Rattle.fields.proofs.Laws.Digits.{Bytes, bytes-part}
+use Rattle.fields.proofs.Laws.Digits.{bytes-part}
 use Rattle.fields.proofs.Laws.Tests.{length-unused}
 use Rattle.page.specs.declared.Head.{Head}
 use Rattle.page.specs.Layout.{page-size, level-of, number-of, child-at, entries-of, next-of, free-level, never-used-ok, free-ok, head-bytes, listed, joined}
@@ -68,7 +68,7 @@ module _ (half : ℕ) (h : Head) (img : List ℕ) (p : ℕ) where
 
 -- ---- every page
 
-module _ (half : ℕ) (img : List ℕ) (ok : length-ok half img ≡ true) (b : Bytes img) (f : Sound-facts half img) where
+module _ (half : ℕ) (img : List ℕ) (b : Bytes img) (f : Sound-facts half img) where
   bytes-page : (p : ℕ) → Bytes (page-at half img p)
   unfolding page-at
   bytes-page p = bytes-part img (page-size half * p) (page-size half) b
@@ -80,20 +80,20 @@ module _ (half : ℕ) (img : List ℕ) (ok : length-ok half img ≡ true) (b : B
         let h : Head = the-head half img in
         let s : List ℕ = page-at half img p in
         let w = placed half h img p (h .height - 1) (root-place h) (h .root) (f .fit .tree) n in
-        ap (cell-bytes half) (cell-tree half s (omega (arith, tree-level ok (f .fit) p n, f .fit .head .height-most)))
-        ∙ tree-again half s (page-length half img ok p r) (bytes-page p) (w .fit .most) (w .fit .unused)
+        ap (cell-bytes half) (cell-tree half s (omega (arith, tree-level (f .fit) p n, f .fit .head .height-most)))
+        ∙ tree-again half s (page-length half img (f .fit .whole) p r) (bytes-page p) (w .fit .most) (w .fit .unused)
 
     free-cell : free-ok half (page-at half img p) ≡ true → cell-bytes half (cell-of half (page-at half img p)) ≡ page-at half img p
     unfolding cell-bytes
     free-cell e =
         let s : List ℕ = page-at half img p in
-        ap (cell-bytes half) (cell-free half s (free-level-is half s e)) ∙ free-again half s (page-length half img ok p r) (bytes-page p) e
+        ap (cell-bytes half) (cell-free half s (free-level-is half s e)) ∙ free-again half s (page-length half img (f .fit .whole) p r) (bytes-page p) e
 
     never-cell : never-used-ok (page-at half img p) ≡ true → cell-bytes half (cell-of half (page-at half img p)) ≡ page-at half img p
     unfolding cell-bytes
     never-cell e =
         let s : List ℕ = page-at half img p in
-        let n : length s ≡ page-size half = page-length half img ok p r in
+        let n : length s ≡ page-size half = page-length half img (f .fit .whole) p r in
         ap (cell-bytes half) (cell-never half s (never-level (page-size half) s (omega arith) n e)) ∙ sym (unused-again (page-size half) s n e)
 
     page-again : cell-bytes half (cell-of half (page-at half img p)) ≡ page-at half img p
@@ -123,12 +123,13 @@ head-page half img some ok b e =
     (bytes-part img (page-size half * 0) (page-size half) b) (k .1)
     ∙ ap (λ o. part img o (page-size half)) (mul-zero (page-size half))
 
-pub canonical : (half : ℕ) (img : List ℕ) → 1 ≤ half → length-ok half img ≡ true → Bytes img → sound half img ≡ true → image-bytes half (image-of half img) ≡ img
+pub canonical : (half : ℕ) (img : List ℕ) → 1 ≤ half → Bytes img → sound half img ≡ true → image-bytes half (image-of half img) ≡ img
 unfolding image-bytes image-of page-at
-canonical half img some ok b e =
+canonical half img some b e =
     let f : Sound-facts half img = sound-facts half img e in
     let size : ℕ = page-size half in
     let n : ℕ = pages-in half img in
+    let ok = f .fit .whole in
     let u : n ≡ suc (n - 1) = omega (arith, pages-range half img ok) in
     let more : size * n ≡ size + size * (n - 1) = ap (λ k. size * k) u ∙ mul-suc size (n - 1) ∙ add-comm (size * (n - 1)) size in
     let cell : ℕ → List ℕ = λ p. cell-bytes half (cell-of half (page-at half img (suc p))) in
@@ -136,15 +137,15 @@ canonical half img some ok b e =
     ap (λ k. joined cell (listed (k - 1) (λ p. p))) (f .fit .head .pages-is)
     ∙ joined-parts cell size (λ p. length-cell half (page-at half img (suc p))) img size (n - 1) (λ p. p)
     (λ i l.
-    page-again half img ok b f (suc i) (omega arith) (omega arith) ∙ ap (λ o. part img o size) (mul-suc size i ∙ add-comm (size * i) size)) in
+    page-again half img b f (suc i) (omega arith) (omega arith) ∙ ap (λ o. part img o size) (mul-suc size i ∙ add-comm (size * i) size)) in
     part-pieces img 0 size size (size * (n - 1)) (omega arith) (head-page half img some ok b (f .fit .head-fits)) rest
     ∙ part-whole img (size + size * (n - 1)) (length-is half img ok ∙ more)
 
 -- and each page is read back
-pub canonical-kept : (half : ℕ) (img : List ℕ) → length-ok half img ≡ true → Bytes img → sound half img ≡ true
+pub canonical-kept : (half : ℕ) (img : List ℕ) → Bytes img → sound half img ≡ true
     → (p : ℕ) → 1 ≤ p → p < image-of half img .head .pages → Kept half (image-of half img .page p)
 unfolding image-of
-canonical-kept half img ok b e p l r =
+canonical-kept half img b e p l r =
     let f : Sound-facts half img = sound-facts half img e in
     let s : List ℕ = page-at half img p in
-    record { sized = length-cell half s; again = ap (cell-of half) (page-again half img ok b f p l (omega (arith, f .fit .head .pages-is))) }
+    record { sized = length-cell half s; again = ap (cell-of half) (page-again half img b f p l (omega (arith, f .fit .head .pages-is))) }

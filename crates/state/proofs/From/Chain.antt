@@ -6,7 +6,7 @@ use mathlib.Core.List.{List}
 use native.Mathlib.Omega.{arith}
 use borrow.Author.Tests.{eqb-true}
 use Rattle.page.specs.Layout.{page-size, next-of}
-use Rattle.image.specs.Images.{page-at, pages-in, length-ok, image-of}
+use Rattle.image.specs.Images.{page-at, pages-in, image-of}
 use Rattle.image.specs.Sound.{chain-pages}
 use Rattle.image.proofs.Cells.{cell-free, cell-never, never-level}
 use Rattle.view.specs.View.{Linked, ends, leads, Supplied}
@@ -37,10 +37,10 @@ chain-linked half img (suc most) (suc k) p l e =
 
 -- ---- and from the high mark on
 
-pub sound-supplied : (half : ℕ) (img : List ℕ) → length-ok half img ≡ true → Sound-facts half img → Supplied (image-of half img) (state-in half img .supply)
+pub sound-supplied : (half : ℕ) (img : List ℕ) → Sound-facts half img → Supplied (image-of half img) (state-in half img .supply)
 unfolding image-of
-sound-supplied half img ok f =
-    let c : Counted half img = sound-counted ok f in
+sound-supplied half img f =
+    let c : Counted half img = sound-counted f in
     record {
       length-true = sym (f .chain-length);
       linked = chain-linked half img (pages-in half img) (the-head half img .chain) (the-head half img .free) (omega (arith, c .count, f .fit .head .mark-most)) (c .ends);
@@ -48,5 +48,5 @@ sound-supplied half img ok f =
       unused =
           λ p l b.
           let k : p < pages-in half img = omega (arith, f .fit .head .pages-is) in
-          cell-never half (page-at half img p) (never-level (page-size half) (page-at half img p) (omega arith) (page-length half img ok p k) (f .fit .never p l k));
+          cell-never half (page-at half img p) (never-level (page-size half) (page-at half img p) (omega arith) (page-length half img (f .fit .whole) p k) (f .fit .never p l k));
     }

@@ -28,7 +28,7 @@ pages-range half img ok =
     let k = simp and-eq-true-iff at ok in
     (leb-true _ _ (k .1 .0), leb-true _ _ (k .1 .1))
 
-module _ (half : ℕ) (img : List ℕ) (ok : length-ok half img ≡ true) (f : Sound-facts half img) where
+module _ (half : ℕ) (img : List ℕ) (f : Sound-facts half img) where
   sound-shown : Shown (image-of half img) (state-in half img)
   unfolding image-of root-ent root-place
   sound-shown =
@@ -38,13 +38,13 @@ module _ (half : ℕ) (img : List ℕ) (ok : length-ok half img ≡ true) (f : S
         root = refl;
         below =
             tree-shown half h img (h .height - 1) (root-place h) (entry 0 none (h .root)) refl (omega (arith, f .fit .head .height-most)) (f .fit .tree);
-        supplied = sound-supplied half img ok f;
+        supplied = sound-supplied half img f;
       }
 
   sound-ranges : Ranges (image-of half img .head)
   unfolding image-of
   sound-ranges =
-      let r = pages-range half img ok in
+      let r = pages-range half img (f .fit .whole) in
       let g = f .fit .head in
       record {
         pages-least = omega (arith, g .pages-is);
@@ -55,15 +55,15 @@ module _ (half : ℕ) (img : List ℕ) (ok : length-ok half img ≡ true) (f : S
         changes-most = g .changes-most;
       }
 
-pub sound-good : (half : ℕ) (img : List ℕ) → 1 ≤ half → length-ok half img ≡ true → sound half img ≡ true → Good half (image-of half img) (state-in half img)
+pub sound-good : (half : ℕ) (img : List ℕ) → 1 ≤ half → sound half img ≡ true → Good half (image-of half img) (state-in half img)
 unfolding image-of
-sound-good half img some ok e =
+sound-good half img some e =
     let f : Sound-facts half img = sound-facts half img e in
     record {
-      shown = sound-shown half img ok f;
+      shown = sound-shown half img f;
       formed = tree-formed half img some (f .fit);
-      once = held-once half img ok f;
-      head-apart = head-held half img ok f;
+      once = held-once half img f;
+      head-apart = head-held half img f;
       bounds = tree-bounds half img (f .fit);
-      ranges = sound-ranges half img ok f;
+      ranges = sound-ranges half img f;
     }

@@ -1,7 +1,7 @@
 -- Every page of a sound image but the head is held once: by the tree that is loaded, by the chain, or from the high mark on. Assumes nothing.
 use Prim.Native.Nat.{ℕ, zero, suc, _+_, _-_, _≤_, _<_}
 use mathlib.Core.Path.{_≡_, refl, sym, ap, _∙_}
-use mathlib.Core.Bool.{true, cond}
+use mathlib.Core.Bool.{cond}
 use mathlib.Core.List.{List, [], _∷_, _++_, map}
 use native.Mathlib.Omega.{arith}
 use native.Mathlib.Decide.{decLe}
@@ -9,7 +9,7 @@ use lib.Dec.{leb}
 use borrow.Author.Tests.{le-leb, lt-leb}
 use Rattle.page.specs.declared.Entry.{Entry}
 use Rattle.page.specs.Layout.{entries-of, joined}
-use Rattle.image.specs.Images.{page-at, length-ok}
+use Rattle.image.specs.Images.{page-at}
 use Rattle.image.specs.Sound.{tree-pages, times}
 use Rattle.tree.specs.Tree.{Ent, over, pages-under}
 use Rattle.tree.specs.Held.{times-below, times-spare, held}
@@ -45,13 +45,13 @@ module _ (half : ℕ) (img : List ℕ) where
   unfolding held times-below times-spare times
   held-is p = omega (arith, ap (times p) (pages-are half img (the-head half img .height - 1) (the-head half img .root)))
 
-  module _ (ok : length-ok half img ≡ true) (f : Sound-facts half img) where
+  module _ (f : Sound-facts half img) where
     -- neither tree nor chain has the head or a page from the mark on
     tree-inside : (p : ℕ) → 1 ≤ times p (the-tree half img) → (1 ≤ p) × (p < the-head half img .mark)
-    tree-inside p h = omega (arith, tree-within ok (f .fit) p h, f .fit .head .mark-least)
+    tree-inside p h = omega (arith, tree-within (f .fit) p h, f .fit .head .mark-least)
 
     chain-inside : (p : ℕ) → 1 ≤ times p (the-chain half img) → (1 ≤ p) × (p < the-head half img .mark)
-    chain-inside p h = omega (arith, chain-within ok (f .fit) (f .free) p h, f .fit .head .mark-least)
+    chain-inside p h = omega (arith, chain-within (f .fit) (f .free) p h, f .fit .head .mark-least)
 
     outside : (p : ℕ) (ps : List ℕ) → (1 ≤ times p ps → ⊥) → times p ps ≡ 0
     outside p ps h = go (decLe 1 (times p ps))

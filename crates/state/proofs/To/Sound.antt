@@ -43,7 +43,7 @@ module _ (half : ℕ) (X : Image) (Y : State) (some : 1 ≤ half) (g : Good half
   pub pages-written : pages-in half (image-bytes half X) ≡ X .head .pages
   pages-written = pages-of-written half X some one kept
 
-  pub length-fits : length-ok half (image-bytes half X) ≡ true
+  length-fits : length-ok half (image-bytes half X) ≡ true
   length-fits = length-of-fits half X some one kept (g .ranges .pages-least) (g .ranges .pages-most)
 
   pub first-written : page-at half (image-bytes half X) 0 ≡ head-bytes half (X .head)
@@ -193,6 +193,7 @@ module _ (half : ℕ) (X : Image) (Y : State) (some : 1 ≤ half) (g : Good half
       record {
         fit =
             record {
+              whole = length-fits;
               head-fits = head-passes;
               head = head-facts half (pages-in half img) (page-at half img 0) head-passes;
               tree = tree-passes;

@@ -3,6 +3,7 @@ use mathlib.Core.Path.{ap, _∙_}
 use borrow.Author.Needs.{needs}
 use mir.Facts.{toZ-ofZ}
 use Rattle.rule.specs.Time.{lengthened}
+use Rattle.fields.proofs.Laws.Digits.{bytes-of}
 use Rattle.page.specs.declared.Head.{Head}
 use Rattle.booking.proofs.Laws.Accepted.{accepted-head, accepted-some, accepted-changed}
 use Rattle.booking.proofs.changes.make_change.Statement.{statement}
@@ -14,7 +15,7 @@ apply-requires c κs =
     let known = far .before in
     let start = known .before in
     let h = accepted-head (start .pre) in
-    accepted-some (start .pre) (known .slice-known .given) (ap (λ (g : Head). g .kind) h)
+    accepted-some (start .pre) (bytes-of (start .args .img .now) (known .slice-known .given)) (ap (λ (g : Head). g .kind) h)
     (far .lengthened .ensures ∙ ap (λ (g : Head). lengthened (start .args .e) (g .window)) h) (rw (toZ-ofZ (start .fits .v)) at (c .effect .ensures))
 
 returns : tie.Need-returns
@@ -25,7 +26,7 @@ returns c =
     let known = far .before in
     let start = known .before in
     let h = accepted-head (start .pre) in
-    accepted-changed (start .pre) (known .slice-known .given) (ap (λ (g : Head). g .kind) h)
+    accepted-changed (start .pre) (bytes-of (start .args .img .now) (known .slice-known .given)) (ap (λ (g : Head). g .kind) h)
     (far .lengthened .ensures ∙ ap (λ (g : Head). lengthened (start .args .e) (g .window)) h) (rw (toZ-ofZ (start .fits .v)) at (effect .effect .ensures)) (did .apply .ensures)
 
 pub make-change-spec : {M : Type 1} → statement M

@@ -72,8 +72,7 @@ lacks-pages-requires : tie.Need-lacks-pages-requires
 unfolding head
 lacks-pages-requires c κs =
     let head = c .before .before .before .before .before in
-    let start = head .before .before .before .before .before in
-    (record { whole = start .pre .0; sound = passed (head .before .before); shown = read head }, later c)
+    (record { sound = passed (head .before .before); shown = read head }, later c)
 
 pub judge-spec : {M : Type 1} → statement M
 judge-spec =

@@ -1,0 +1,54 @@
+-- What an accepted change leaves of EVERY image: nothing is asked of how the image came about, no format and no earlier call, since
+-- neither document 01's steps nor the header for C ask it. The demands on a list of calls (Demands.antt) are of images with a history.
+-- Assumes nothing.
+use Prim.Native.Nat.{ℕ, suc, _<_, _≤_}
+use mathlib.Core.Path.{_≡_}
+use mathlib.Core.Logic.{_⊎_}
+use mathlib.Core.Bool.{true}
+use mathlib.Core.List.{List, List·Memᴰ}
+use lib.IntN.{ℤ}
+use lib.ListN.{length}
+use Rattle.rule.specs.Time.{END, lengthened}
+use Rattle.rule.specs.Pairs.{combine}
+use Rattle.fields.specs.Bytes.{Bytes}
+use Rattle.image.specs.Images.{page-at}
+use Rattle.image.specs.Sound.{sound}
+use Rattle.calls.specs.Changes.{Side, effect}
+use Rattle.calls.specs.Calls.{head, book, instant}
+use Rattle.calls.specs.Demands.{named}
+
+-- A change by v on [s, e) that took the image img to img′. Its effect covers [s, e′), e′ being `lengthened e w` of the image's own
+-- window w.
+pub record Accepted-change (half : ℕ) (side : Side) (v : ℤ) (s e : ℕ) (img img′ : List ℕ) : Type 0 where
+  -- "every image that a change leaves is sound by document 01's page rules"; in the header: "An accepted one leaves a sound image whose
+  -- count of changes is one higher."
+  pub sound-after : sound half img′ ≡ true
+  -- "Then changes rises by 1."
+  pub changes : head half img′ .changes ≡ suc (head half img .changes)
+  -- "An index has a kind (1 totals, 2 greatest, 3 least) and a window .., both set at format": a change keeps them, and the length
+  pub kind : head half img′ .kind ≡ head half img .kind
+  pub window : head half img′ .window ≡ head half img .window
+  pub size : length img′ ≡ length img
+  -- so that it may be changed again
+  pub bytes : Bytes img′
+  -- every instant is answered, and what was turned back (END, and what lies past it) still is
+  pub answered : (t : ℕ) → t < END → instant half t img′ .number ≡ 0
+  pub numbers : (t : ℕ) → instant half t img′ .number ≡ instant half t img .number
+  -- "one more accepted change alters no instant's pair outside its span (lengthened by the window)"
+  pub outside :
+      (t : ℕ) → (t < s) ⊎ (lengthened e (head half img .window) ≤ t)
+      → instant half t img′ .pair ≡ instant half t img .pair
+  -- "C. Combine the effect into [s, e′)."
+  pub inside :
+      (t : ℕ) → s ≤ t → t < lengthened e (head half img .window)
+      → instant half t img′ .pair ≡ combine (head half img .kind) (instant half t img .pair) (effect side v)
+  -- "and no byte of a page that its five steps in document 01 don't name"
+  pub unnamed : (p : ℕ) → ¬ List·Memᴰ p (named half side v s e img) → page-at half img′ p ≡ page-at half img p
+
+-- Of every image of bytes, which any image lent as bytes is, and of every side, value, span and scratch.
+unfoldable pub Every-change : ℕ → Type 0
+Every-change half =
+    (side : Side) (v : ℤ) (s e : ℕ) (img scratch : List ℕ)
+    → Bytes img
+    → book half side v s e img scratch .number ≡ 0
+    → Accepted-change half side v s e img (book half side v s e img scratch .image)

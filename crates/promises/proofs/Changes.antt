@@ -1,0 +1,34 @@
+-- Every accepted change, of what the functions for C promise. Assumes nothing.
+use mathlib.Core.Path.{sym, ap, _∙_, subst⁻¹}
+use mathlib.Core.List.{List}
+use Prim.Native.Nat.{ℕ}
+use lib.IntN.{ℤ}
+use Rattle.rule.specs.declared.Pair.{Pair}
+use Rattle.rule.specs.Pairs.{combine}
+use Rattle.calls.specs.Changes.{Side, effect}
+use Rattle.calls.specs.Calls.{Booked, head}
+use Rattle.calls.specs.Accepted.{Accepted-change, Every-change}
+use Rattle.demands.proofs.All.{the-changes}
+use Rattle.promises.specs.Changes.{Change-promised, Every-change-promised}
+use Rattle.promises.proofs.Courses.{answer-number, answer-pair}
+
+changed-so : (side : Side) (v : ℤ) (s e : ℕ) (img after : List ℕ) → Accepted-change 12 side v s e img after → Change-promised side v s e img after
+changed-so side v s e img after c =
+    record {
+      leaves = c;
+      answered = λ t r l a. answer-number t after a ∙ c .answered t l;
+      numbers = λ t r q a b. answer-number t after a ∙ c .numbers t ∙ sym (answer-number t img b);
+      outside = λ t r q o a b. answer-pair t after a ∙ c .outside t o ∙ sym (answer-pair t img b);
+      inside =
+          λ t r q l h a b.
+          answer-pair t after a
+          ∙ c .inside t l h
+          ∙ ap (λ (p : Pair). combine (head 12 img .kind) p (effect side v)) (sym (answer-pair t img b));
+    }
+
+pub every-change-promised : Every-change-promised
+unfolding Every-change-promised Every-change
+every-change-promised side v s e img scratch after left b p =
+    changed-so side v s e img after
+    (subst⁻¹ (Accepted-change 12 side v s e img) (ap (λ (x : Booked). x .image) p)
+    (the-changes side v s e img scratch b (sym (ap (λ (x : Booked). x .number) p))))
