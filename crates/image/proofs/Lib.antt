@@ -1,6 +1,7 @@
 -- `Cells` has what a page's bytes are as a cell and which cells are kept, `Rows` pieces of one size one behind another, `Written` the bytes of an image whose pages
--- are kept, and `Puts` those of an image in which one page or the head changed.
+-- are kept, and `Puts` those of an image in which one page or the head changed. `Cases` has the computed cases of the looks of a walk.
 pub mod Cells
 pub mod Rows
 pub mod Written
 pub mod Puts
+pub mod Cases
