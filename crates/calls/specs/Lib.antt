@@ -6,3 +6,4 @@ pub mod Lists
 pub mod Aggregate
 pub mod Demands
 pub mod Program
+pub mod Walks

@@ -1,2 +1,3 @@
 pub mod Courses
 pub mod Kept
+pub mod Header

@@ -1,2 +1,3 @@
 pub mod Course
 pub mod Demands
+pub mod Header
