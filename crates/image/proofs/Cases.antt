@@ -23,6 +23,7 @@ cases =
       left-hurt = refl;
       right-hurt = refl;
       root-hurt = refl;
+      below-hurt = refl;
       page-twice = refl;
       fit-once = refl;
       circle = refl;

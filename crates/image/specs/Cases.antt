@@ -10,9 +10,10 @@ use Rattle.fields.specs.Bytes.{patch}
 use Rattle.page.specs.declared.Entry.{Entry}
 use Rattle.page.specs.Entries.{entry}
 use Rattle.page.specs.Layout.{head-of}
+use Rattle.page.specs.Fit.{root-place}
 use Rattle.image.specs.Images.{Cell, tree, free, never-used, page-at, image-bytes}
 use Rattle.image.specs.Sound.{sound}
-use Rattle.image.specs.Trail.{instant-trail, listing-trail, audit-trail}
+use Rattle.image.specs.Trail.{visits, every-entry, instant-trail, listing-trail, audit-trail}
 use Rattle.image.specs.Looks.{pages-of, found-fit, audit-looks}
 
 -- The leaf on page 1 is fit for the span [0, 15), the one on page 2 for [15, 30) and for [15, END). Page 3 is the root, with the
@@ -65,6 +66,11 @@ pub record Cases : Type 0 where
   pub left-hurt : audit-looks 2 (hurt 1 whole) ≡ 3 ∷ 1 ∷ []
   pub right-hurt : audit-looks 2 (hurt 2 whole) ≡ 3 ∷ 1 ∷ 2 ∷ []
   pub root-hurt : audit-looks 2 (hurt 3 whole) ≡ 3 ∷ []
+  -- Below an unfit page there is nothing to look at, even for a walk that went on.
+  pub below-hurt :
+      let img = hurt 3 whole in
+      let h = head-of (page-at 2 img 0) in
+      pages-of (visits 2 h img every-entry 1 (root-place h) 3) ≡ 3 ∷ []
   -- A page that is met once more is unfit there.
   pub page-twice : pages-of (audit-trail 2 (pages 7 5 2 6 (entry 0 none 1 ∷ entry 15 none 1 ∷ []))) ≡ 3 ∷ 1 ∷ 1 ∷ []
   pub fit-once :
