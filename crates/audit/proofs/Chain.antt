@@ -39,7 +39,7 @@ module _ (half : ℕ) (img : List ℕ) where
   unfolding chain-ends
   linked k p r = simp and-eq-true-iff (le-leb _ _ (r .least), (lt-ltb _ _ (r .below), (r .free, r .next)))
 
-  ended : (p : ℕ) → chain-ends half img 0 p ≡ true → p ≡ 0
+  pub ended : (p : ℕ) → chain-ends half img 0 p ≡ true → p ≡ 0
   unfolding chain-ends
   ended p e = eqb-true p 0 e
 

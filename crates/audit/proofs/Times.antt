@@ -40,7 +40,7 @@ unfolding joined
 joined-append f [] ys = refl
 joined-append f (x ∷ xs) ys = ap (λ r. f x ++ r) (joined-append f xs ys) ∙ sym (append-assoc (f x) (joined f xs) (joined f ys))
 
-joined-more : {A : Type 0} (f : A → List ℕ) (g : ℕ → A) (n : ℕ) → joined f (listed (suc n) g) ≡ joined f (listed n g) ++ f (g n)
+pub joined-more : {A : Type 0} (f : A → List ℕ) (g : ℕ → A) (n : ℕ) → joined f (listed (suc n) g) ≡ joined f (listed n g) ++ f (g n)
 unfolding joined listed
 joined-more f g n = joined-append f (listed n g) (g n ∷ []) ∙ ap (λ r. joined f (listed n g) ++ r) (append-nil (f (g n)))
 

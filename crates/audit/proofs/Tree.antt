@@ -1,8 +1,9 @@
--- A page stands at no two places of a fit tree: the places of one level have spans that follow each other, a page's first start lies
--- in the span of its place, and other levels differ in the level field. By recursion on the level. Assumes nothing.
-use mathlib.Core.Path.{_≡_, ap, _∙_}
-use mathlib.Core.Bool.{true, cond, and-eq-true-iff}
-use mathlib.Core.List.{List, _∷_}
+-- No two looks of a walk find the same page fit, on any image: the places of one level have spans that follow each other, a page's
+-- first start lies in the span of its place, and other levels differ in the level field. So a page stands at no two places of a fit
+-- tree. By recursion on the level. Assumes nothing.
+use mathlib.Core.Path.{_≡_, refl, sym, ap, _∙_}
+use mathlib.Core.Bool.{Bool, true, false, cond, and-eq-true-iff}
+use mathlib.Core.List.{List, [], _∷_, _++_}
 use Prim.Native.Nat.{ℕ, zero, suc, _+_, _-_, _≤_, _<_, min}
 use native.Mathlib.Omega.{arith}
 use native.Mathlib.Decide.{ℕ-discrete, decLe}
@@ -11,11 +12,13 @@ use lib.Dec.{eqb}
 use Rattle.fields.proofs.Laws.Tests.{every-all}
 use Rattle.page.specs.declared.Head.{Head}
 use Rattle.page.specs.Layout.{capacity, level-of, number-of, start-at, child-at, entry-at, entries-of, listed, joined}
-use Rattle.page.specs.Fit.{Place, place-below, end-at}
+use Rattle.page.specs.Fit.{Place, place-below, end-at, page-fit}
 use Rattle.image.specs.Images.{page-at}
 use Rattle.image.specs.Sound.{tree-fit, tree-pages, times}
+use Rattle.image.specs.Trail.{Visit, each-in-turn, finds-fit, visits, every-entry}
+use Rattle.image.specs.Looks.{found-fit}
 use Rattle.audit.proofs.Sums.{total, hit, miss, Held, total-held, total-some}
-use Rattle.audit.proofs.Times.{times-cons, times-joined, length-joined, short-of-once}
+use Rattle.audit.proofs.Times.{times-cons, times-append, joined-more, times-joined, length-joined, short-of-once}
 use Rattle.audit.proofs.Fitness.{Fit-facts, fit-facts, child-in}
 use Rattle.audit.proofs.Spans.{bound, bound-next, bound-in, bound-past, bound-rises, first-low, span-some}
 
@@ -69,6 +72,41 @@ module _ (half : ℕ) (img : List ℕ) (l q : ℕ) (m : number-of (page-at half 
       ∙ ap suc
       (length-joined (λ e. tree-pages half img l (e .child)) (λ i. entry-at half (page-at half img q) i) (number-of (page-at half img q)))
 
+-- ---- what the looks below a page's entries find, one after the other
+
+module _ (half : ℕ) (h : Head) (img : List ℕ) where
+  pub found-append : (vs ws : List Visit) → found-fit half h img (vs ++ ws) ≡ found-fit half h img vs ++ found-fit half h img ws
+  unfolding found-fit
+  found-append [] ws = refl
+  found-append (v ∷ vs) ws = go (finds-fit half h img v) (found-append vs ws)
+    where
+      go : (c : Bool) → found-fit half h img (vs ++ ws) ≡ found-fit half h img vs ++ found-fit half h img ws
+          → cond c (v .page ∷ found-fit half h img (vs ++ ws)) (found-fit half h img (vs ++ ws))
+          ≡ cond c (v .page ∷ found-fit half h img vs) (found-fit half h img vs) ++ found-fit half h img ws
+      go true r = ap (λ z. v .page ∷ z) r
+      go false r = r
+
+  found-times : (n : ℕ) (f : ℕ → List Visit) (p : ℕ)
+      → times p (found-fit half h img (each-in-turn n f)) ≡ total n (λ i. times p (found-fit half h img (f i)))
+  unfolding each-in-turn found-fit times total
+  found-times zero f p = refl
+  found-times (suc n) f p =
+      omega (
+        arith,
+        ap (times p) (found-append (each-in-turn n f) (f n)),
+        times-append p (found-fit half h img (each-in-turn n f)) (found-fit half h img (f n)),
+        found-times n f p,
+      )
+
+  found-joined : {A : Type 0} (n : ℕ) (f : ℕ → List Visit) (g : A → List ℕ) (e : ℕ → A)
+      → ((i : ℕ) → i < n → found-fit half h img (f i) ≡ g (e i)) → found-fit half h img (each-in-turn n f) ≡ joined g (listed n e)
+  unfolding each-in-turn found-fit joined listed
+  found-joined zero f g e r = refl
+  found-joined (suc n) f g e r =
+      found-append (each-in-turn n f) (f n)
+      ∙ (λ j. found-joined n f g e (λ i l. r i (omega arith)) j ++ r n (omega arith) j)
+      ∙ sym (joined-more g e n)
+
 -- ---- one page with what stands below it
 
 module _ (half : ℕ) (h : Head) (img : List ℕ) (p : ℕ) where
@@ -110,20 +148,80 @@ module _ (half : ℕ) (h : Head) (img : List ℕ) (p : ℕ) where
         number = total-some (number-of s) f (λ i k. g i k .number);
       }
 
-  pub tree-placed : (l : ℕ) (at : Place) (q : ℕ) → at .level ≡ l → 1 ≤ q → q < h .pages → tree-fit half h img l at q ≡ true
-      → Placed (times p (tree-pages half img l q)) p (page-at half img p) (suc l) (at .lo) (at .hi) (h .pages)
-  unfolding tree-fit tree-pages times place-below
-  tree-placed zero at q e a b t =
-      top zero q 0 at (fit-facts half h at (page-at half img q) t) e a b (nowhere p (page-at half img p) zero (at .lo) (at .hi) (h .pages))
-  tree-placed (suc l) at q e a b t =
+  -- no two looks of a walk from a page on find page p fit
+  pub visits-placed : (into : Place → List ℕ → ℕ → Bool) (l : ℕ) (at : Place) (q : ℕ) → at .level ≡ l → 1 ≤ q → q < h .pages
+      → Placed (times p (found-fit half h img (visits half h img into l at q))) p (page-at half img p) (suc l) (at .lo) (at .hi) (h .pages)
+  unfolding visits found-fit finds-fit times place-below
+  visits-placed into zero at q e a b = go (page-fit half h at (page-at half img q)) refl
+    where
+      s : List ℕ
+      s = page-at half img p
+
+      go : (c : Bool) → page-fit half h at (page-at half img q) ≡ c → Placed (times p (cond c (q ∷ []) [])) p s 1 (at .lo) (at .hi) (h .pages)
+      go true f = top zero q 0 at (fit-facts half h at (page-at half img q) f) e a b (nowhere p s zero (at .lo) (at .hi) (h .pages))
+      go false f = nowhere p s 1 (at .lo) (at .hi) (h .pages)
+  visits-placed into (suc l) at q e a b =
+      go (λ i. visits-placed into l (place-below half (page-at half img q) at i) (child-at half (page-at half img q) i))
+      (page-fit half h at (page-at half img q)) refl
+    where
+      s : List ℕ
+      s = page-at half img q
+
+      looks : ℕ → List Visit
+      looks i = cond (into at s i) (visits half h img into l (place-below half s at i) (child-at half s i)) []
+
+      one : (i : ℕ) (c : Bool)
+          → Placed (times p (found-fit half h img (visits half h img into l (place-below half s at i) (child-at half s i)))) p (page-at half img p) (suc l)
+          (start-at s i) (end-at s (at .hi) i) (h .pages)
+          → Placed (times p (found-fit half h img (cond c (visits half h img into l (place-below half s at i) (child-at half s i)) []))) p (page-at half img p)
+          (suc l) (start-at s i) (end-at s (at .hi) i) (h .pages)
+      one i true r = r
+      one i false r = nowhere p (page-at half img p) (suc l) (start-at s i) (end-at s (at .hi) i) (h .pages)
+
+      go : ((i : ℕ) → at .level - 1 ≡ l → 1 ≤ child-at half s i → child-at half s i < h .pages
+          → Placed (times p (found-fit half h img (visits half h img into l (place-below half s at i) (child-at half s i)))) p (page-at half img p) (suc l)
+          (start-at s i) (end-at s (at .hi) i) (h .pages))
+          → (c : Bool) → page-fit half h at s ≡ c
+          → Placed
+          (times p
+          (cond c (q ∷ found-fit half h img (cond c (each-in-turn (number-of s) looks) []))
+          (found-fit half h img (cond c (each-in-turn (number-of s) looks) []))))
+          p (page-at half img p) (suc (suc l)) (at .lo) (at .hi) (h .pages)
+      go down true f =
+          let k : Fit-facts half h at s = fit-facts half h at s f in
+          rw (found-times half h img (number-of s) looks p)
+          (top (suc l) q (total (number-of s) (λ i. times p (found-fit half h img (looks i)))) at k e a b
+          (below (suc l) s at k (λ i. times p (found-fit half h img (looks i)))
+          (λ i m.
+          let c : (1 ≤ child-at half s i) × (child-at half s i < h .pages) =
+          child-in (h .pages) (at .level) (child-at half s i) (omega arith) (k .children i m) in
+          one i (into at s i) (down i (omega arith) (c .0) (c .1)))))
+      go down false f = nowhere p (page-at half img p) (suc (suc l)) (at .lo) (at .hi) (h .pages)
+
+-- a walk into every entry of a fit tree finds its pages fit, in turn
+module _ (half : ℕ) (h : Head) (img : List ℕ) where
+  pub tree-found : (l : ℕ) (at : Place) (q : ℕ) → tree-fit half h img l at q ≡ true
+      → found-fit half h img (visits half h img every-entry l at q) ≡ tree-pages half img l q
+  unfolding visits found-fit finds-fit tree-fit tree-pages every-entry entry-at
+  tree-found zero at q t = ap (λ c. cond c (q ∷ []) []) t
+  tree-found (suc l) at q t =
       let k = tree-parts half h img l at q t in
       let s : List ℕ = page-at half img q in
-      rw (tree-times half img l q (k .0 .most) p)
-      (top (suc l) q (total (number-of s) (λ i. times p (tree-pages half img l (child-at half s i)))) at (k .0) e a b
-      (below (suc l) s at (k .0) (λ i. times p (tree-pages half img l (child-at half s i)))
-      (λ i m.
-      let c : (1 ≤ child-at half s i) × (child-at half s i < h .pages) = child-in (h .pages) (at .level) (child-at half s i) (omega arith) (k .0 .children i m) in
-      tree-placed l (place-below half s at i) (child-at half s i) (omega arith) (c .0) (c .1) (k .1 i m))))
+      let looks : ℕ → List Visit = λ i. visits half h img every-entry l (place-below half s at i) (child-at half s i) in
+      let fits : page-fit half h at s ≡ true = (simp and-eq-true-iff at t) .0 in
+      ap
+      (λ c.
+      cond c (q ∷ found-fit half h img (cond c (each-in-turn (number-of s) looks) []))
+      (found-fit half h img (cond c (each-in-turn (number-of s) looks) [])))
+      fits
+      ∙ ap (λ r. q ∷ r)
+      (found-joined half h img (number-of s) looks (λ e. tree-pages half img l (e .child)) (λ i. entry-at half s i)
+      (λ i m. tree-found l (place-below half s at i) (child-at half s i) (k .1 i m)))
+      ∙ sym (tree-more half img l q (k .0 .most))
+
+  pub tree-placed : (p l : ℕ) (at : Place) (q : ℕ) → at .level ≡ l → 1 ≤ q → q < h .pages → tree-fit half h img l at q ≡ true
+      → Placed (times p (tree-pages half img l q)) p (page-at half img p) (suc l) (at .lo) (at .hi) (h .pages)
+  tree-placed p l at q e a b t = rw (tree-found l at q t) at (visits-placed half h img p every-entry l at q e a b)
 
 pub tree-some : (half : ℕ) (img : List ℕ) (l q : ℕ) → 1 ≤ length (tree-pages half img l q)
 unfolding tree-pages

@@ -11,7 +11,8 @@ ghost use mathlib.Core.Path.{_≡_};
 ghost use Rattle.fit.specs.Places.{place-of};
 ghost use Rattle.audit.specs.Walks.{Standing, Inner, counted, counted-below};
 
-// The tree pages from page p at its place down, if all are fit: it ends at the first that is not, so no page is met twice.
+// The tree pages from page p at its place down, if all are fit: it ends at the first that is not. A page is fit at no two places, so
+// none is found fit twice; only the last look, at an unfit page, may be at one that was met before.
 pub fn audit_page(img: &[u8], h: Head, at: Place, p: u32) -> Counted
     requires { ⌜ Standing (now img) h (place-of at) p ⌝ }
     ensures { λ r. ⌜ r ≡ counted 12 h (now (img .entry)) (place-of at) p ⌝ }

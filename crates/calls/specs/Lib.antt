@@ -9,3 +9,4 @@ pub mod Demands
 pub mod Accepted
 pub mod Program
 pub mod Examples
+pub mod Walks

@@ -3,3 +3,5 @@ pub mod Sound
 pub mod Instant
 pub mod Listing
 pub mod Trail
+pub mod Looks
+pub mod Cases

@@ -13,7 +13,7 @@ ghost use Prim.Native.Nat.{_≤_};
 ghost use Rattle.listing.specs.Sits.{Sits, Inside};
 ghost use Rattle.listing.specs.Walks.{page-walk, entry-walk, Room, Does};
 
-// From a page on: its entries in turn, up to the first unfit page.
+// From a page on: its entries in turn, up to the first unfit page. A page is fit at no two places, so none is found fit twice.
 pub fn walk_page(img: &[u8], out: &mut [u8], q: Task, on: Spot, run: Run) -> Walked
     requires { ⌜ Sits (now img) q on ⌝ }
     requires { ⌜ Room (q .writing) run (page-walk (now img) q on) (now out) ⌝ }

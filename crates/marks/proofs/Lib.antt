@@ -1,3 +1,4 @@
 pub mod Opened
 pub mod Marks
 pub mod Cases
+pub mod Looks

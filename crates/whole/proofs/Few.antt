@@ -1,35 +1,30 @@
 -- 64 pages have at most 1,416 runs: 59 leaf pages of 24 entries, three pages above them and the root. Assumes nothing.
-use mathlib.Core.Path.{_≡_, refl, sym, ap, _∙_}
+use mathlib.Core.Path.{_≡_, refl, ap}
 use mathlib.Core.Bool.{Bool, true, false, cond}
-use mathlib.Core.List.{List, [], _∷_, _++_, map}
-use Prim.Native.Nat.{ℕ, zero, suc, _+_, _*_, _-_, _≤_, _<_, min}
+use mathlib.Core.List.{List}
+use Prim.Native.Nat.{ℕ, zero, suc, _+_, _*_, _-_, _≤_, min}
 use native.Mathlib.Nat.{mul-add}
 use native.Mathlib.Omega.{arith}
-use lib.ListN.{length, length-append, length-map}
-use Rattle.rule.specs.Pairs.{same-pair, combine}
-use Rattle.rule.specs.declared.Pair.{Pair}
+use lib.ListN.{length}
 use Rattle.page.specs.declared.Entry.{Entry}
 use Rattle.page.specs.declared.Head.{Head}
-use Rattle.page.specs.Layout.{number-of, start-at, pair-at, child-at, entry-at, entries-of, listed, joined}
+use Rattle.page.specs.Layout.{number-of, start-at, pair-at, child-at, entry-at, entries-of}
 use Rattle.page.specs.Fit.{Place, end-at, root-place, place-below, page-fit}
-use Rattle.page.proofs.Laws.Joined.{joined-append, joined-one}
 use Rattle.fit.proofs.Laws.Pages.{page-fit-is}
 use Rattle.image.specs.Images.{page-at, pages-in}
-use Rattle.image.specs.Listing.{Run, Walked, nothing, stopped, then, in-turn, overlaps, under, leaf-run, walk-page, walk, walk-over, join-after, join}
+use Rattle.image.specs.Listing.{Walked, nothing, stopped, in-turn, overlaps, leaf-run, walk-page, walk, walk-over}
 use Rattle.image.specs.Sound.{tree-pages, sound}
 use Rattle.calls.specs.Calls.{runs-over}
+use Rattle.audit.proofs.Sums.{total, total-ones}
+use Rattle.audit.proofs.Times.{length-joined}
 use Rattle.audit.proofs.Sound.{the-head, sound-facts}
 use Rattle.audit.proofs.Counting.{sound-counted}
+use Rattle.answers.proofs.Few.{turn-le, picked-le, length-under, join-few}
 
--- a sum over the first n
-sum : ℕ → (ℕ → ℕ) → ℕ
-sum zero f = 0
-sum (suc n) f = sum n f + f n
-
-sum-le : (n : ℕ) (f g : ℕ → ℕ) (k m : ℕ) → ((i : ℕ) → k * f i ≤ m * g i) → k * sum n f ≤ m * sum n g
-unfolding sum
+sum-le : (n : ℕ) (f g : ℕ → ℕ) (k m : ℕ) → ((i : ℕ) → k * f i ≤ m * g i) → k * total n f ≤ m * total n g
+unfolding total
 sum-le zero f g k m h = omega arith
-sum-le (suc n) f g k m h = let a = sum-le n f g k m h in let b = h n in more k m (sum n f) (f n) (sum n g) (g n) a b
+sum-le (suc n) f g k m h = let a = sum-le n f g k m h in let b = h n in more k m (total n f) (f n) (total n g) (g n) a b
   where
     more : (k m a b c d : ℕ) → k * a ≤ m * c → k * b ≤ m * d → k * (a + b) ≤ m * (c + d)
     more k m a b c d p q = rw (mul-add k a b, mul-add m c d) (omega (arith, p, q))
@@ -37,27 +32,20 @@ sum-le (suc n) f g k m h = let a = sum-le n f g k m h in let b = h n in more k m
 -- the leaf pages of a tree
 leaves : List ℕ → ℕ → ℕ → ℕ
 leaves img zero p = 1
-leaves img (suc l) p = sum (min (number-of (page-at 12 img p)) 24) (λ i. leaves img l (child-at 12 (page-at 12 img p) i))
+leaves img (suc l) p = total (min (number-of (page-at 12 img p)) 24) (λ i. leaves img l (child-at 12 (page-at 12 img p) i))
 
 -- the pages of a tree, by its entries
-length-joined-listed : {A : Type 0} (f : A → List ℕ) (n : ℕ) (g : ℕ → A) → length (joined f (listed n g)) ≡ sum n (λ i. length (f (g i)))
-unfolding sum listed joined
-length-joined-listed f zero g = refl
-length-joined-listed f (suc n) g =
-    ap length (joined-append f (listed n g) (g n ∷ []))
-    ∙ length-append (joined f (listed n g)) (joined f (g n ∷ []))
-    ∙ (λ j. length-joined-listed f n g j + length (joined-one f (g n) j))
-
 pages-more : (img : List ℕ) (l p : ℕ)
     → length (tree-pages 12 img (suc l) p)
-    ≡ suc (sum (min (number-of (page-at 12 img p)) 24) (λ i. length (tree-pages 12 img l (child-at 12 (page-at 12 img p) i))))
+    ≡ suc (total (min (number-of (page-at 12 img p)) 24) (λ i. length (tree-pages 12 img l (child-at 12 (page-at 12 img p) i))))
 unfolding tree-pages entries-of entry-at
-pages-more img l p = ap suc (length-joined-listed (λ (e : Entry). tree-pages 12 img l (e .child)) _ _)
+pages-more img l p =
+    ap suc
+    (length-joined (λ (e : Entry). tree-pages 12 img l (e .child)) (λ i. entry-at 12 (page-at 12 img p) i)
+    (min (number-of (page-at 12 img p)) 24))
 
-sum-ones : (n : ℕ) → sum n (λ _. 1) ≡ n
-unfolding sum
-sum-ones zero = refl
-sum-ones (suc n) = omega (arith, sum-ones n)
+sum-ones : (n : ℕ) → total n (λ _. 1) ≡ n
+sum-ones n = total-ones n (λ _. 1) (λ i l. refl)
 
 -- above 24 leaf pages stands one page, above those of them the root
 leaf-part : (img : List ℕ) (l p : ℕ) → 25 * leaves img (suc l) p ≤ 24 * length (tree-pages 12 img (suc l) p)
@@ -91,63 +79,34 @@ leaves-few img (suc (suc l)) p h = omega (arith, leaf-more img l p)
 
 -- ---- the runs that a walk finds
 
-turn-le : (n : ℕ) (f : ℕ → Walked) (g : ℕ → ℕ) (k : ℕ) → ((i : ℕ) → length (f i .runs) ≤ k * g i) → length (in-turn n f .runs) ≤ k * sum n g
-unfolding sum in-turn then nothing
-turn-le zero f g k h = omega arith
-turn-le (suc n) f g k h =
-    rw (mul-add k (sum n g) (g n)) (omega (arith, length-append (in-turn n f .runs) (f n .runs), turn-le n f g k h, h n))
-
 -- of a page, if it is fit
 page-le : (h : Head) (a b : ℕ) (at : Place) (s : List ℕ) (below : ℕ → Walked) (g : ℕ → ℕ) (k : ℕ)
-    → ((i : ℕ) → length (below i .runs) ≤ k * g i) → length (walk-page 12 h a b at s below .runs) ≤ k * sum (min (number-of s) 24) g
+    → ((i : ℕ) → length (below i .runs) ≤ k * g i) → length (walk-page 12 h a b at s below .runs) ≤ k * total (min (number-of s) 24) g
 unfolding walk-page stopped nothing
 page-le h a b at s below g k f = go (page-fit 12 h at s) refl
   where
     found : ℕ → Walked
     found i = cond (overlaps a b (start-at s i) (end-at s (at .hi) i)) (below i) nothing
 
-    one : (t : Bool) (w : Walked) (m : ℕ) → length (w .runs) ≤ m → length (cond t w nothing .runs) ≤ m
-    one true w m e = e
-    one false w m e = omega arith
-
     go : (t : Bool) → page-fit 12 h at s ≡ t
-        → length (cond t (in-turn (number-of s) found) stopped .runs) ≤ k * sum (min (number-of s) 24) g
+        → length (cond t (in-turn (number-of s) found) stopped .runs) ≤ k * total (min (number-of s) 24) g
     go true e =
         let n : min (number-of s) 24 ≡ number-of s = omega (arith, page-fit-is 12 h at s .0 e .most) in
-        rw n (turn-le (number-of s) found g k (λ i. one (overlaps a b (start-at s i) (end-at s (at .hi) i)) (below i) (k * g i) (f i)))
+        rw n (turn-le (number-of s) found g k (λ i. picked-le (overlaps a b (start-at s i) (end-at s (at .hi) i)) (below i) (k * g i) (f i)))
     go false e = omega arith
-
-length-under : (comb : Pair → Pair → Pair) (p : Pair) (w : Walked) → length (under comb p w .runs) ≡ length (w .runs)
-unfolding under
-length-under comb p w = length-map (w .runs) _
 
 walk-le : (h : Head) (img : List ℕ) (a b l : ℕ) (at : Place) (p : ℕ) → length (walk 12 h img a b l at p .runs) ≤ 24 * leaves img l p
 unfolding walk leaves leaf-run
 walk-le h img a b zero at p =
     let s = page-at 12 img p in
     let leaf : ℕ → Walked = λ i. leaf-run a (start-at s i) (pair-at 12 s i) in
-    let few : length (walk-page 12 h a b at s leaf .runs) ≤ 1 * sum (min (number-of s) 24) (λ _. 1) =
+    let few : length (walk-page 12 h a b at s leaf .runs) ≤ 1 * total (min (number-of s) 24) (λ _. 1) =
     page-le h a b at s leaf (λ _. 1) 1 (λ i. omega arith) in
     omega (arith, few, sum-ones (min (number-of s) 24))
 walk-le h img a b (suc l) at p =
     let s = page-at 12 img p in
     page-le h a b at s _ (λ i. leaves img l (child-at 12 s i)) 24
     (λ i. rw length-under (walk-le h img a b l (place-below 12 s at i) (child-at 12 s i)))
-
-join-after-few : (p : Pair) (rs : List Run) → length (join-after p rs) ≤ length rs
-unfolding join-after
-join-after-few p [] = omega arith
-join-after-few p (r ∷ rs) = pick (same-pair p (r .pair)) (join-after-few p rs) (join-after-few (r .pair) rs)
-  where
-    pick : (t : Bool) → length (join-after p rs) ≤ length rs → length (join-after (r .pair) rs) ≤ length rs
-        → length (cond t (join-after p rs) (r ∷ join-after (r .pair) rs)) ≤ suc (length rs)
-    pick true x y = omega arith
-    pick false x y = omega arith
-
-join-few : (rs : List Run) → length (join rs) ≤ length rs
-unfolding join
-join-few [] = omega arith
-join-few (r ∷ rs) = omega (arith, join-after-few (r .pair) rs)
 
 -- "(64 pages ..)"
 pub runs-few : (a b : ℕ) (img : List ℕ) → sound 12 img ≡ true → pages-in 12 img ≡ 64

@@ -1,0 +1,194 @@
+-- How many runs a walk finds: for each page that it finds fit, no more than a page has places for entries. Assumes nothing.
+use mathlib.Core.Path.{_≡_, refl, ap}
+use mathlib.Core.Logic.{_≢_}
+use mathlib.Core.Bool.{Bool, true, false, cond, not, _&&_, and-eq-true-iff, true≢false}
+use mathlib.Core.List.{List, [], _∷_}
+use Prim.Native.Nat.{ℕ, zero, suc, _*_, _-_, _≤_}
+use native.Mathlib.Nat.{mul-add, mul-le-mul-left}
+use native.Mathlib.Omega.{arith}
+use lib.ListN.{length, length-append, length-map}
+use lib.Dec.{eqb}
+use borrow.Author.Tests.{le-ltb}
+use Rattle.rule.specs.declared.Pair.{Pair}
+use Rattle.rule.specs.Pairs.{same-pair, combine}
+use Rattle.rule.specs.Time.{span-ok}
+use Rattle.page.specs.declared.Head.{Head}
+use Rattle.page.specs.Layout.{capacity, number-of, start-at, pair-at, child-at}
+use Rattle.page.specs.Fit.{Place, root-place, place-below, end-at, page-fit}
+use Rattle.image.specs.Images.{page-at, pages-in, length-ok}
+use Rattle.image.specs.Listing.{Run, Walked, nothing, stopped, then, in-turn, under, leaf-run, overlaps, walk-page, walk, walk-over, join-after, join}
+use Rattle.image.specs.Trail.{Visit, each-in-turn, finds-fit, visits, entries-over}
+use Rattle.image.specs.Looks.{found-fit}
+use Rattle.calls.specs.Refusals.{first}
+use Rattle.calls.specs.Calls.{head-ok, runs-over, too-short, listing-number, listing}
+use Rattle.calls.specs.Walks.{Few-runs}
+use Rattle.audit.proofs.Sums.{total, total-ones}
+use Rattle.audit.proofs.Fitness.{fit-facts}
+use Rattle.audit.proofs.Sound.{the-head}
+use Rattle.audit.proofs.Tree.{found-append}
+use Rattle.audit.proofs.Trails.{all-visits, found-short}
+
+-- ---- walks in turn
+
+pub turn-le : (n : ℕ) (f : ℕ → Walked) (g : ℕ → ℕ) (k : ℕ) → ((i : ℕ) → length (f i .runs) ≤ k * g i)
+    → length (in-turn n f .runs) ≤ k * total n g
+unfolding total in-turn then nothing
+turn-le zero f g k h = omega arith
+turn-le (suc n) f g k h =
+    rw (mul-add k (total n g) (g n)) (omega (arith, length-append (in-turn n f .runs) (f n .runs), turn-le n f g k h, h n))
+
+pub picked-le : (t : Bool) (w : Walked) (m : ℕ) → length (w .runs) ≤ m → length (cond t w nothing .runs) ≤ m
+unfolding nothing
+picked-le true w m e = e
+picked-le false w m e = omega arith
+
+pub length-under : (comb : Pair → Pair → Pair) (p : Pair) (w : Walked) → length (under comb p w .runs) ≡ length (w .runs)
+unfolding under
+length-under comb p w = length-map (w .runs) _
+
+-- ---- joining makes them fewer
+
+join-after-few : (p : Pair) (rs : List Run) → length (join-after p rs) ≤ length rs
+unfolding join-after
+join-after-few p [] = omega arith
+join-after-few p (r ∷ rs) = pick (same-pair p (r .pair)) (join-after-few p rs) (join-after-few (r .pair) rs)
+  where
+    pick : (t : Bool) → length (join-after p rs) ≤ length rs → length (join-after (r .pair) rs) ≤ length rs
+        → length (cond t (join-after p rs) (r ∷ join-after (r .pair) rs)) ≤ suc (length rs)
+    pick true x y = omega arith
+    pick false x y = omega arith
+
+pub join-few : (rs : List Run) → length (join rs) ≤ length rs
+unfolding join
+join-few [] = omega arith
+join-few (r ∷ rs) = omega (arith, join-after-few (r .pair) rs)
+
+-- ---- a walk, by the pages that it finds fit
+
+module _ (half : ℕ) (h : Head) (img : List ℕ) where
+  found-length : (n : ℕ) (f : ℕ → List Visit) → length (found-fit half h img (each-in-turn n f)) ≡ total n (λ i. length (found-fit half h img (f i)))
+  unfolding each-in-turn found-fit total
+  found-length zero f = refl
+  found-length (suc n) f =
+      omega (
+        arith,
+        ap length (found-append half h img (each-in-turn n f) (f n)),
+        length-append (found-fit half h img (each-in-turn n f)) (found-fit half h img (f n)),
+        found-length n f,
+      )
+
+  module _ (a b : ℕ) where
+    walk-few : (l : ℕ) (at : Place) (p : ℕ)
+        → length (walk half h img a b l at p .runs) ≤ capacity half * length (found-fit half h img (visits half h img (entries-over a b) l at p))
+    unfolding walk walk-page visits found-fit finds-fit entries-over stopped leaf-run
+    walk-few zero at p = go (page-fit half h at s) refl
+      where
+        s : List ℕ
+        s = page-at half img p
+
+        found : ℕ → Walked
+        found i = cond (overlaps a b (start-at s i) (end-at s (at .hi) i)) (leaf-run a (start-at s i) (pair-at half s i)) nothing
+
+        go : (c : Bool) → page-fit half h at s ≡ c
+            → length (cond c (in-turn (number-of s) found) stopped .runs) ≤ capacity half * length (cond c (p ∷ []) [])
+        go true e =
+            let few : length (in-turn (number-of s) found .runs) ≤ 1 * total (number-of s) (λ _. 1) =
+            turn-le (number-of s) found (λ _. 1) 1
+            (λ i. picked-le (overlaps a b (start-at s i) (end-at s (at .hi) i)) (leaf-run a (start-at s i) (pair-at half s i)) 1 (omega arith)) in
+            omega (arith, few, total-ones (number-of s) (λ _. 1) (λ i l. refl), fit-facts half h at s e .most)
+        go false e = omega arith
+    walk-few (suc l) at p =
+        go (λ i. walk-few l (place-below half (page-at half img p) at i) (child-at half (page-at half img p) i)) (page-fit half h at (page-at half img p))
+      where
+        s : List ℕ
+        s = page-at half img p
+
+        down : ℕ → Walked
+        down i = under (combine (h .kind)) (pair-at half s i) (walk half h img a b l (place-below half s at i) (child-at half s i))
+
+        found : ℕ → Walked
+        found i = cond (overlaps a b (start-at s i) (end-at s (at .hi) i)) (down i) nothing
+
+        below : ℕ → List Visit
+        below i = visits half h img (entries-over a b) l (place-below half s at i) (child-at half s i)
+
+        looks : ℕ → List Visit
+        looks i = cond (overlaps a b (start-at s i) (end-at s (at .hi) i)) (below i) []
+
+        both : (c : Bool) (i : ℕ) → length (down i .runs) ≤ capacity half * length (found-fit half h img (below i))
+            → length (cond c (down i) nothing .runs) ≤ capacity half * length (found-fit half h img (cond c (below i) []))
+        both true i r = r
+        both false i r = unfold nothing in omega arith
+
+        go : ((i : ℕ)
+            → length (walk half h img a b l (place-below half s at i) (child-at half s i) .runs)
+            ≤ capacity half * length (found-fit half h img (below i)))
+            → (c : Bool)
+            → length (cond c (in-turn (number-of s) found) stopped .runs)
+            ≤ capacity half
+            * length
+            (cond c (p ∷ found-fit half h img (cond c (each-in-turn (number-of s) looks) []))
+            (found-fit half h img (cond c (each-in-turn (number-of s) looks) [])))
+        go r true =
+            let all : length (in-turn (number-of s) found .runs) ≤ capacity half * total (number-of s) (λ i. length (found-fit half h img (looks i))) =
+            turn-le (number-of s) found (λ i. length (found-fit half h img (looks i))) (capacity half)
+            (λ i. both (overlaps a b (start-at s i) (end-at s (at .hi) i)) i (rw length-under (r i))) in
+            let more : capacity half * length (found-fit half h img (each-in-turn (number-of s) looks))
+            ≤ capacity half * suc (length (found-fit half h img (each-in-turn (number-of s) looks))) =
+            mul-le-mul-left (capacity half) (omega arith) in
+            omega (arith, all, ap (λ k. capacity half * k) (found-length (number-of s) looks), more)
+        go r false = omega arith
+
+-- ---- from the root
+
+shown : (half a b : ℕ) (img : List ℕ) → head-ok half img ≡ true → length (runs-over half a b img) ≤ capacity half * (pages-in half img - 1)
+unfolding runs-over walk-over head-ok
+shown half a b img fits =
+    let h : Head = the-head half img in
+    let vs : List Visit = all-visits half img (entries-over a b) in
+    let few = found-short half img fits (entries-over a b) in
+    let most : capacity half * length (found-fit half h img vs) ≤ capacity half * (pages-in half img - 1) =
+    mul-le-mul-left (capacity half) (omega (arith, few)) in
+    omega (
+      arith,
+      join-few (walk half h img a b (h .height - 1) (root-place h) (h .root) .runs),
+      walk-few half h img a b (h .height - 1) (root-place h) (h .root),
+      most,
+    )
+
+-- ---- a listing
+
+rows-answer : (x y z w : Bool) (k m : ℕ) → (z ≡ true → k ≤ m)
+    → cond (eqb (first ((16, not x) ∷ (11, not y) ∷ (21, not z) ∷ (15, w) ∷ [])) 0) k 0 ≤ m
+unfolding first
+rows-answer false y z w k m f = omega arith
+rows-answer true false z w k m f = omega arith
+rows-answer true true false w k m f = omega arith
+rows-answer true true true true k m f = omega arith
+rows-answer true true true false k m f = f refl
+
+rows-enough : (x y z w : Bool) → (z ≡ true → w ≡ false) → first ((16, not x) ∷ (11, not y) ∷ (21, not z) ∷ (15, w) ∷ []) ≢ 15
+unfolding first
+rows-enough false y z w f e = omega arith
+rows-enough true false z w f e = omega arith
+rows-enough true true false w f e = omega arith
+rows-enough true true true true f e = true≢false (f refl)
+rows-enough true true true false f e = omega arith
+
+answered : (half a b : ℕ) (img out : List ℕ) → listing half a b img out .runs ≤ capacity half * (pages-in half img - 1)
+unfolding listing listing-number
+answered half a b img out =
+    rows-answer (length-ok half img) (span-ok a b) (head-ok half img && walk-over half img a b .fit) (too-short out (runs-over half a b img))
+    (length (runs-over half a b img)) (capacity half * (pages-in half img - 1))
+    (λ z. shown half a b img (and-eq-true-iff (head-ok half img) (walk-over half img a b .fit) .0 z .0))
+
+enough : (half a b : ℕ) (img out : List ℕ) → 16 * (capacity half * (pages-in half img - 1)) ≤ length out → listing half a b img out .number ≢ 15
+unfolding listing listing-number too-short
+enough half a b img out room =
+    rows-enough (length-ok half img) (span-ok a b) (head-ok half img && walk-over half img a b .fit) (too-short out (runs-over half a b img))
+    (λ z.
+    le-ltb (length out) (16 * length (runs-over half a b img))
+    (omega (arith, room, shown half a b img (and-eq-true-iff (head-ok half img) (walk-over half img a b .fit) .0 z .0))))
+
+pub few-runs : (half : ℕ) → Few-runs half
+few-runs half = record { shown = shown half; answered = answered half; enough = enough half }

@@ -1,0 +1,116 @@
+-- An audit of a sound image looks at each page but the head once. Assumes nothing.
+use mathlib.Core.Path.{_≡_, sym, ap, _∙_}
+use mathlib.Core.Bool.{true, cond, _&&_}
+use mathlib.Core.List.{List, [], _∷_, _++_}
+use Prim.Native.Nat.{ℕ, zero, suc, _+_, _-_, _≤_, _<_}
+use native.Mathlib.Omega.{arith}
+use native.Mathlib.Decide.{ℕ-discrete, decLe, decLt}
+use lib.ListN.{length}
+use lib.Dec.{eqb}
+use borrow.Author.Tests.{eq-eqb, le-leb, lt-ltb}
+use Rattle.page.specs.Layout.{next-of, listed}
+use Rattle.image.specs.Images.{page-at, pages-in, length-ok}
+use Rattle.image.specs.Sound.{chain-pages, times, sound}
+use Rattle.image.specs.Trail.{Visit, all-fit, audit-trail}
+use Rattle.image.specs.Looks.{pages-of, chain-looks, audit-looks}
+use Rattle.audit.specs.Counting.{chain-ends}
+use Rattle.audit.proofs.Sums.{hit, miss}
+use Rattle.audit.proofs.Times.{times-none, times-cons, times-append}
+use Rattle.audit.proofs.Chain.{Link, link, ended, pages-none, pages-more}
+use Rattle.audit.proofs.Sound.{the-head, the-tree, the-chain, Sound-facts, sound-facts}
+use Rattle.audit.proofs.Used.{tree-within, chain-within}
+use Rattle.audit.proofs.Counting.{sound-counted}
+use Rattle.audit.proofs.Trails.{length-pages, audit-fits, audit-tree}
+
+-- ---- m numbers from k on
+
+abbrev from : ℕ → ℕ → List ℕ
+from k m = listed m (λ i. k + i)
+
+module _ (p k : ℕ) where
+  more : (m : ℕ) → times p (from k (suc m)) ≡ times p (from k m) + cond (eqb p (k + m)) 1 0
+  unfolding listed
+  more m = omega (arith, times-append p (from k m) ((k + m) ∷ []), times-cons p (k + m) [], times-none p)
+
+  past : (m : ℕ) → k + m ≤ p → times p (from k m) ≡ 0
+  unfolding listed
+  past zero l = times-none p
+  past (suc m) l = omega (arith, more m, past m (omega arith), miss p (k + m) (λ e. omega arith))
+
+  before : (m : ℕ) → p < k → times p (from k m) ≡ 0
+  unfolding listed
+  before zero l = times-none p
+  before (suc m) l = omega (arith, more m, before m l, miss p (k + m) (λ e. omega arith))
+
+  among : (m : ℕ) → k ≤ p → p < k + m → times p (from k m) ≡ 1
+  among zero a b = absurd (omega arith)
+  among (suc m) a b = go (ℕ-discrete p (k + m)) (among m a)
+    where
+      go : Dec (p ≡ k + m) → (p < k + m → times p (from k m) ≡ 1) → times p (from k (suc m)) ≡ 1
+      go (yes e) r = omega (arith, more m, past m (omega arith), hit p (k + m) e)
+      go (no d) r = omega (arith, more m, r (omega arith), miss p (k + m) d)
+
+-- ---- a chain that ends is looked at as it is listed
+
+chain-looked : (half : ℕ) (img : List ℕ) (most k p : ℕ) → k ≤ most → chain-ends half img k p ≡ true
+    → chain-looks half img k p ≡ chain-pages half img most p
+unfolding chain-looks
+chain-looked half img most zero p l e = sym (pages-none half img most p (ended half img p e))
+chain-looked half img zero (suc k) p l e = absurd (omega arith)
+chain-looked half img (suc most) (suc k) p l e =
+    let r : Link half img k p = link half img k p e in
+    let next : List ℕ = chain-looks half img k (next-of (page-at half img p)) in
+    (λ j. cond (le-leb 1 p (r .least) j && lt-ltb p (pages-in half img) (r .below) j) (p ∷ cond (r .free j) next []) [])
+    ∙ ap (λ z. p ∷ z) (chain-looked half img most k (next-of (page-at half img p)) (omega arith) (r .next))
+    ∙ sym (pages-more half img most p (r .least))
+
+-- ---- a sound image
+
+module _ (half : ℕ) (img : List ℕ) (ok : length-ok half img ≡ true) (fits : sound half img ≡ true) where
+  looks-are : audit-looks half img ≡ the-tree half img ++ (the-chain half img ++ from (the-head half img .mark) (pages-in half img - the-head half img .mark))
+  unfolding audit-looks
+  looks-are =
+      let c = sound-counted ok (sound-facts half img fits) in
+      let tree : List Visit = audit-trail half img in
+      let all : all-fit half (the-head half img) img tree ≡ true = sym (audit-fits half img) ∙ c .fit .tree in
+      let same : pages-of tree ≡ the-tree half img = audit-tree half img (c .fit .tree) in
+      let long : length tree ≡ length (the-tree half img) = sym (length-pages tree) ∙ ap length same in
+      let count : eqb (length tree + the-head half img .chain) (the-head half img .mark - 1) ≡ true =
+      eq-eqb (length tree + the-head half img .chain) (the-head half img .mark - 1) (omega (arith, long, c .count)) in
+      let chain : chain-looks half img (the-head half img .chain) (the-head half img .free) ≡ the-chain half img =
+      chain-looked half img (pages-in half img) (the-head half img .chain) (the-head half img .free)
+      (omega (arith, c .count, c .fit .head .mark-most)) (c .ends) in
+      λ j.
+      same j
+      ++ cond (all j && count j) (chain j ++ listed (pages-in half img - the-head half img .mark) (λ i. the-head half img .mark + i)) []
+
+  pub looks-once : (p : ℕ) → 1 ≤ p → p < pages-in half img → times p (audit-looks half img) ≡ 1
+  looks-once p some below =
+      ap (times p) looks-are
+      ∙ times-append p tree (chain ++ unused)
+      ∙ ap (λ k. times p tree + k) (times-append p chain unused)
+      ∙ go (decLt p mark)
+    where
+      mark : ℕ
+      mark = the-head half img .mark
+
+      tree : List ℕ
+      tree = the-tree half img
+
+      chain : List ℕ
+      chain = the-chain half img
+
+      unused : List ℕ
+      unused = from mark (pages-in half img - mark)
+
+      f : Sound-facts half img
+      f = sound-facts half img fits
+
+      go : Dec (p < mark) → times p tree + (times p chain + times p unused) ≡ 1
+      go (yes l) = omega (arith, f .once p some l, before p mark (pages-in half img - mark) l)
+      go (no l) = rest (decLe 1 (times p tree)) (decLe 1 (times p chain))
+        where
+          rest : Dec (1 ≤ times p tree) → Dec (1 ≤ times p chain) → times p tree + (times p chain + times p unused) ≡ 1
+          rest (yes t) c = absurd (omega (arith, tree-within ok (f .fit) p t))
+          rest (no t) (yes c) = absurd (omega (arith, chain-within ok (f .fit) (f .free) p c))
+          rest (no t) (no c) = omega (arith, among p mark (pages-in half img - mark) (omega arith) (omega arith))

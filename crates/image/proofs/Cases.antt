@@ -1,0 +1,42 @@
+-- The cases hold: each is computed. Assumes nothing.
+use mathlib.Core.Path.{refl}
+use Rattle.rule.specs.Time.{value-ok, kind-ok, window-ok}
+use Rattle.rule.specs.Pairs.{same-number, same-pair}
+use Rattle.fields.specs.Bytes.{part, patch, unused, all-are, every}
+use Rattle.fields.specs.Numbers.{num, digits, u32-at, i32-at, i64-at, u32-bytes, i32-bytes, i64-bytes}
+use Rattle.page.specs.Entries.{last-from, place}
+use Rattle.page.specs.Layout.{level-of, number-of, listed, start-at, pair-at, child-at, entry-at, entries-of, unused-ok, joined, entry-bytes, tree-bytes, next-of, free-bytes, free-ok, never-used-ok, head-of, head-bytes}
+use Rattle.page.specs.Fit.{root-place, end-at, place-below, fewest, number-ok, starts-ok, child-ok, children-ok, pair-ok, pairs-ok, page-fit, ranges-ok, head-fit}
+use Rattle.image.specs.Images.{page-at, pages-in, cell-bytes, image-bytes}
+use Rattle.image.specs.Sound.{tree-fit, tree-pages, chain-pages, times, all-of, each-once, sound}
+use Rattle.image.specs.Listing.{overlaps}
+use Rattle.image.specs.Trail.{each-in-turn, finds-fit, all-fit, up-to-unfit, visits, trail, entry-of, entries-over, every-entry, instant-trail, listing-trail, audit-trail}
+use Rattle.image.specs.Looks.{pages-of, found-fit, chain-looks, audit-looks}
+use Rattle.image.specs.Cases.{cell, pages, both, whole, hurt, Cases}
+
+pub cases : Cases
+unfolding value-ok kind-ok window-ok same-number same-pair part patch unused all-are every num digits u32-at i32-at i64-at u32-bytes i32-bytes i64-bytes last-from place level-of number-of listed start-at pair-at child-at entry-at entries-of unused-ok joined entry-bytes tree-bytes next-of free-bytes free-ok never-used-ok head-of head-bytes root-place end-at place-below fewest number-ok starts-ok child-ok children-ok pair-ok pairs-ok page-fit ranges-ok head-fit page-at pages-in cell-bytes image-bytes tree-fit tree-pages chain-pages times all-of each-once sound overlaps each-in-turn finds-fit all-fit up-to-unfit visits trail entry-of entries-over every-entry instant-trail listing-trail audit-trail pages-of found-fit chain-looks audit-looks cell pages both whole hurt
+cases =
+    record {
+      whole-sound = refl;
+      whole-audit = refl;
+      left-hurt = refl;
+      right-hurt = refl;
+      root-hurt = refl;
+      below-hurt = refl;
+      page-twice = refl;
+      fit-once = refl;
+      circle = refl;
+      as-many = refl;
+      mark-high = refl;
+      chain-long = refl;
+      chain-to-tree = refl;
+      chain-short = refl;
+      listing-both = refl;
+      listing-left = refl;
+      listing-right = refl;
+      listing-hurt = refl;
+      instant-left = refl;
+      instant-right = refl;
+      instant-root = refl;
+    }

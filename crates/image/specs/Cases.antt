@@ -1,0 +1,96 @@
+-- Cases of the looks of a walk that compute, on pages of four entries (half of which is 2). Assumes nothing.
+use Prim.Native.Nat.{ℕ, _*_, _+_}
+use mathlib.Core.Path.{_≡_}
+use mathlib.Core.Bool.{true, cond}
+use mathlib.Core.List.{List, [], _∷_}
+use lib.Dec.{eqb}
+use Rattle.rule.specs.Time.{END}
+use Rattle.rule.specs.Pairs.{none}
+use Rattle.fields.specs.Bytes.{patch}
+use Rattle.page.specs.declared.Entry.{Entry}
+use Rattle.page.specs.Entries.{entry}
+use Rattle.page.specs.Layout.{head-of}
+use Rattle.page.specs.Fit.{root-place}
+use Rattle.image.specs.Images.{Cell, tree, free, never-used, page-at, image-bytes}
+use Rattle.image.specs.Sound.{sound}
+use Rattle.image.specs.Trail.{visits, every-entry, instant-trail, listing-trail, audit-trail}
+use Rattle.image.specs.Looks.{pages-of, found-fit, audit-looks}
+
+-- The leaf on page 1 is fit for the span [0, 15), the one on page 2 for [15, 30) and for [15, END). Page 3 is the root, with the
+-- entries named. Pages 4 and 5 are free, 5 leads to 4.
+unfoldable pub cell : List Entry → ℕ → Cell
+cell root p =
+    cond (eqb p 1) (tree 0 (entry 0 none 0 ∷ entry 10 none 0 ∷ []))
+    (cond (eqb p 2) (tree 0 (entry 15 none 0 ∷ entry 20 none 0 ∷ entry 25 none 0 ∷ []))
+    (cond (eqb p 3) (tree 1 root)
+    (cond (eqb p 4) (free 0)
+    (cond (eqb p 5) (free 4) never-used))))
+
+-- n pages with these, and a head that names the first free page, the chain's length and the high mark
+unfoldable pub pages : ℕ → ℕ → ℕ → ℕ → List Entry → List ℕ
+pages n first chain mark root =
+    image-bytes 2
+    (record {
+      head =
+          record {
+            pages = n;
+            height = 2;
+            root = 3;
+            free = first;
+            chain = chain;
+            mark = mark;
+            kind = 1;
+            window = 0;
+            changes = 0;
+          };
+      page = cell root;
+    })
+
+-- the root's entries: one for each leaf
+unfoldable pub both : List Entry
+both = entry 0 none 1 ∷ entry 15 none 2 ∷ []
+
+-- a sound image: the tree, the chain, and page 6, which was never used
+unfoldable pub whole : List ℕ
+whole = pages 7 5 2 6 both
+
+-- page p of an image with one of its 24 unused bytes not FF
+unfoldable pub hurt : ℕ → List ℕ → List ℕ
+hurt p img = patch img (112 * p + 8) (0 ∷ [])
+
+pub record Cases : Type 0 where
+  -- An audit of a sound image looks at each page once.
+  pub whole-sound : sound 2 whole ≡ true
+  pub whole-audit : audit-looks 2 whole ≡ 3 ∷ 1 ∷ 2 ∷ 5 ∷ 4 ∷ 6 ∷ []
+  -- It ends at an unfit page: no page after it is looked at, in the tree or elsewhere.
+  pub left-hurt : audit-looks 2 (hurt 1 whole) ≡ 3 ∷ 1 ∷ []
+  pub right-hurt : audit-looks 2 (hurt 2 whole) ≡ 3 ∷ 1 ∷ 2 ∷ []
+  pub root-hurt : audit-looks 2 (hurt 3 whole) ≡ 3 ∷ []
+  -- Below an unfit page there is nothing to look at, even for a walk that went on.
+  pub below-hurt :
+      let img = hurt 3 whole in
+      let h = head-of (page-at 2 img 0) in
+      pages-of (visits 2 h img every-entry 1 (root-place h) 3) ≡ 3 ∷ []
+  -- A page that is met once more is unfit there.
+  pub page-twice : pages-of (audit-trail 2 (pages 7 5 2 6 (entry 0 none 1 ∷ entry 15 none 1 ∷ []))) ≡ 3 ∷ 1 ∷ 1 ∷ []
+  pub fit-once :
+      let img = pages 7 5 2 6 (entry 0 none 1 ∷ entry 15 none 1 ∷ []) in
+      found-fit 2 (head-of (page-at 2 img 0)) img (audit-trail 2 img) ≡ 3 ∷ 1 ∷ []
+  pub circle : pages-of (audit-trail 2 (pages 7 5 2 6 (entry 0 none 3 ∷ entry 15 none 2 ∷ []))) ≡ 3 ∷ 3 ∷ []
+  -- As many looks as the image has pages: every page but the head is found fit, and then one of them is met once more.
+  pub as-many : audit-looks 2 (pages 4 0 0 4 (entry 0 none 1 ∷ entry 15 none 2 ∷ entry 30 none 1 ∷ [])) ≡ 3 ∷ 1 ∷ 2 ∷ 1 ∷ []
+  -- Where the pages don't add up, an audit ends with the tree.
+  pub mark-high : audit-looks 2 (pages 7 5 2 7 both) ≡ 3 ∷ 1 ∷ 2 ∷ []
+  pub chain-long : audit-looks 2 (pages 7 5 3 6 both) ≡ 3 ∷ 1 ∷ 2 ∷ []
+  -- The chain ends at a page that is not free, and at 0; the pages from the high mark on are looked at all the same.
+  pub chain-to-tree : audit-looks 2 (pages 7 1 2 6 both) ≡ 3 ∷ 1 ∷ 2 ∷ 1 ∷ 6 ∷ []
+  pub chain-short : audit-looks 2 (pages 7 4 2 6 both) ≡ 3 ∷ 1 ∷ 2 ∷ 4 ∷ 6 ∷ []
+  -- A listing meets no page that ends at a or starts at b, hurt or not.
+  pub listing-both : pages-of (listing-trail 2 14 16 whole) ≡ 3 ∷ 1 ∷ 2 ∷ []
+  pub listing-left : pages-of (listing-trail 2 0 15 (hurt 2 whole)) ≡ 3 ∷ 1 ∷ []
+  pub listing-right : pages-of (listing-trail 2 15 END (hurt 1 whole)) ≡ 3 ∷ 2 ∷ []
+  pub listing-hurt : pages-of (listing-trail 2 0 END (hurt 1 whole)) ≡ 3 ∷ 1 ∷ []
+  -- An instant meets one page a level.
+  pub instant-left : pages-of (instant-trail 2 14 (hurt 2 whole)) ≡ 3 ∷ 1 ∷ []
+  pub instant-right : pages-of (instant-trail 2 15 (hurt 1 whole)) ≡ 3 ∷ 2 ∷ []
+  pub instant-root : pages-of (instant-trail 2 15 (hurt 3 whole)) ≡ 3 ∷ []
