@@ -121,6 +121,6 @@ short-walks half =
       of-walk = of-walk half;
       of-listing = of-listing half;
       of-audit = λ img fits. audit-short half img fits;
-      of-sound = λ img ok fits. looks-once half img ok fits;
+      of-sound = λ img fits. looks-once half img fits;
       of-tree = λ img. (audit-fits half img, audit-tree half img);
     }

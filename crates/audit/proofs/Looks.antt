@@ -9,7 +9,7 @@ use lib.ListN.{length}
 use lib.Dec.{eqb}
 use borrow.Author.Tests.{eq-eqb, le-leb, lt-ltb}
 use Rattle.page.specs.Layout.{next-of, listed}
-use Rattle.image.specs.Images.{page-at, pages-in, length-ok}
+use Rattle.image.specs.Images.{page-at, pages-in}
 use Rattle.image.specs.Sound.{chain-pages, times, sound}
 use Rattle.image.specs.Trail.{Visit, all-fit, audit-trail}
 use Rattle.image.specs.Looks.{pages-of, chain-looks, audit-looks}
@@ -66,11 +66,11 @@ chain-looked half img (suc most) (suc k) p l e =
 
 -- ---- a sound image
 
-module _ (half : ℕ) (img : List ℕ) (ok : length-ok half img ≡ true) (fits : sound half img ≡ true) where
+module _ (half : ℕ) (img : List ℕ) (fits : sound half img ≡ true) where
   looks-are : audit-looks half img ≡ the-tree half img ++ (the-chain half img ++ from (the-head half img .mark) (pages-in half img - the-head half img .mark))
   unfolding audit-looks
   looks-are =
-      let c = sound-counted ok (sound-facts half img fits) in
+      let c = sound-counted (sound-facts half img fits) in
       let tree : List Visit = audit-trail half img in
       let all : all-fit half (the-head half img) img tree ≡ true = sym (audit-fits half img) ∙ c .fit .tree in
       let same : pages-of tree ≡ the-tree half img = audit-tree half img (c .fit .tree) in
@@ -111,6 +111,6 @@ module _ (half : ℕ) (img : List ℕ) (ok : length-ok half img ≡ true) (fits 
       go (no l) = rest (decLe 1 (times p tree)) (decLe 1 (times p chain))
         where
           rest : Dec (1 ≤ times p tree) → Dec (1 ≤ times p chain) → times p tree + (times p chain + times p unused) ≡ 1
-          rest (yes t) c = absurd (omega (arith, tree-within ok (f .fit) p t))
-          rest (no t) (yes c) = absurd (omega (arith, chain-within ok (f .fit) (f .free) p c))
+          rest (yes t) c = absurd (omega (arith, tree-within (f .fit) p t))
+          rest (no t) (yes c) = absurd (omega (arith, chain-within (f .fit) (f .free) p c))
           rest (no t) (no c) = omega (arith, among p mark (pages-in half img - mark) (omega arith) (omega arith))

@@ -9,7 +9,7 @@ use lib.ListN.{length}
 use lib.Dec.{eqb}
 use Rattle.page.specs.Layout.{capacity}
 use Rattle.page.specs.Fit.{Place, root-place}
-use Rattle.image.specs.Images.{pages-in, length-ok}
+use Rattle.image.specs.Images.{pages-in}
 use Rattle.image.specs.Sound.{tree-fit, tree-pages, times, sound}
 use Rattle.image.specs.Trail.{Visit, all-fit, trail, instant-trail, listing-trail, audit-trail}
 use Rattle.image.specs.Looks.{pages-of, found-fit, audit-looks}
@@ -47,7 +47,7 @@ pub record Short-walks (half : ℕ) : Type 0 where
   -- An audit as a whole: n looks, at tree, chain and pages never used together,
   pub of-audit : (img : List ℕ) → head-ok half img ≡ true → length (audit-looks half img) ≤ pages-in half img
   -- and if the image is sound, one at each page.
-  pub of-sound : (img : List ℕ) → length-ok half img ≡ true → sound half img ≡ true
+  pub of-sound : (img : List ℕ) → sound half img ≡ true
       → (p : ℕ) → 1 ≤ p → p < pages-in half img → times p (audit-looks half img) ≡ 1
   -- "head and all tree pages are fit": the looks of an audit at the tree tell whether it is, and they are then at its pages in turn.
   pub of-tree : (img : List ℕ)

@@ -7,7 +7,7 @@ use Rattle.fields.specs.Numbers.{num, digits, u32-at, i32-at, i64-at, u32-bytes
 use Rattle.page.specs.Entries.{last-from, place}
 use Rattle.page.specs.Layout.{level-of, number-of, listed, start-at, pair-at, child-at, entry-at, entries-of, unused-ok, joined, entry-bytes, tree-bytes, next-of, free-bytes, free-ok, never-used-ok, head-of, head-bytes}
 use Rattle.page.specs.Fit.{root-place, end-at, place-below, fewest, number-ok, starts-ok, child-ok, children-ok, pair-ok, pairs-ok, page-fit, ranges-ok, head-fit}
-use Rattle.image.specs.Images.{page-at, pages-in, cell-bytes, image-bytes}
+use Rattle.image.specs.Images.{page-at, pages-in, length-ok, cell-bytes, image-bytes}
 use Rattle.image.specs.Sound.{tree-fit, tree-pages, chain-pages, times, all-of, each-once, sound}
 use Rattle.image.specs.Listing.{overlaps}
 use Rattle.image.specs.Trail.{each-in-turn, finds-fit, all-fit, up-to-unfit, visits, trail, entry-of, entries-over, every-entry, instant-trail, listing-trail, audit-trail}
@@ -15,7 +15,7 @@ use Rattle.image.specs.Looks.{pages-of, found-fit, chain-looks, audit-lo
 use Rattle.image.specs.Cases.{cell, pages, both, whole, hurt, Cases}
 
 pub cases : Cases
-unfolding value-ok kind-ok window-ok same-number same-pair part patch unused all-are every num digits u32-at i32-at i64-at u32-bytes i32-bytes i64-bytes last-from place level-of number-of listed start-at pair-at child-at entry-at entries-of unused-ok joined entry-bytes tree-bytes next-of free-bytes free-ok never-used-ok head-of head-bytes root-place end-at place-below fewest number-ok starts-ok child-ok children-ok pair-ok pairs-ok page-fit ranges-ok head-fit page-at pages-in cell-bytes image-bytes tree-fit tree-pages chain-pages times all-of each-once sound overlaps each-in-turn finds-fit all-fit up-to-unfit visits trail entry-of entries-over every-entry instant-trail listing-trail audit-trail pages-of found-fit chain-looks audit-looks cell pages both whole hurt
+unfolding value-ok kind-ok window-ok same-number same-pair part patch unused all-are every num digits u32-at i32-at i64-at u32-bytes i32-bytes i64-bytes last-from place level-of number-of listed start-at pair-at child-at entry-at entries-of unused-ok joined entry-bytes tree-bytes next-of free-bytes free-ok never-used-ok head-of head-bytes root-place end-at place-below fewest number-ok starts-ok child-ok children-ok pair-ok pairs-ok page-fit ranges-ok head-fit page-at pages-in length-ok cell-bytes image-bytes tree-fit tree-pages chain-pages times all-of each-once sound overlaps each-in-turn finds-fit all-fit up-to-unfit visits trail entry-of entries-over every-entry instant-trail listing-trail audit-trail pages-of found-fit chain-looks audit-looks cell pages both whole hurt
 cases =
     record {
       whole-sound = refl;

@@ -18,8 +18,8 @@ ghost use mathlib.Core.Logic.{_≢_};
 ghost use Rattle.rule.specs.Averages.{average};
 ghost use Rattle.calls.specs.Changes.{entering, withdrawing};
 ghost use Rattle.luwhenoka.specs.Answers.{average-answer};
-ghost use Rattle.luwhenoka.specs.Promises.{Formats, Averages};
-ghost use Rattle.promises.specs.Course.{Promised, booked, asked, listed-over, audited, formatted};
+ghost use Rattle.luwhenoka.specs.Promises.{Formats};
+ghost use Rattle.promises.specs.Course.{Promised, booked, asked, averaged, listed-over, audited, formatted};
 
 // A format that returns 0 begins a course (`From-format`), and a refused one may stand in it.
 pub fn format(img: &mut [u8], kind: u32, window: u32) -> u32
@@ -62,7 +62,7 @@ pub fn audit(img: &[u8], scratch: &mut [u8]) -> u32
 }
 
 pub fn average_at(img: &[u8], t: u32) -> AverageAnswer
-    ensures { λ r. ⌜ Averages t (now (img .entry)) r ⌝ }
+    ensures { λ r. ⌜ Promised (averaged t r) (now (img .entry)) (now (img .exit)) ⌝ }
 {
     luw_average(img, t)
 }
