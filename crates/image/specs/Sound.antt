@@ -45,8 +45,8 @@ all-of ok (p ∷ ps) = ok p && all-of ok ps
 unfoldable pub each-once : ℕ → List ℕ → List ℕ → Bool
 each-once mark tree chain = every (mark - 1) (λ i. eqb (times (suc i) tree + times (suc i) chain) 1)
 
--- "The image is n pages of 512 bytes, n from 2 to 1,024." That is asked first, so that nothing else is no sound image. "An image is
--- sound if head and all tree pages are fit, each page below the high mark except 0 is once in the tree or once in the chain, the
+-- "The image is n pages of 512 bytes, n from 2 to 1,024." That is asked first: bytes of any other length are no sound image. "An image
+-- is sound if head and all tree pages are fit, each page below the high mark except 0 is once in the tree or once in the chain, the
 -- chain length is true, and free and never used pages read as above."
 unfoldable pub sound : ℕ → List ℕ → Bool
 sound half img =
