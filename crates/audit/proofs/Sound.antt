@@ -98,6 +98,6 @@ facts-sound half img f =
       ),
     )
 
--- what every call needs of it first
+-- its length: 16 turns no sound image back
 pub sound-whole : (half : ℕ) (img : List ℕ) → sound half img ≡ true → length-ok half img ≡ true
 sound-whole half img e = sound-facts half img e .fit .whole

@@ -21,8 +21,9 @@ chain-ends half img (suc k) p =
     && (ltb p (pages-in half img)
     && (free-ok half (page-at half img p) && chain-ends half img k (next-of (page-at half img p))))
 
--- The length is in range, head and tree are fit, tree and chain have as many pages as lie below the high mark, the chain ends after as many free pages as
--- the head says, and the rest was never used. The chain's length is compared before it is used: any number may stand in the head.
+-- The length is in range, head and tree are fit, tree and chain have as many pages as lie below the high mark, the chain ends after as
+-- many free pages as the head says, and the rest was never used. The chain's length is compared before it is used: any number may stand
+-- in the head.
 unfoldable pub sound-by-counting : ℕ → List ℕ → Bool
 sound-by-counting half img =
     let n = pages-in half img in

@@ -22,8 +22,8 @@ fn adds_up(tree: u32, chain: u32, mark: u32) -> bool
 }
 
 // "An image is sound if head and all tree pages are fit, each page below the high mark except 0 is once in the tree or once in
-// the chain, the chain length is true, and free and never used pages read as above." That its length is in range is part of that,
-// and every call tests it (16) before this.
+// the chain, the chain length is true, and free and never used pages read as above." A sound image's length is in range too, which
+// every call has tested (16) before this.
 pub fn sound(img: &[u8]) -> bool
     requires { ⌜ length-ok 12 (now img) ≡ true ⌝ }
     ensures { λ r. ⌜ r ≡ sound 12 (now (img .entry)) ⌝ }
