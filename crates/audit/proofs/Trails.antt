@@ -18,6 +18,7 @@ use Rattle.image.specs.Images.{page-at, pages-in}
 use Rattle.image.specs.Sound.{tree-fit, times}
 use Rattle.image.specs.Trail.{Visit, each-in-turn, finds-fit, all-fit, up-to-unfit, visits, trail, every-entry, audit-trail}
 use Rattle.image.specs.Looks.{pages-of, found-fit, chain-looks, audit-looks}
+use Rattle.image.proofs.Trails.{all-fit-append, all-fit-up-to}
 use Rattle.audit.proofs.Sums.{total, total-some, miss}
 use Rattle.audit.proofs.Times.{times-append, short-of-once}
 use Rattle.audit.proofs.Fitness.{Fit-facts, fit-facts, child-in, Head-facts, head-facts}
@@ -72,16 +73,6 @@ module _ (half : ℕ) (h : Head) (img : List ℕ) where
       go true r e = ap (λ z. v ∷ z) (r e)
       go false r e = absurd (false≢true e)
 
-  all-of-up-to : (vs : List Visit) → all-fit half h img (up-to-unfit half h img vs) ≡ all-fit half h img vs
-  unfolding up-to-unfit all-fit
-  all-of-up-to [] = refl
-  all-of-up-to (v ∷ vs) = go (finds-fit half h img v) (all-of-up-to vs)
-    where
-      go : (c : Bool) → all-fit half h img (up-to-unfit half h img vs) ≡ all-fit half h img vs
-          → c && all-fit half h img (cond c (up-to-unfit half h img vs) []) ≡ c && all-fit half h img vs
-      go true r = r
-      go false r = refl
-
   all-found : (vs : List Visit) → all-fit half h img vs ≡ true → found-fit half h img vs ≡ pages-of vs
   unfolding all-fit found-fit pages-of
   all-found [] e = refl
@@ -118,21 +109,11 @@ module _ (half : ℕ) (h : Head) (img : List ℕ) where
 
   -- ---- an audit's walk, and the tests of the tree
 
-  all-append : (vs ws : List Visit) → all-fit half h img (vs ++ ws) ≡ all-fit half h img vs && all-fit half h img ws
-  unfolding all-fit
-  all-append [] ws = refl
-  all-append (v ∷ vs) ws = go (finds-fit half h img v) (all-append vs ws)
-    where
-      go : (c : Bool) → all-fit half h img (vs ++ ws) ≡ all-fit half h img vs && all-fit half h img ws
-          → c && all-fit half h img (vs ++ ws) ≡ (c && all-fit half h img vs) && all-fit half h img ws
-      go true r = r
-      go false r = refl
-
   all-each : (n : ℕ) (t : ℕ → Bool) (f : ℕ → List Visit) → ((i : ℕ) → t i ≡ all-fit half h img (f i))
       → every n t ≡ all-fit half h img (each-in-turn n f)
   unfolding every each-in-turn all-fit
   all-each zero t f r = refl
-  all-each (suc n) t f r = (λ j. all-each n t f r j && r n j) ∙ sym (all-append (each-in-turn n f) (f n))
+  all-each (suc n) t f r = (λ j. all-each n t f r j && r n j) ∙ sym (all-fit-append half h img (each-in-turn n f) (f n))
 
   pub tree-looks : (l : ℕ) (at : Place) (q : ℕ) → tree-fit half h img l at q ≡ all-fit half h img (visits half h img every-entry l at q)
   unfolding tree-fit all-fit visits finds-fit every-entry
@@ -264,7 +245,7 @@ module _ (half : ℕ) (img : List ℕ) (fits : head-test half img ≡ true) wher
         → length (trail half (the-head half img) img into) < pages-in half img
     unfolding trail
     trail-fit-short e =
-        let whole = sym (all-of-up-to half (the-head half img) img (all-visits half img into)) ∙ e in
+        let whole = sym (all-fit-up-to half (the-head half img) img (all-visits half img into)) ∙ e in
         omega (
           arith,
           ap length (up-to-all half (the-head half img) img (all-visits half img into) e),
@@ -344,7 +325,7 @@ module _ (half : ℕ) (img : List ℕ) where
   unfolding audit-trail trail
   audit-fits =
       tree-looks half (the-head half img) img (the-head half img .height - 1) (root-place (the-head half img)) (the-head half img .root)
-      ∙ sym (all-of-up-to half (the-head half img) img (all-visits half img every-entry))
+      ∙ sym (all-fit-up-to half (the-head half img) img (all-visits half img every-entry))
 
   pub audit-tree : tree-test half img ≡ true → pages-of (audit-trail half img) ≡ the-tree half img
   unfolding audit-trail trail
@@ -353,5 +334,5 @@ module _ (half : ℕ) (img : List ℕ) where
       let vs : List Visit = all-visits half img every-entry in
       let cut : all-fit half h img (up-to-unfit half h img vs) ≡ true = sym audit-fits ∙ t in
       ap pages-of (up-to-all half h img vs cut)
-      ∙ sym (all-found half h img vs (sym (all-of-up-to half h img vs) ∙ cut))
+      ∙ sym (all-found half h img vs (sym (all-fit-up-to half h img vs) ∙ cut))
       ∙ tree-found half h img (h .height - 1) (root-place h) (h .root) t

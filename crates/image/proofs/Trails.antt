@@ -45,14 +45,14 @@ each-one f k (suc n) l = go (decLt k n) (each-one f k n)
 module _ (half : ℕ) (h : Head) (img : List ℕ) where
   -- ---- lists of looks
 
-  all-fit-append : (xs ys : List Visit) → all-fit half h img (xs ++ ys) ≡ all-fit half h img xs && all-fit half h img ys
+  pub all-fit-append : (xs ys : List Visit) → all-fit half h img (xs ++ ys) ≡ all-fit half h img xs && all-fit half h img ys
   unfolding all-fit
   all-fit-append [] ys = refl
   all-fit-append (x ∷ xs) ys =
       ap (λ c. finds-fit half h img x && c) (all-fit-append xs ys) ∙ sym (and-assoc (finds-fit half h img x) (all-fit half h img xs) (all-fit half h img ys))
 
   -- a walk that ends at the first unfit page has met one where the whole would
-  all-fit-up-to : (vs : List Visit) → all-fit half h img (up-to-unfit half h img vs) ≡ all-fit half h img vs
+  pub all-fit-up-to : (vs : List Visit) → all-fit half h img (up-to-unfit half h img vs) ≡ all-fit half h img vs
   unfolding all-fit up-to-unfit
   all-fit-up-to [] = refl
   all-fit-up-to (v ∷ vs) = go (finds-fit half h img v) (all-fit-up-to vs)
