@@ -164,8 +164,8 @@ struct luw_listing luw_listing(const uint8_t *image, size_t image_length, uint32
                                uint8_t *output, size_t output_length);
 
 /*
- * Whether the image is sound: head and all tree pages are fit, each page below the high mark is once in the tree or once in
- * the chain of free pages, the chain is as long as the head says, and free and never used pages read as they should.
+ * Whether the image is sound: head and all tree pages are fit, each page below the high mark but the head is once in the
+ * tree or once in the chain of free pages, the chain is as long as the head says, and free and never used pages read as they should.
  * Returns 0 if it is. Refusals: 16, 17, 21.
  *
  * The first n bytes of the scratch are 0 after 0 and 21; any beyond keep theirs. At 16 and 17 the scratch is untouched.

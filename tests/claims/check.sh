@@ -1,18 +1,19 @@
 #!/usr/bin/env bash
-# Every name that docs/CLAIMS.md gives behind a file (`crate/specs/File` `name`, `other`) stands in that file, every edit behind
-# `crate/must-fail` is there, and every path of tests/ exists. Prints what is missing, then how many were looked up; fails if one is
-# missing or if there were fewer than asked for.
+# Every name that docs/CLAIMS.md gives behind a file (`crate/specs/File` `name`, `other`: `field`) is defined in that file, every edit
+# behind `crate/must-fail` is there, and every path of tests/ exists. Prints what is missing, then how many were looked up; fails if one
+# is missing or if there were fewer than asked for.
 set -u
 cd "$(dirname "$0")/../.." || exit 1
-least=${1:-400}
+least=${1:-1000}
 missing=0
 looked=0
 
 lost() { missing=$((missing + 1)); printf 'claims: %s\n' "$1"; }
 
-# One line for each name: its file and the name; "-" for a file or path by itself.
+# One line for each name: its file and the name; "-" for a file or path by itself. A row of a table begins anew, prose goes on.
 names() {
-    awk '{
+    awk '/^\|/ || /^$/ { file = "" }
+    {
         line = $0
         while (match(line, /`[^`]+`/)) {
             token = substr(line, RSTART + 1, RLENGTH - 2)
@@ -21,11 +22,18 @@ names() {
             if (token ~ /^crate\//) file = ""
             else if (token ~ /^[a-z_]+\/(specs|src|proofs|must-fail)(\/[A-Za-z_\/]+)?$/) { file = token; print file, "-" }
             else if (token ~ /^tests\//) { file = ""; print token, "-" }
-            else if (file != "" && between ~ /^(,? |, | and | to )$/) print file, token
+            else if (file != "" && between ~ /^(:? ?|, ?| and | to )$/) print file, token
             else file = ""
         }
-        file = ""
     }' docs/CLAIMS.md
+}
+
+# Whether a file defines a name: a definition, a field or a theorem of a specification or a proof; a function or a type of the code.
+defines() { # FILE NAME
+    case $1 in
+    *.antt) grep -qE "^ *((unfoldable|abbrev|pub|record|data) )*$2( *[:({]| *\$)" "$1" ;;
+    *) grep -qE "^ *(pub )?(extern \"C\" )?(fn|struct|enum) $2[^A-Za-z0-9_]" "$1" ;;
+    esac
 }
 
 while read -r file name; do
@@ -38,7 +46,7 @@ while read -r file name; do
         [ -f "$path" ] || path=crates/$file.rt
         if [ ! -f "$path" ]; then
             lost "no file $file"
-        elif [ "$name" != - ] && ! grep -qE "(^|[^A-Za-z0-9_′-])$name([^A-Za-z0-9_′-]|\$)" "$path"; then
+        elif [ "$name" != - ] && ! defines "$path" "$name"; then
             lost "no $name in $file"
         fi
         ;;
