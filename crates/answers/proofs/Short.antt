@@ -20,7 +20,7 @@ use Rattle.calls.specs.Walks.{Short-walk, Short-walks, listing-looks}
 use Rattle.audit.proofs.Fitness.{head-facts}
 use Rattle.audit.proofs.Sound.{the-head}
 use Rattle.audit.proofs.Trails.{length-pages, up-to-fewer, all-visits, trail-once, trail-in, trail-short, trail-fit-short, audit-short, audit-fits, audit-tree}
-use Rattle.audit.proofs.Looks.{looks-once}
+use Rattle.audit.proofs.Looks.{looks-inside, looks-once}
 
 any : (half : ℕ) (img : List ℕ) (into : Place → List ℕ → ℕ → Bool) → head-ok half img ≡ true → Short-walk half img into
 unfolding head head-ok
@@ -121,6 +121,7 @@ short-walks half =
       of-walk = of-walk half;
       of-listing = of-listing half;
       of-audit = λ img fits. audit-short half img fits;
+      of-inside = λ img fits p m. looks-inside half img p fits m;
       of-sound = λ img fits. looks-once half img fits;
       of-tree = λ img. (audit-fits half img, audit-tree half img);
     }

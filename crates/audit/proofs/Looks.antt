@@ -1,26 +1,27 @@
--- An audit of a sound image looks at each page but the head once. Assumes nothing.
-use mathlib.Core.Path.{_≡_, sym, ap, _∙_}
-use mathlib.Core.Bool.{true, cond, _&&_}
+-- An audit looks at pages of the image alone, and of a sound one at each but the head once. Assumes nothing.
+use mathlib.Core.Path.{_≡_, refl, sym, ap, _∙_}
+use mathlib.Core.Bool.{Bool, true, false, cond, _&&_}
 use mathlib.Core.List.{List, [], _∷_, _++_}
 use Prim.Native.Nat.{ℕ, zero, suc, _+_, _-_, _≤_, _<_}
 use native.Mathlib.Omega.{arith}
 use native.Mathlib.Decide.{ℕ-discrete, decLe, decLt}
 use lib.ListN.{length}
-use lib.Dec.{eqb}
-use borrow.Author.Tests.{eq-eqb, le-leb, lt-ltb}
-use Rattle.page.specs.Layout.{next-of, listed}
+use lib.Dec.{eqb, leb, ltb}
+use borrow.Author.Tests.{eq-eqb, le-leb, lt-ltb, leb-true, ltb-true}
+use Rattle.page.specs.Layout.{next-of, free-ok, listed}
 use Rattle.image.specs.Images.{page-at, pages-in}
 use Rattle.image.specs.Sound.{chain-pages, times, sound}
-use Rattle.image.specs.Trail.{Visit, all-fit, audit-trail}
+use Rattle.image.specs.Trail.{Visit, all-fit, every-entry, audit-trail}
 use Rattle.image.specs.Looks.{pages-of, chain-looks, audit-looks}
 use Rattle.audit.specs.Counting.{chain-ends}
 use Rattle.audit.proofs.Sums.{hit, miss}
 use Rattle.audit.proofs.Times.{times-none, times-cons, times-append}
 use Rattle.audit.proofs.Chain.{Link, link, ended, pages-none, pages-more}
-use Rattle.audit.proofs.Sound.{the-head, the-tree, the-chain, Sound-facts, sound-facts}
+use Rattle.audit.proofs.Fitness.{head-facts}
+use Rattle.audit.proofs.Sound.{the-head, the-tree, the-chain, head-test, Sound-facts, sound-facts}
 use Rattle.audit.proofs.Used.{tree-within, chain-within}
 use Rattle.audit.proofs.Counting.{sound-counted}
-use Rattle.audit.proofs.Trails.{length-pages, audit-fits, audit-tree}
+use Rattle.audit.proofs.Trails.{length-pages, trail-in, audit-fits, audit-tree}
 
 -- ---- m numbers from k on
 
@@ -49,6 +50,79 @@ module _ (p k : ℕ) where
       go : Dec (p ≡ k + m) → (p < k + m → times p (from k m) ≡ 1) → times p (from k (suc m)) ≡ 1
       go (yes e) r = omega (arith, more m, past m (omega arith), hit p (k + m) e)
       go (no d) r = omega (arith, more m, r (omega arith), miss p (k + m) d)
+
+-- ---- every look is at a page of the image
+
+module _ (half : ℕ) (img : List ℕ) (q : ℕ) where
+  abbrev Inside : Type 0
+  Inside = (1 ≤ q) × (q < pages-in half img)
+
+  chain-inside : (k p : ℕ) → 1 ≤ times q (chain-looks half img k p) → Inside
+  unfolding chain-looks
+  chain-inside zero p h = absurd (omega (arith, h, times-none q))
+  chain-inside (suc k) p h =
+      go (leb 1 p) (ltb p (pages-in half img)) (free-ok half (page-at half img p)) refl refl (chain-inside k (next-of (page-at half img p))) h
+    where
+      next : List ℕ
+      next = chain-looks half img k (next-of (page-at half img p))
+
+      here : Dec (q ≡ p) → (1 ≤ p) × (p < pages-in half img) → (c : Bool) → (1 ≤ times q next → Inside)
+          → 1 ≤ times q (p ∷ cond c next []) → Inside
+      here (yes e) m c r h = (omega (arith, m .0), omega (arith, m .1))
+      here (no d) m true r h = r (omega (arith, h, times-cons q p next, miss q p d))
+      here (no d) m false r h = absurd (omega (arith, h, times-cons q p [], miss q p d, times-none q))
+
+      go : (a b c : Bool) → leb 1 p ≡ a → ltb p (pages-in half img) ≡ b → (1 ≤ times q next → Inside)
+          → 1 ≤ times q (cond (a && b) (p ∷ cond c next []) []) → Inside
+      go true true c ea eb r h = here (ℕ-discrete q p) (leb-true 1 p ea, ltb-true p (pages-in half img) eb) c r h
+      go true false c ea eb r h = absurd (omega (arith, h, times-none q))
+      go false b c ea eb r h = absurd (omega (arith, h, times-none q))
+
+  from-inside : (k m : ℕ) → 1 ≤ k → k + m ≤ pages-in half img → 1 ≤ times q (from k m) → Inside
+  from-inside k m l n h = go (decLt q k) (decLe (k + m) q)
+    where
+      go : Dec (q < k) → Dec (k + m ≤ q) → Inside
+      go (yes b) c = absurd (omega (arith, h, before q k m b))
+      go (no b) (yes c) = absurd (omega (arith, h, past q k m c))
+      go (no b) (no c) = (omega arith, omega arith)
+
+  pub looks-inside : head-test half img ≡ true → 1 ≤ times q (audit-looks half img) → Inside
+  unfolding audit-looks audit-trail
+  looks-inside fits h =
+      go (all-fit half (the-head half img) img tree && eqb (length tree + the-head half img .chain) (mark - 1)) h
+    where
+      mark : ℕ
+      mark = the-head half img .mark
+
+      tree : List Visit
+      tree = audit-trail half img
+
+      chain : List ℕ
+      chain = chain-looks half img (the-head half img .chain) (the-head half img .free)
+
+      unused : List ℕ
+      unused = from mark (pages-in half img - mark)
+
+      in-tree : 1 ≤ times q (pages-of tree) → Inside
+      in-tree m = trail-in half img fits every-entry q m
+
+      in-rest : 1 ≤ times q (chain ++ unused) → Inside
+      in-rest m = pick (decLe 1 (times q chain))
+        where
+          pick : Dec (1 ≤ times q chain) → Inside
+          pick (yes c) = chain-inside (the-head half img .chain) (the-head half img .free) c
+          pick (no c) =
+              let f = head-facts half (pages-in half img) (page-at half img 0) fits in
+              from-inside mark (pages-in half img - mark) (omega (arith, f .mark-least)) (omega (arith, f .mark-most))
+              (omega (arith, m, times-append q chain unused))
+
+      go : (c : Bool) → 1 ≤ times q (pages-of tree ++ cond c (chain ++ unused) []) → Inside
+      go true h = pick (decLe 1 (times q (pages-of tree)))
+        where
+          pick : Dec (1 ≤ times q (pages-of tree)) → Inside
+          pick (yes a) = in-tree a
+          pick (no a) = in-rest (omega (arith, h, times-append q (pages-of tree) (chain ++ unused)))
+      go false h = in-tree (omega (arith, h, times-append q (pages-of tree) [], times-none q))
 
 -- ---- a chain that ends is looked at as it is listed
 

@@ -1,5 +1,6 @@
 -- Document 01, "Turned back by the input" and "Turned back by the state", as propositions: when each row turns a call back, said of
--- what the call is handed and apart from the tests by which the calls are defined; and that every call goes by them. Assumes nothing.
+-- what the call is handed and apart from the rows by which the calls are defined; and that every call goes by them. What a sound image and
+-- a fit page are, which runs a walk finds and which pages the cuts take are the definitions' own. Assumes nothing.
 use Prim.Native.Nat.{ℕ, _+_, _*_, _-_, _<_, _≤_}
 use mathlib.Core.Path.{_≡_}
 use mathlib.Core.Logic.{_≢_, _⊎_, _↔_}
@@ -73,7 +74,7 @@ module _ (half : ℕ) where
   format-cases kind window img = (16 when ¬ Whole-pages half img) ∷ (14 when No-kind-or-window kind window) ∷ []
 
   -- 17: "scratch shorter than n bytes". 13: "value outside its range"; "A value is −1,000,000 to 1,000,000."
-  -- 21: "audit, change: image not sound". 22: "withdrawal, kind 2 or 3". 23: "changes is 1,000,000,000".
+  -- 21: "audit, change: image not sound". 22: "withdrawal, kind 2 or 3": a sound image has no other kind but 1. 23: "changes is 1,000,000,000".
   unfoldable pub book-cases : Side → ℤ → ℕ → ℕ → List ℕ → List ℕ → List Case
   book-cases side v s e img scratch =
       let h : Head = head-of (page-at half img 0) in

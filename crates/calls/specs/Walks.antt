@@ -1,5 +1,6 @@
 -- How long the walk of a call can be, on every image, hostile ones too: how many pages it looks at, the head apart, and how many runs it
--- lists. A walk begins only where the head is fit. Assumes nothing.
+-- lists. A walk begins only where no row ahead of 21 turns the call back and the head is fit; the looks are defined without that. A change
+-- begins with an audit. Assumes nothing.
 use Prim.Native.Nat.{ℕ, _*_, _-_, _≤_, _<_}
 use mathlib.Core.Path.{_≡_}
 use mathlib.Core.Logic.{_≢_}
@@ -44,8 +45,10 @@ pub record Short-walks (half : ℕ) : Type 0 where
   -- A listing: n looks for each of its two walks.
   pub of-walk : (a b : ℕ) (img : List ℕ) → head-ok half img ≡ true → length (listing-trail half a b img) ≤ pages-in half img
   pub of-listing : (a b : ℕ) (img out : List ℕ) → head-ok half img ≡ true → length (listing-looks half a b img out) ≤ 2 * pages-in half img
-  -- An audit as a whole: n looks, at tree, chain and pages never used together,
+  -- An audit as a whole: n looks, at tree, chain and pages never used together, each at a page of 1 to n − 1,
   pub of-audit : (img : List ℕ) → head-ok half img ≡ true → length (audit-looks half img) ≤ pages-in half img
+  pub of-inside : (img : List ℕ) → head-ok half img ≡ true
+      → (p : ℕ) → 1 ≤ times p (audit-looks half img) → (1 ≤ p) × (p < pages-in half img)
   -- and if the image is sound, one at each page.
   pub of-sound : (img : List ℕ) → sound half img ≡ true
       → (p : ℕ) → 1 ≤ p → p < pages-in half img → times p (audit-looks half img) ≡ 1

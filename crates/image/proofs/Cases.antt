@@ -32,6 +32,7 @@ cases =
       chain-long = refl;
       chain-to-tree = refl;
       chain-short = refl;
+      chain-out = refl;
       listing-both = refl;
       listing-left = refl;
       listing-right = refl;

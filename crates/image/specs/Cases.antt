@@ -85,6 +85,8 @@ pub record Cases : Type 0 where
   -- The chain ends at a page that is not free, and at 0; the pages from the high mark on are looked at all the same.
   pub chain-to-tree : audit-looks 2 (pages 7 1 2 6 both) ≡ 3 ∷ 1 ∷ 2 ∷ 1 ∷ 6 ∷ []
   pub chain-short : audit-looks 2 (pages 7 4 2 6 both) ≡ 3 ∷ 1 ∷ 2 ∷ 4 ∷ 6 ∷ []
+  -- A link to the page behind the last is not followed.
+  pub chain-out : audit-looks 2 (patch (pages 7 5 2 6 both) (112 * 5 + 4) (7 ∷ [])) ≡ 3 ∷ 1 ∷ 2 ∷ 5 ∷ 6 ∷ []
   -- A listing meets no page that ends at a or starts at b, hurt or not.
   pub listing-both : pages-of (listing-trail 2 14 16 whole) ≡ 3 ∷ 1 ∷ 2 ∷ []
   pub listing-left : pages-of (listing-trail 2 0 15 (hurt 2 whole)) ≡ 3 ∷ 1 ∷ []
