@@ -1,5 +1,5 @@
 -- Laws of where the program stands and of what it prints. Assumes nothing.
-use Prim.Native.Nat.{ℕ, zero, suc, _≤_, min}
+use Prim.Native.Nat.{ℕ, zero, suc, _≤_, _<_, _^_, min}
 use mathlib.Core.Path.{_≡_, refl, sym, ap, _∙_, subst, subst⁻¹}
 use mathlib.Core.Bool.{Bool, true, false, not, _||_, true≢false, false≢true}
 use mathlib.Core.List.{List, []}
@@ -40,6 +40,10 @@ put-first : {had bs out : List ℕ} {n : ℕ} → Put had 0 bs out n → take n 
 unfolding part
 put-first {had} {bs} {out} {n} p = ap (λ o. take n o) (p .written) ∙ part-patch-same had 0 bs n (omega (arith, p .place)) (omega arith)
 
+-- nothing takes no place
+pub put-none : {had bs out : List ℕ} {n : ℕ} → Put had 0 bs out n → bs ≡ [] → n ≡ 0
+put-none p e = omega (arith, p .place, ap length e)
+
 -- the output's first bytes may be written
 pub writable : {had bs out : List ℕ} {n : ℕ} → Put had 0 bs out n → Printed bs → (n ≤ length out) × Printed (take n out)
 writable p q = (put-room p, subst⁻¹ Printed (put-first p) q)
@@ -61,19 +65,21 @@ module _ {step : Going → Going} {r f q : Reading} {img out after left : List �
 
 -- ---- a piece
 
--- a piece was run, and its writing went well or not
+-- a piece was run, and its writing went well or not: well, where there was nothing to write
 pub ran-written : {piece : List ℕ} {r q : Reading} {img after : List ℕ} (w : Bool)
     → ((g : Going) → Stands g r img → Stands (goes-on 12 64 piece (unwritten g)) q after)
+    → ((g : Going) → Stands g r img → goes-on 12 64 piece (unwritten g) .written ≡ [] → w ≡ true)
     → Ran piece r img (record { reading = q; more = w; failed = not w }) after
-ran-written true f = record { either = refl; runs = λ e. f }
-ran-written false f = record { either = refl; runs = λ e. f }
+ran-written true f n = record { either = refl; runs = λ e. f; silent = λ l. n }
+ran-written false f n = record { either = refl; runs = λ e. f; silent = λ l. n }
 
--- the program has stopped
+-- the program has stopped, at a line whose number does not fit
 module _ {piece : List ℕ} {r : Reading} {img after : List ℕ} {p : Progress} where
-  pub ran-failed : p ≡ record { reading = r; more = false; failed = true } → Ran piece r img p after
-  ran-failed e = record {
+  pub ran-failed : (r .number < 2 ^ 63 → ⊥) → p ≡ record { reading = r; more = false; failed = true } → Ran piece r img p after
+  ran-failed far e = record {
     either = ap (λ (x : Progress). x .more) e ∙ sym (ap (λ (x : Progress). not (x .failed)) e);
     runs = λ m. absurd (false≢true (sym (ap (λ (x : Progress). x .more) e) ∙ m));
+    silent = λ l. absurd (far l);
   }
 
 -- ---- what a read's answer means

@@ -1,9 +1,9 @@
 -- Where the program can be, and what it may write. What comes is the input's choice: said here is what every choice has in common. That
 -- what is written in turn for the pieces of a text is document 01's output for it is `whole` `pieces-program`. Assumes nothing.
-use Prim.Native.Nat.{ℕ, zero, suc}
+use Prim.Native.Nat.{ℕ, zero, suc, _<_, _^_}
 use mathlib.Core.Path.{_≡_}
 use mathlib.Core.Bool.{true, false, not}
-use mathlib.Core.List.{List}
+use mathlib.Core.List.{List, []}
 use lib.ListN.{length, take}
 use lib.IntN.{ℤ, pos, negsuc}
 use Rattle.rule.specs.Time.{END}
@@ -40,10 +40,13 @@ pub record Standing (r : Reading) (img : List ℕ) : Type 0 where
   pub reached : Reached going
   pub stands : Stands going r img
 
--- A piece was run, and what it prints is out; or a failure ends the program.
+-- A piece was run; or the program has ended for a failure, which it may claim only where something was to be written or the line's number
+-- doesn't fit.
 pub record Ran (piece : List ℕ) (r : Reading) (img : List ℕ) (p : Progress) (after : List ℕ) : Type 0 where
   pub either : p .more ≡ not (p .failed)
   pub runs : p .more ≡ true → (g : Going) → Stands g r img → Stands (goes-on 12 64 piece (unwritten g)) (p .reading) after
+  pub silent :
+      r .number < 2 ^ 63 → (g : Going) → Stands g r img → goes-on 12 64 piece (unwritten g) .written ≡ [] → p .more ≡ true
 
 -- What a read's answer means: −1 a failure, 0 the end of the text, any other number so many bytes of it.
 unfoldable pub Takes : ℤ → List ℕ → Reading → List ℕ → Progress → List ℕ → Type 0

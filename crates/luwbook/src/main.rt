@@ -17,6 +17,9 @@ ghost use lib.ListN.{length, take};
 ghost use Rattle.libc.specs.Io.{Moved};
 ghost use Rattle.luwbook.specs.Reached.{Printed, Standing, Ran, Takes, Well, Ends};
 
+// The last line's number that fits: 2^63 − 1, which no text comes to.
+const LAST_LINE: u64 = 9223372036854775807;
+
 // Where the program is, whether there is more to read, and whether a read or a write has failed.
 struct Progress {
     reading: Reading,
@@ -34,7 +37,17 @@ fn stopped(r: Reading, failed: bool) -> Progress
     }
 }
 
-// Writes the first n bytes, in as many turns as it takes, and answers whether that went well; if not, that is told on standard error.
+// A write's answer, as it is: a failure is told on standard error.
+fn told(written: bool) -> bool
+    ensures { λ r. ⌜ r ≡ written ⌝ }
+{
+    if !written {
+        io::write_all(STDERR_FILENO, b"luwbook: cannot write\n");
+    }
+    written
+}
+
+// Writes the first n bytes, in as many turns as it takes, and answers whether that went well.
 // No contract can say what reaches standard output: this one says what may be handed to it.
 fn write_first(out: &[u8], n: usize) -> bool
     requires { ⌜ n ≤ length (now out) ⌝ }
@@ -44,20 +57,16 @@ fn write_first(out: &[u8], n: usize) -> bool
     if n == 0 {
         return true;
     }
-    if io::write_all(STDOUT_FILENO, &out[..n]) {
-        return true;
-    }
-    io::write_all(STDERR_FILENO, b"luwbook: cannot write\n");
-    false
+    told(io::write_all(STDOUT_FILENO, &out[..n]))
 }
 
-// Runs what was read, and writes what that prints: at most 55 bytes for each. A line's number has to fit, as it does in any text.
+// Runs what was read, and writes what that prints: at most 55 bytes for each. A line's number has to fit.
 fn run_some(img: &mut [u8], r: Reading, piece: &[u8]) -> Progress
     requires { ⌜ length (now piece) ≤ 4096 ⌝ }
     requires { ⌜ Standing r (now img) ⌝ }
     ensures { λ p. ⌜ Ran (now (piece .entry)) r (now (img .entry)) p (now (img .exit)) ⌝ }
 {
-    if r.number > 9223372036854775807 {
+    if r.number > LAST_LINE {
         return stopped(r, true);
     }
     let mut out = [0u8; 225280];
@@ -127,7 +136,7 @@ fn finish(img: &mut [u8], p: Progress) -> bool
     ensures { λ r. ⌜ (r ≡ true → Ends (p .reading) (now (img .entry)) (now (img .exit))) ⌝ }
 {
     let r = p.reading;
-    if r.number > 9223372036854775807 {
+    if r.number > LAST_LINE {
         return false;
     }
     let mut out = [0u8; 157202];

@@ -1,12 +1,13 @@
 -- `luwbook::run_some` meets its contract. Assumes nothing.
+use native.Mathlib.Omega.{arith}
 use borrow.Author.Needs.{needs}
 use Rattle.luwbook.specs.Reached.{by-piece}
-use Rattle.luwbook.proofs.Laws.{writable, shown, stood, ran-written, ran-failed}
+use Rattle.luwbook.proofs.Laws.{put-none, writable, shown, stood, ran-written, ran-failed}
 use Rattle.luwbook.proofs.run_some.Statement.{statement}
 use Rattle.luwbook.proofs.run_some.Tie as tie
 
 returns : tie.Need-returns
-returns c = ran-failed (c .stopped .ensures)
+returns c = ran-failed (λ l. omega (arith, c .before .if1 .taken)) (c .stopped .ensures)
 
 write-first-requires : tie.Need-write-first-requires
 write-first-requires c κs =
@@ -18,7 +19,9 @@ write-first-requires c κs =
 returns-2 : tie.Need-returns-2
 returns-2 c =
     let ran = c .before .before .before .before .before in
-    ran-written _ (λ g s. stood (ran .before .flushed .ensures .0) (ran .run-piece .ensures .0) s)
+    let turned = ran .before .flushed .ensures .0 in
+    let went = ran .run-piece .ensures .0 in
+    ran-written _ (λ g s. stood turned went s) (λ g s e. c .write-first .ensures (put-none (shown turned went s .printed) e))
 
 pub run-some-spec : {M : Type 1} → statement M
 run-some-spec =

@@ -8,8 +8,8 @@ use Rattle.luwbook.proofs.write_first.Tie as tie
 slice-aggregate-write-all : tie.Need-slice-aggregate-write-all
 slice-aggregate-write-all c = sym (length-take-le _ _ (c .before .before .before .pre .0))
 
-returns-3 : tie.Need-returns-3
-returns-3 c = λ z. absurd (c .before .before .before .before .before .if1 .left z)
+returns-2 : tie.Need-returns-2
+returns-2 c = λ z. absurd (c .before .before .before .if1 .left z)
 
 pub write-first-spec : {M : Type 1} → statement M
 write-first-spec =
@@ -19,6 +19,4 @@ write-first-spec =
     slice-aggregate-write-all
     (λ c κs. search needs)
     (λ c. search needs)
-    (λ c. search needs)
-    (λ c κs. search needs)
-    returns-3)
+    returns-2)
