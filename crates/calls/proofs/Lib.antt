@@ -4,5 +4,6 @@
 pub mod Reflects
 pub mod Cases
 pub mod Tables
+pub mod Steps
 pub mod Opened
 pub mod Examples
