@@ -22,28 +22,35 @@ pub stayed : {half : ℕ} {img after : List ℕ} → Step half img [] after → 
 stayed kept = refl
 
 module _ (half : ℕ) where
-  pub booking-step : (side : Side) (v : ℤ) (s e : ℕ) (img scratch : List ℕ) (r : ℕ) (after left : List ℕ)
-      → record { number = r; image = after; scratch = left } ≡ book half side v s e img scratch
-      → Step half img (made r (record { side = side; v = v; s = s; e = e })) after
-  unfolding made
-  booking-step side v s e img scratch r after left p = go (ℕ-discrete r 0)
-    where
-      kept-image : r ≢ 0 → after ≡ img
-      kept-image n =
-          ap (λ (b : Booked). b .image) p
-          ∙ unfold book in ap (λ x. cond x (changed half side v s e img) img) (ap (λ (b : Booked). eqb (b .number) 0) (sym p) ∙ ne-eqb r 0 n)
+  module _ (side : Side) (v : ℤ) (s e : ℕ) (img scratch : List ℕ) (r : ℕ) (after left : List ℕ)
+      (p : record { number = r; image = after; scratch = left } ≡ book half side v s e img scratch) where
+    abbrev change : Change
+    change = record { side = side; v = v; s = s; e = e }
 
-      go : Dec (r ≡ 0) → Step half img (made r (record { side = side; v = v; s = s; e = e })) after
-      go (yes z) = subst⁻¹ (λ n. Step half img (made n (record { side = side; v = v; s = s; e = e })) after) z (accepted scratch (rw z at p))
-      go (no n) = rw (ne-eqb r 0 n) (stays (kept-image n))
+    refused-booking : r ≢ 0 → after ≡ img
+    unfolding book
+    refused-booking n =
+        ap (λ (b : Booked). b .image) p
+        ∙ ap (λ x. cond x (changed half side v s e img) img)
+        (ap (λ (b : Booked). eqb (b .number) 0) (sym p) ∙ ne-eqb r 0 n)
+
+    pub booking-step : Step half img (made r change) after
+    unfolding made
+    booking-step = go (ℕ-discrete r 0)
+      where
+        go : Dec (r ≡ 0) → Step half img (made r change) after
+        go (yes z) = subst⁻¹ (λ n. Step half img (made n change) after) z (accepted scratch (rw z at p))
+        go (no n) = subst⁻¹ (λ x. Step half img (cond x (change ∷ []) []) after) (ne-eqb r 0 n) (stays (refused-booking n))
 
   refused-format : (kind window : ℕ) (img : List ℕ) (r : ℕ) (after : List ℕ)
       → record { number = r; image = after } ≡ format half kind window img
       → r ≢ 0
       → after ≡ img
+  unfolding format
   refused-format kind window img r after p n =
       ap (λ (f : Formatted). f .image) p
-      ∙ unfold format in ap (λ x. cond x (image-bytes half (fresh (pages-in half img) kind window)) img) (ap (λ (f : Formatted). eqb (f .number) 0) (sym p) ∙ ne-eqb r 0 n)
+      ∙ ap (λ x. cond x (image-bytes half (fresh (pages-in half img) kind window)) img)
+      (ap (λ (f : Formatted). eqb (f .number) 0) (sym p) ∙ ne-eqb r 0 n)
 
   pub steps : Steps half
   steps =

@@ -36,7 +36,9 @@ pub data Trace (half kind window : ℕ) : List ℕ → List Change → Type 0 wh
 
 -- "Demand 3 is a single claim about the list, not one for each call": P of each image on the way, the first and the last among them, and
 -- of the changes accepted until then
-unfoldable pub Throughout : {half kind window : ℕ} (P : List ℕ → List Change → Type 0) {img : List ℕ} {cs : List Change} → Trace half kind window img cs → Type 0
+unfoldable pub Throughout :
+    {half kind window : ℕ} (P : List ℕ → List Change → Type 0) {img : List ℕ} {cs : List Change}
+    → Trace half kind window img cs → Type 0
 Throughout P {img} {cs} (formatted before f) = P img []
 Throughout P (extended {img} {after} {cs} {ds} T step) = Throughout P T × P after (cs ++ ds)
 

@@ -1,6 +1,6 @@
--- What every step keeps of an image and of its book: the image is sound, and each instant's pair is the book's. Assumes nothing.
+-- What holds of an image and of its book after every list of calls, and that an accepted change keeps it: the image is sound, and each instant's pair is the book's. Assumes nothing.
 use Prim.Native.Nat.{ℕ, suc, _<_}
-use mathlib.Core.Path.{_≡_, sym, ap, _∙_, subst⁻¹}
+use mathlib.Core.Path.{_≡_, sym, ap, _∙_}
 use mathlib.Core.Bool.{true, cond}
 use mathlib.Core.List.{List}
 use lib.IntN.{ℤ}
@@ -10,10 +10,9 @@ use Rattle.rule.specs.Pairs.{combine}
 use Rattle.fields.specs.Bytes.{Bytes}
 use Rattle.image.specs.Sound.{sound}
 use Rattle.image.specs.Instant.{look-up}
-use Rattle.calls.specs.Changes.{Side, effect, Change}
-use Rattle.calls.specs.Calls.{Booked, head, book}
-use Rattle.calls.specs.Book.{Book, entered, entered-all, book-pair}
-use Rattle.calls.specs.Trace.{Step, kept, accepted}
+use Rattle.calls.specs.Changes.{Side, effect}
+use Rattle.calls.specs.Calls.{head, book}
+use Rattle.calls.specs.Book.{Book, entered, book-pair}
 use Rattle.ledger.proofs.Books.{entered-onto}
 use Rattle.demands.proofs.Booked.{Wide, booked}
 
@@ -46,12 +45,3 @@ module _ {half : ℕ} (wide : Wide half) where
               cond (covers s (lengthened e (K .window i)) t) (combine (K .kind i) (K .pairs t below i) (effect side v)) (K .pairs t below i))
               ∙ sym (entered-onto side v s e B t);
         }
-
-  -- ---- any step of a list
-
-  pub kept-step : {img after : List ℕ} {ds : List Change} {B : Book} → Step half img ds after → Kept half img B → Kept half after (entered-all ds B)
-  unfolding entered-all
-  kept-step kept K = K
-  kept-step {B = B} (accepted {side = side} {v} {s} {e} scratch p) K =
-      subst⁻¹ (λ x. Kept half x (entered 0 side v s e B)) (ap (λ (b : Booked). b .image) p)
-      (kept-accepted side v s e scratch K (sym (ap (λ (b : Booked). b .number) p)))

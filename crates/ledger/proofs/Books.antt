@@ -1,14 +1,12 @@
 -- The plain book over lists of changes: entering step by step, and its pair as a total. Assumes nothing.
 use Prim.Native.Nat.{ℕ, suc, _+_}
 use mathlib.Core.Path.{_≡_, refl, sym, ap, _∙_}
-use mathlib.Core.Logic.{_≢_}
 use mathlib.Core.Bool.{Bool, true, false, cond}
 use mathlib.Core.List.{List, [], _∷_, _++_}
 use native.Mathlib.Omega.{arith}
 use lib.Dec.{eqb}
 use lib.ListN.{length}
 use lib.IntN.{ℤ}
-use borrow.Author.Tests.{ne-eqb}
 use Rattle.rule.specs.Time.{lengthened, covers}
 use Rattle.rule.specs.Pairs.{combine}
 use Rattle.rule.proofs.Laws.{lawful}
@@ -35,31 +33,6 @@ module _ (side : Side) (v : ℤ) (s e : ℕ) (B : Book) where
   entered-onto t =
       entered-pair t
       ∙ ap (λ z. cond (covers s (lengthened e (B .window)) t) z (book-pair B t)) (lawful (B .kind) .comm (effect side v) (book-pair B t))
-
-  pub entered-refused : (number : ℕ) → number ≢ 0 → entered number side v s e B ≡ B
-  unfolding entered
-  entered-refused number n = rw (ne-eqb number 0 n)
-
-  -- what an accepted change keeps of the book, a refused one keeps too
-  keeps : {A : Type 0} (f : Book → A) → f (entered 0 side v s e B) ≡ f B → (number : ℕ) → f (entered number side v s e B) ≡ f B
-  unfolding entered
-  keeps f h number = go (eqb number 0)
-    where
-      go : (x : Bool) → f (cond x (entered 0 side v s e B) B) ≡ f B
-      go true = h
-      go false = refl
-
-  pub entered-kind : (number : ℕ) → entered number side v s e B .kind ≡ B .kind
-  unfolding entered
-  entered-kind = keeps (λ C. C .kind) refl
-
-  pub entered-window : (number : ℕ) → entered number side v s e B .window ≡ B .window
-  unfolding entered
-  entered-window = keeps (λ C. C .window) refl
-
-  pub entered-length : length (entered 0 side v s e B .items) ≡ suc (length (B .items))
-  unfolding entered
-  entered-length = refl
 
 -- ---- the book of a list
 

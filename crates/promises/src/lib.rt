@@ -74,7 +74,8 @@ pub fn audit(img: &[u8], scratch: &mut [u8]) -> u32
 }
 
 pub fn average_at(img: &[u8], t: u32) -> AverageAnswer
-    ensures { λ r. ⌜ r ≡ average-answer (calls.average-at 12 t (now (img .entry)) .number) (calls.average-at 12 t (now (img .entry)) .average) ⌝ }
+    ensures { λ r. ⌜ r ≡ average-answer (calls.average-at 12 t (now (img .entry)) .number)
+        (calls.average-at 12 t (now (img .entry)) .average) ⌝ }
     ensures { λ r. ⌜ Step 12 (now (img .entry)) [] (now (img .exit)) ⌝ }
 {
     luw_average(img, t)
