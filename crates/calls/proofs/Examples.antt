@@ -1,15 +1,23 @@
 -- The cases hold: each is computed. Assumes nothing.
-use mathlib.Core.Path.{refl}
-use mathlib.Core.Bool.{false≢true}
-use mathlib.Core.List.{[], _∷_}
+use Prim.Native.Nat.{ℕ, suc, _*_}
+use mathlib.Core.Path.{_≡_, refl, sym, ap}
+use mathlib.Core.Logic.{_≢_, _⊎_, inl, inr}
+use mathlib.Core.Bool.{Bool, true, false, not, false≢true}
+use mathlib.Core.List.{List, [], _∷_}
 use native.Mathlib.Omega.{arith}
+use lib.ListN.{replicate}
 use lib.IntN.{pos}
-use Rattle.calls.specs.Book.{empty-book, entered, items-pair, book-pair, runs-after, runs-of, listing-of}
+use Rattle.rule.specs.Time.{END}
+use Rattle.calls.specs.Refusals.{first, scratch-ok}
+use Rattle.calls.specs.Changes.{entering, withdrawing}
+use Rattle.calls.specs.Calls.{Booked, head, book}
+use Rattle.calls.specs.Book.{empty-book, entered, entered-all, book-of, items-pair, book-pair, runs-after, runs-of, listing-of}
 use Rattle.calls.specs.Aggregate.{counts-at, counting, signed, sum-of, count-of, best-of, best-pair, aggregate-of, aggregate, same-booking, without, live-has, live-after, live-from, Matched}
-use Rattle.calls.specs.Lists.{left-by, left-by-all, Refused-format, Refused-formats, returned, fed, fed-all, fixed-number, accepted-by, accepted}
-use Rattle.calls.specs.Demands.{couples, Reordered, same, next, swap, then}
-use Rattle.calls.specs.Examples.{prescribed, one, windowed, two, below-zero, Book-cases, prescription, again, twice, three, Aggregate-cases, entry, fresh-image, day, after-one, greatest-one, numbers, struck, struck-too, List-cases}
+use Rattle.calls.specs.Trace.{Step, kept, accepted, Trace, formatted, extended, Throughout, made}
+use Rattle.calls.specs.Demands.{fixed-number, As-the-book, couples, Reordered, same, next, swap, then}
+use Rattle.calls.specs.Examples.{prescribed, one, windowed, two, below-zero, Book-cases, prescription, again, twice, three, Aggregate-cases, entry, fresh-image, after-one, after-two, after-three, three-changes, greatest-one, struck, struck-too, List-cases}
 use Rattle.calls.proofs.Opened.{every-call}
+use Rattle.calls.proofs.Steps.{stayed}
 
 pub book-cases : Book-cases
 unfolding every-call empty-book entered items-pair book-pair runs-after runs-of listing-of prescribed one windowed two below-zero
@@ -72,24 +80,59 @@ aggregate-cases =
       other-end = λ m. false≢true (m .1 .0);
     }
 
+-- a day of calls: the second step is a booking that was refused, the third a format that was refused and the fourth a reading call
+a-day : Trace 2 1 0 after-three three-changes
+unfolding every-call fresh-image after-one after-two after-three three-changes
+a-day =
+    extended
+    (extended (extended (extended (extended (extended (formatted (replicate (112 * 2) 0) refl) (accepted (7 ∷ 7 ∷ []) refl)) kept) kept) kept)
+    (accepted (7 ∷ 7 ∷ []) refl))
+    (accepted (7 ∷ 7 ∷ []) refl)
+
+-- whatever the scratch, 3 on [20, 50) is refused on what the first booking left
+refused-booking : (scratch : List ℕ) → book 2 entering (pos 3) 20 50 after-one scratch .number ≢ 0
+unfolding every-call fresh-image after-one
+refused-booking scratch = go (scratch-ok 2 scratch)
+  where
+    go : (x : Bool) → first ((17, not x) ∷ (24, true) ∷ []) ≢ 0
+    go true e = omega arith
+    go false e = omega arith
+
+made-up : {after : List ℕ} → ¬ Step 2 after-one (entry (pos 3) 20 50 ∷ []) after
+made-up (accepted scratch p) = refused-booking scratch (ap (λ (b : Booked). b .number) (sym p))
+
+-- a number other than 0 is fixed
+fixed-one : {n : ℕ} (m : ℕ) → (n ≡ suc m) ⊎ ((suc m ≡ 0) × (n ≡ 24)) → n ≡ suc m
+fixed-one m (inl e) = e
+fixed-one m (inr e) = absurd (omega (arith, e .0))
+
 pub list-cases : List-cases
-unfolding every-call empty-book entered one windowed left-by left-by-all Refused-format Refused-formats returned fed fed-all fixed-number accepted-by accepted couples fresh-image day after-one greatest-one numbers
+unfolding every-call empty-book entered entered-all book-of book-pair items-pair one windowed fixed-number couples fresh-image after-one after-two after-three three-changes greatest-one made Throughout a-day
 list-cases =
     record {
       fits-at-first = refl;
       fits-no-more = refl;
-      all-numbers = refl;
       fixed = (refl, refl, refl, refl);
       refused-leaves = (refl, refl);
       left-one = refl;
+      left-twice = refl;
       left-two = refl;
-      left-all = refl;
+      left-three = refl;
       averaged = (refl, refl, refl);
       averaged-greatest = (refl, refl);
+      made-by-number = (refl, refl);
+      day = a-day;
+      all-day = ((((((omega arith, omega arith), omega arith), omega arith), omega arith), omega arith), omega arith);
+      last-of-day = λ h. omega (arith, h .1);
+      first-of-day = λ h. omega (arith, h .0 .0 .0 .0 .0 .0);
       fed = refl;
-      made = refl;
-      refused-format = (tt, (tt, (tt, (tt, (tt, (tt, (tt, (tt, (tt, (tt, (tt, (tt, (λ e. absurd (omega arith), tt)))))))))))));
-      accepted-format = λ r. r .0 refl;
+      claimed = λ h. (h .instant-end END (omega arith), h .instants 39 (omega arith) .1, h .average-end END (omega arith), h .averages 39 (omega arith));
+      claimed-greatest = λ h. h .averages 40 (omega arith);
+      claimed-audit = λ h. (h .audits [], h .audits (7 ∷ 7 ∷ []));
+      claimed-booking = λ h. fixed-one 21 (h .bookings withdrawing (pos 4) 35 45 (7 ∷ 7 ∷ []));
+      accepted-format = λ step. let e : _≡_ {A = ℕ} 0 1 = ap (λ img. head 2 img .changes) (stayed step) in omega arith;
+      change-left-out = λ step. let e : _≡_ {A = ℕ} 2 1 = ap (λ img. head 2 img .changes) (stayed step) in omega arith;
+      change-made-up = made-up;
       couple = refl;
       struck-out = record { struck-x = struck ∷ []; struck-y = []; left = entry (pos 3) 20 50 ∷ []; of-x = next swap; of-y = same };
       withdrawn-first =

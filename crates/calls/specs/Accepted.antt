@@ -11,11 +11,17 @@ use lib.ListN.{length}
 use Rattle.rule.specs.Time.{END, lengthened}
 use Rattle.rule.specs.Pairs.{combine}
 use Rattle.fields.specs.Bytes.{Bytes}
-use Rattle.image.specs.Images.{page-at}
+use Rattle.image.specs.Images.{page-at, image-of}
 use Rattle.image.specs.Sound.{sound}
+use Rattle.steps.specs.Change.{change-names}
 use Rattle.calls.specs.Changes.{Side, effect}
 use Rattle.calls.specs.Calls.{head, book, instant}
-use Rattle.calls.specs.Demands.{named}
+
+-- the pages that the five steps of a change name, in the image as it finds it
+unfoldable pub named : ℕ → Side → ℤ → ℕ → ℕ → List ℕ → List ℕ
+named half side v s e img =
+    let h = head half img in
+    change-names half (combine (h .kind)) s (lengthened e (h .window)) (effect side v) (image-of half img)
 
 -- A change by v on [s, e) that took the image img to img′. Its effect covers [s, e′), e′ being `lengthened e w` of the image's own
 -- window w.

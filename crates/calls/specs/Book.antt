@@ -10,7 +10,7 @@ use Rattle.rule.specs.Time.{END, span-ok, lengthened, covers}
 use Rattle.rule.specs.Pairs.{none, same-pair, combine}
 use Rattle.image.specs.Listing.{Run}
 use Rattle.calls.specs.Refusals.{first}
-use Rattle.calls.specs.Changes.{Side, effect}
+use Rattle.calls.specs.Changes.{Side, effect, Change}
 use Rattle.calls.specs.Calls.{Listed, too-short, written}
 
 -- "an item: s, e′ and (v, 1), for a withdrawal (−v, −1)"
@@ -33,6 +33,14 @@ unfoldable pub entered : ℕ → Side → ℤ → ℕ → ℕ → Book → Book
 entered number side v s e B =
     let item : Item = record { s = s; e = lengthened e (B .window); pair = effect side v } in
     cond (eqb number 0) (record { kind = B .kind; window = B .window; items = item ∷ B .items }) B
+
+-- the book of accepted changes, entered one after the other, the first first
+unfoldable pub entered-all : List Change → Book → Book
+entered-all [] B = B
+entered-all (c ∷ cs) B = entered-all cs (entered 0 (c .side) (c .v) (c .s) (c .e) B)
+
+unfoldable pub book-of : ℕ → ℕ → List Change → Book
+book-of kind window cs = entered-all cs (empty-book kind window)
 
 -- "Its pair at t is over the items with s ≤ t < e′: for kind 1 their pairs added, for kinds 2 and 3 the greatest or least value
 -- with 1; (0, 0) if there are none."

@@ -1,26 +1,30 @@
--- The three demands, over the calls of document 01 as Calls.antt defines them: what each function of the index promises is that it
--- does what its definition there does, so what holds of the definitions holds of the index. Assumes nothing.
+-- The three demands, over the calls of document 01 as Calls.antt defines them and the lists that Trace.antt makes of them: what each
+-- function of the index promises is that it does what its definition there does, so what holds of the definitions holds of the index.
+-- Assumes nothing.
 use Prim.Native.Nat.{ℕ, _≤_, _<_}
 use mathlib.Core.Path.{_≡_}
 use mathlib.Core.Logic.{_≢_, _⊎_}
-use mathlib.Core.Bool.{Bool, true, cond, _||_}
+use mathlib.Core.Bool.{Bool, true, cond, not, _&&_, _||_}
 use lib.Dec.{eqb}
-use mathlib.Core.List.{List, [], _∷_, _++_, List·Memᴰ}
+use mathlib.Core.List.{List, [], _∷_, _++_}
 use lib.ListN.{length}
 use lib.IntN.{ℤ}
 use Rattle.rule.specs.declared.Average.the-variants.{Nothing, Beyond}
-use Rattle.rule.specs.Time.{END, lengthened}
-use Rattle.rule.specs.Pairs.{none, combine}
+use Rattle.rule.specs.Time.{END, span-ok, value-ok}
+use Rattle.rule.specs.Pairs.{none}
 use Rattle.rule.specs.Averages.{average}
-use Rattle.image.specs.Images.{page-at, pages-in, image-of}
+use Rattle.fields.specs.Bytes.{Bytes}
+use Rattle.page.specs.Fit.{most-changes}
+use Rattle.image.specs.Images.{pages-in}
 use Rattle.image.specs.Sound.{sound}
-use Rattle.steps.specs.Change.{change-names}
-use Rattle.calls.specs.Refusals.{cleared}
-use Rattle.calls.specs.Changes.{Side, entering, withdrawing, effect, Change}
+use Rattle.calls.specs.Refusals.{first, scratch-ok, cleared}
+use Rattle.calls.specs.Changes.{Side, entering, withdrawing, withdraws, Change}
 use Rattle.calls.specs.Calls.{head, format, book, instant, average-at, listing, audit}
-use Rattle.calls.specs.Book.{Book, empty-book, listing-of}
-use Rattle.calls.specs.Lists.{Call, left-by-all, Refused-formats, All-agree, accepted}
-use Rattle.calls.specs.Aggregate.{aggregate, aggregate-of, counting, Matched, live-from}
+use Rattle.calls.specs.Tables.{Turned-back}
+use Rattle.calls.specs.Book.{Book, entered, book-of, book-pair, listing-of}
+use Rattle.calls.specs.Trace.{Trace, Throughout, made, Steps}
+use Rattle.calls.specs.Aggregate.{aggregate, Matched, live-from}
+use Rattle.calls.specs.Accepted.{Every-change}
 
 -- "scratch is untouched at 16 and 17, also at 11 and 13"
 unfoldable pub keeps-scratch : ℕ → Bool
@@ -58,53 +62,59 @@ pub record Demand-1 (half : ℕ) : Type 0 where
   -- no call on an image answers the average of a sum that no fit page can show
   pub of-beyond : (t : ℕ) (img : List ℕ) → average-at half t img .average ≢ Beyond
 
--- A list of calls on one image, "from a freshly formatted one".
-pub record History (half : ℕ) : Type 0 where
-  pub kind : ℕ
-  pub window : ℕ
-  pub before : List ℕ
-  pub formatted : format half kind window before .number ≡ 0
-  pub calls : List Call
-  pub refused : Refused-formats half calls (format half kind window before .image)
-
--- the image that the format left, the image after the list, and the changes that it accepted
-unfoldable pub at-first : (half : ℕ) → History half → List ℕ
-at-first half H = format half (H .kind) (H .window) (H .before) .image
-
-unfoldable pub at-last : (half : ℕ) → History half → List ℕ
-at-last half H = left-by-all half (H .calls) (at-first half H)
-
-unfoldable pub changes : (half : ℕ) → History half → List Change
-changes half H = accepted half (H .calls) (at-first half H)
-
 -- Demand 2. "On an image changed by these calls alone since format, every instant, span and fixed-window answer (sum, count,
 -- average, greatest, least) is the aggregate that Yang and Widom define over the accepted bookings, a withdrawal counting as a
 -- negative entry and averages rounded as document 01 says; every image that a change leaves is sound by document 01's page rules."
-pub record Demand-2 (half : ℕ) (H : History half) : Type 0 where
+pub record Demand-2 (half kind window : ℕ) (img : List ℕ) (cs : List Change) : Type 0 where
   pub instants :
       (t : ℕ) → t < END
-      → (instant half t (at-last half H) .number ≡ 0)
-      × (instant half t (at-last half H) .pair ≡ aggregate (H .kind) (H .window) (changes half H) t)
+      → (instant half t img .number ≡ 0) × (instant half t img .pair ≡ aggregate kind window cs t)
   pub averages :
       (t : ℕ) → t < END
-      → average-at half t (at-last half H)
-      ≡ record { number = 0; average = average (H .kind) (aggregate (H .kind) (H .window) (changes half H) t) }
-  pub spans :
-      (a b : ℕ) (out : List ℕ)
-      → listing half a b (at-last half H) out ≡ listing-of (aggregate (H .kind) (H .window) (changes half H)) a b out
-  pub sound-after : sound half (at-last half H) ≡ true
+      → average-at half t img ≡ record { number = 0; average = average kind (aggregate kind window cs t) }
+  pub spans : (a b : ℕ) (out : List ℕ) → listing half a b img out ≡ listing-of (aggregate kind window cs) a b out
+  pub sound-after : sound half img ≡ true
   -- "If every withdrawal matches an earlier entry not yet withdrawn, this is the aggregate over live bookings."
-  pub live :
-      Matched [] (changes half H)
-      → (t : ℕ)
-      → aggregate (H .kind) (H .window) (changes half H) t
-      ≡ aggregate (H .kind) (H .window) (live-from [] (changes half H)) t
+  pub live : Matched [] cs → (t : ℕ) → aggregate kind window cs t ≡ aggregate kind window (live-from [] cs) t
+
+-- The number of a booking as far as document 01 fixes it without the image: only 24 turns on how the pages came to lie.
+unfoldable pub fixed-number : ℕ → Side → ℤ → ℕ → ℕ → List ℕ → Book → ℕ
+fixed-number pages side v s e scratch B =
+    first
+    ((17, not (scratch-ok pages scratch))
+    ∷ (11, not (span-ok s e))
+    ∷ (13, not (value-ok v))
+    ∷ (22, withdraws side && not (eqb (B .kind) 1))
+    ∷ (23, eqb (length (B .items)) most-changes)
+    ∷ [])
+
+-- What demand 3 claims of an image, B being the book as it then is: whichever call is made on it, with any arguments, returns what the
+-- book says.
+pub record As-the-book (half : ℕ) (img : List ℕ) (B : Book) : Type 0 where
+  -- "an instant call returns 12 at END, else 0 and the pair at t that the book then has"
+  pub instant-end : (t : ℕ) → END ≤ t → instant half t img .number ≡ 12
+  pub instants : (t : ℕ) → t < END → (instant half t img .number ≡ 0) × (instant half t img .pair ≡ book-pair B t)
+  -- "The average's pair is taken by an instant call": the same numbers, at END with no average, else with that of the book's kind and pair
+  pub average-end : (t : ℕ) → END ≤ t → average-at half t img ≡ record { number = 12; average = Nothing }
+  pub averages :
+      (t : ℕ) → t < END → average-at half t img ≡ record { number = 0; average = average (B .kind) (book-pair B t) }
+  -- "a listing 11 if a ≥ b, else 15 if the output is shorter than the book's runs, else 0, their number, and an output that begins with
+  -- them and keeps the rest"; and so the full one: "The full listing is that over [0, END)."
+  pub listings : (a b : ℕ) (out : List ℕ) → listing half a b img out ≡ listing-of (book-pair B) a b out
+  -- "an audit 17 if its scratch is too short, else 0"
+  pub audits : (scratch : List ℕ) → audit half img scratch .number ≡ first ((17, not (scratch-ok (pages-in half img) scratch)) ∷ [])
+  -- a booking the number that is fixed, but where the pages may be too few
+  pub bookings :
+      (side : Side) (v : ℤ) (s e : ℕ) (scratch : List ℕ)
+      → let number = book half side v s e img scratch .number in
+      let fixed = fixed-number (pages-in half img) side v s e scratch B in
+      (number ≡ fixed) ⊎ ((fixed ≡ 0) × (number ≡ 24))
 
 -- Demand 3, the claim about the list. "For every list of calls on one image .. from a freshly formatted one, each instant's pair and
 -- each listing on the way, and after it the full listing, are exactly those of the plain book in document 01, which keeps only the
 -- accepted changes."
-unfoldable pub Demand-3-list : (half : ℕ) → History half → Type 0
-Demand-3-list half H = All-agree half (H .calls) (at-first half H) (empty-book (H .kind) (H .window))
+unfoldable pub Demand-3-list : {half kind window : ℕ} {img : List ℕ} {cs : List Change} → Trace half kind window img cs → Type 0
+Demand-3-list {half} {kind} {window} T = Throughout (λ img cs. As-the-book half img (book-of kind window cs)) T
 
 -- One list in the order of another.
 pub data Reordered : List Change → List Change → Type 0 where
@@ -136,41 +146,33 @@ pub record Same-changes (xs ys : List Change) : Type 0 where
   pub of-x : Reordered xs (couples struck-x ++ left)
   pub of-y : Reordered ys (couples struck-y ++ left)
 
--- Demand 3, the claim on two images. "Any two images of the same kind and window, of whatever sizes and after whatever two such
--- lists, have the same full listing if the changes they accepted are the same".
-unfoldable pub Demand-3-two : (half : ℕ) → History half → History half → Type 0
-Demand-3-two half H J =
-    H .kind ≡ J .kind
-    → H .window ≡ J .window
-    → Same-changes (changes half H) (changes half J)
-    → (out : List ℕ) → listing half 0 END (at-last half H) out ≡ listing half 0 END (at-last half J) out
+-- Demand 3, the claim on one more change: "After every such list, one more accepted change alters no instant's pair outside its span
+-- (lengthened by the window), and no byte of a page that its five steps in document 01 don't name." `Every-change` (Accepted.antt) says so
+-- of every image of bytes, the window being the one in its head; after a list the image is one, and kind and window are the format's.
+pub record Headed (half kind window : ℕ) (img : List ℕ) (cs : List Change) : Type 0 where
+  pub bytes : Bytes img
+  pub kind-is : head half img .kind ≡ kind
+  pub window-is : head half img .window ≡ window
+  pub changes-are : head half img .changes ≡ length cs
 
--- the pages that the five steps of a change name, in the image as it finds it
-unfoldable pub named : ℕ → Side → ℤ → ℕ → ℕ → List ℕ → List ℕ
-named half side v s e img =
-    let h = head half img in
-    change-names half (combine (h .kind)) s (lengthened e (h .window)) (effect side v) (image-of half img)
-
--- Demand 3, the claim on one more change. "After every such list, one more accepted change alters no instant's pair outside its span
--- (lengthened by the window), and no byte of a page that its five steps in document 01 don't name."
-pub record Demand-3-one (half : ℕ) (H : History half) : Type 0 where
-  pub instants :
-      (side : Side) (v : ℤ) (s e : ℕ) (scratch : List ℕ)
-      → book half side v s e (at-last half H) scratch .number ≡ 0
-      → (t : ℕ) → (t < s) ⊎ (lengthened e (H .window) ≤ t)
-      → instant half t (book half side v s e (at-last half H) scratch .image) .pair ≡ instant half t (at-last half H) .pair
-  pub bytes :
-      (side : Side) (v : ℤ) (s e : ℕ) (scratch : List ℕ)
-      → book half side v s e (at-last half H) scratch .number ≡ 0
-      → (p : ℕ) → ¬ List·Memᴰ p (named half side v s e (at-last half H))
-      → page-at half (book half side v s e (at-last half H) scratch .image) p ≡ page-at half (at-last half H) p
-
--- Demand 3 in one: of every history, of every two, and of every one more change.
-pub record Demand-3 (half : ℕ) : Type 0 where
-  pub of-the-list : (H : History half) → Demand-3-list half H
-  pub of-two-images : (H J : History half) → Demand-3-two half H J
-  pub of-one-more : (H : History half) → Demand-3-one half H
-
--- The demands at the capacity of document 01's pages: 24.
-unfoldable pub The-demands : Type 0
-The-demands = Demand-1 12 × ((H : History 12) → Demand-2 12 H) × Demand-3 12
+-- The demands. The lists are those of Trace.antt, and every call is a step there.
+pub record The-demands (half : ℕ) : Type 0 where
+  pub demand-1 : Demand-1 half
+  pub demand-1-numbers : Turned-back half
+  pub steps : Steps half
+  -- "The book is fed .. each call's arguments and, of enter and withdraw, the number returned; never the image."
+  pub fed :
+      (kind window : ℕ) (cs : List Change) (r : ℕ) (c : Change)
+      → book-of kind window (cs ++ made r c) ≡ entered r (c .side) (c .v) (c .s) (c .e) (book-of kind window cs)
+  pub demand-2 : {kind window : ℕ} {img : List ℕ} {cs : List Change} → Trace half kind window img cs → Demand-2 half kind window img cs
+  pub demand-3-list : {kind window : ℕ} {img : List ℕ} {cs : List Change} (T : Trace half kind window img cs) → Demand-3-list T
+  -- "Any two images of the same kind and window, of whatever sizes and after whatever two such lists, have the same full listing if the
+  -- changes they accepted are the same"
+  pub demand-3-two :
+      {kind window : ℕ} {img other : List ℕ} {cs ds : List Change}
+      → Trace half kind window img cs
+      → Trace half kind window other ds
+      → Same-changes cs ds
+      → (out : List ℕ) → listing half 0 END img out ≡ listing half 0 END other out
+  pub demand-3-one : Every-change half
+  pub headed : {kind window : ℕ} {img : List ℕ} {cs : List Change} → Trace half kind window img cs → Headed half kind window img cs

@@ -1,10 +1,10 @@
 -- The plain book, the aggregate and lists of calls on short spans: cases that compute. Each is worked out by hand from document 01's
 -- words and from the tables of source document 000, and the aggregate's apart from the book's. Assumes nothing.
-use Prim.Native.Nat.{ℕ, _*_}
+use Prim.Native.Nat.{ℕ, _*_, _<_}
 use mathlib.Core.Path.{_≡_}
 use mathlib.Core.Bool.{true, false}
 use mathlib.Core.List.{List, [], _∷_, _++_, map}
-use lib.ListN.{replicate}
+use lib.ListN.{length, replicate}
 use lib.IntN.{ℤ, pos, negsuc}
 use Rattle.rule.specs.declared.Pair.{Pair}
 use Rattle.rule.specs.declared.Average.the-variants.{Hundredths, Nothing}
@@ -13,11 +13,11 @@ use Rattle.rule.specs.Pairs.{none}
 use Rattle.rule.specs.Averages.{average}
 use Rattle.image.specs.Listing.{Run}
 use Rattle.calls.specs.Changes.{Side, entering, withdrawing, Change}
-use Rattle.calls.specs.Calls.{format, instant, average-at}
-use Rattle.calls.specs.Book.{Item, Book, empty-book, entered, book-pair, runs-of, listing-of}
+use Rattle.calls.specs.Calls.{Booked, format, book, instant, average-at, audit}
+use Rattle.calls.specs.Book.{Item, Book, empty-book, entered, book-of, book-pair, runs-of, listing-of}
 use Rattle.calls.specs.Aggregate.{counts-at, aggregate, live-from, Matched}
-use Rattle.calls.specs.Lists.{Call, booking, asking, averaging, listing-over, auditing, formatting, left-by, left-by-all, Refused-formats, returned, fed-all, fixed-number, accepted}
-use Rattle.calls.specs.Demands.{Booking, couples, Same-changes}
+use Rattle.calls.specs.Trace.{Step, Trace, Throughout, made}
+use Rattle.calls.specs.Demands.{fixed-number, As-the-book, Booking, couples, Same-changes}
 
 -- (sum, count)
 abbrev pub pair : ℤ → ℤ → Pair
@@ -219,42 +219,30 @@ pub record Aggregate-cases : Type 0 where
 unfoldable pub fresh-image : List ℕ
 fresh-image = format 2 1 0 (replicate (112 * 2) 0) .image
 
--- a booking with scratch enough
-abbrev pub enters : ℤ → ℕ → ℕ → Call
-enters v s e = booking entering v s e (7 ∷ 7 ∷ [])
+-- bookings with scratch enough
+abbrev pub enters : ℤ → ℕ → ℕ → List ℕ → Booked
+enters v s e img = book 2 entering v s e img (7 ∷ 7 ∷ [])
 
--- 6 on [10, 40), which leaves three leaf entries; 3 on [20, 50), which would split the page, and so is refused by 24; the first once
--- more; one of an empty span, refused by 11; the first withdrawn; and between them calls that change nothing, of which 12, 15, 17 and
--- 14 refuse some
-unfoldable pub day : List Call
-day =
-    enters (pos 6) 10 40
-    ∷ asking 20
-    ∷ asking END
-    ∷ enters (pos 3) 20 50
-    ∷ enters (pos 6) 10 40
-    ∷ averaging 20
-    ∷ averaging END
-    ∷ enters (pos 1) 5 5
-    ∷ listing-over 0 50 []
-    ∷ booking withdrawing (pos 6) 10 40 (7 ∷ 7 ∷ [])
-    ∷ auditing (7 ∷ 7 ∷ [])
-    ∷ auditing []
-    ∷ formatting 4 0
-    ∷ []
+abbrev pub withdraws : ℤ → ℕ → ℕ → List ℕ → Booked
+withdraws v s e img = book 2 withdrawing v s e img (7 ∷ 7 ∷ [])
 
--- the image that the first call leaves
+-- 6 on [10, 40), which leaves three leaf entries; the same withdrawn; and 3 on [20, 50), which fits only now
 unfoldable pub after-one : List ℕ
-after-one = left-by 2 (enters (pos 6) 10 40) fresh-image
+after-one = enters (pos 6) 10 40 fresh-image .image
 
--- the same on an image of kind 2
+unfoldable pub after-two : List ℕ
+after-two = withdraws (pos 6) 10 40 after-one .image
+
+unfoldable pub after-three : List ℕ
+after-three = enters (pos 3) 20 50 after-two .image
+
+-- the first on an image of kind 2
 unfoldable pub greatest-one : List ℕ
-greatest-one = left-by 2 (enters (pos 6) 10 40) (format 2 2 0 (replicate (112 * 2) 0) .image)
+greatest-one = enters (pos 6) 10 40 (format 2 2 0 (replicate (112 * 2) 0) .image) .image
 
--- the numbers that the calls of a list return
-unfoldable pub numbers : ℕ → List Call → List ℕ → List ℕ
-numbers half [] img = []
-numbers half (c ∷ cs) img = returned half c img ∷ numbers half cs (left-by half c img)
+-- their changes
+unfoldable pub three-changes : List Change
+three-changes = entry (pos 6) 10 40 ∷ withdrawal (pos 6) 10 40 ∷ entry (pos 3) 20 50 ∷ []
 
 -- the bookings that are struck out below
 abbrev pub struck : Booking
@@ -265,9 +253,8 @@ struck-too = record { v = negsuc 0; s = 0; e = 9 }
 
 pub record List-cases : Type 0 where
   -- "Each gets the image as the last one left it": 3 on [20, 50) fits in the fresh image, and not in what the first booking left.
-  pub fits-at-first : returned 2 (enters (pos 3) 20 50) fresh-image ≡ 0
-  pub fits-no-more : returned 2 (enters (pos 3) 20 50) after-one ≡ 24
-  pub all-numbers : numbers 2 day fresh-image ≡ 0 ∷ 0 ∷ 12 ∷ 24 ∷ 0 ∷ 0 ∷ 12 ∷ 11 ∷ 15 ∷ 0 ∷ 0 ∷ 17 ∷ 14 ∷ []
+  pub fits-at-first : enters (pos 3) 20 50 fresh-image .number ≡ 0
+  pub fits-no-more : enters (pos 3) 20 50 after-one .number ≡ 24
   -- What the book fixes of a booking's number: all but 24.
   pub fixed :
       (fixed-number 2 entering (pos 3) 20 50 (7 ∷ 7 ∷ []) one ≡ 0)
@@ -275,13 +262,14 @@ pub record List-cases : Type 0 where
       × (fixed-number 2 withdrawing (pos 4) 35 45 (7 ∷ 7 ∷ []) (windowed 2) ≡ 22)
       × (fixed-number 2 withdrawing (pos 4) 35 45 (7 ∷ []) (windowed 2) ≡ 17)
   -- What a refused booking and a refused format leave is what they found.
-  pub refused-leaves : (left-by 2 (enters (pos 3) 20 50) after-one ≡ after-one) × (left-by 2 (formatting 4 0) after-one ≡ after-one)
+  pub refused-leaves : (enters (pos 3) 20 50 after-one .image ≡ after-one) × (format 2 4 0 after-one .image ≡ after-one)
   -- What a booking leaves is what the next call finds.
   pub left-one : instant 2 20 after-one ≡ record { number = 0; pair = pair (pos 6) (pos 1); pages = 1 }
-  pub left-two : instant 2 20 (left-by-all 2 (enters (pos 6) 10 40 ∷ enters (pos 6) 10 40 ∷ []) fresh-image) .pair ≡ pair (pos 12) (pos 2)
-  pub left-all :
-      map (λ t. instant 2 t (left-by-all 2 day fresh-image) .pair) (9 ∷ 10 ∷ 39 ∷ 40 ∷ [])
-      ≡ none ∷ pair (pos 6) (pos 1) ∷ pair (pos 6) (pos 1) ∷ none ∷ []
+  pub left-twice : instant 2 20 (enters (pos 6) 10 40 after-one .image) .pair ≡ pair (pos 12) (pos 2)
+  pub left-two : instant 2 20 after-two .pair ≡ none
+  pub left-three :
+      map (λ t. instant 2 t after-three .pair) (19 ∷ 20 ∷ 49 ∷ 50 ∷ [])
+      ≡ none ∷ pair (pos 3) (pos 1) ∷ pair (pos 3) (pos 1) ∷ none ∷ []
   -- An average, at an instant, where nothing counts, and at END; and for kind 2, where there is none.
   pub averaged :
       (average-at 2 20 after-one ≡ record { number = 0; average = Hundredths (pos 600) })
@@ -290,17 +278,38 @@ pub record List-cases : Type 0 where
   pub averaged-greatest :
       (instant 2 20 greatest-one ≡ record { number = 0; pair = pair (pos 6) (pos 1); pages = 1 })
       × (average-at 2 20 greatest-one ≡ record { number = 0; average = Nothing })
+  -- A booking that returned 0 made its change, and one that was refused made none.
+  pub made-by-number : (made 0 (entry (pos 3) 20 50) ≡ entry (pos 3) 20 50 ∷ []) × (made 24 (entry (pos 3) 20 50) ≡ [])
+  -- A list of calls: the three bookings, in this order alone, and behind the first one 3 on [20, 50) refused by 24, a format refused by
+  -- 14, and a call that only reads.
+  pub day : Trace 2 1 0 after-three three-changes
+  -- Each image on the way is looked at, the first and the last too.
+  pub all-day : (Throughout (λ img cs. length cs < 4) day)
+  pub last-of-day : ¬ Throughout (λ img cs. length cs < 3) day
+  pub first-of-day : ¬ Throughout (λ img cs. 0 < length cs) day
   -- The book gets the three changes that were accepted, and nothing of those that were refused.
   pub fed :
-      fed-all 2 day fresh-image (empty-book 1 0) .items
-      ≡ record { s = 10; e = 40; pair = pair (negsuc 5) (negsuc 0) }
-      ∷ record { s = 10; e = 40; pair = pair (pos 6) (pos 1) }
+      book-of 1 0 three-changes .items
+      ≡ record { s = 20; e = 50; pair = pair (pos 3) (pos 1) }
+      ∷ record { s = 10; e = 40; pair = pair (negsuc 5) (negsuc 0) }
       ∷ record { s = 10; e = 40; pair = pair (pos 6) (pos 1) }
       ∷ []
-  pub made : accepted 2 day fresh-image ≡ entry (pos 6) 10 40 ∷ entry (pos 6) 10 40 ∷ withdrawal (pos 6) 10 40 ∷ []
-  -- A format in the list is a refused one.
-  pub refused-format : Refused-formats 2 day fresh-image
-  pub accepted-format : ¬ Refused-formats 2 (formatting 1 0 ∷ []) fresh-image
+  -- What is claimed of an image whose book has one booking; of one of kind 2; of an audit; and of a withdrawal, which kind 2 turns back.
+  pub claimed :
+      {img : List ℕ} → As-the-book 2 img one
+      → (instant 2 END img .number ≡ 12)
+      × (instant 2 39 img .pair ≡ pair (pos 6) (pos 1))
+      × (average-at 2 END img ≡ record { number = 12; average = Nothing })
+      × (average-at 2 39 img ≡ record { number = 0; average = Hundredths (pos 600) })
+  pub claimed-greatest : {img : List ℕ} → As-the-book 2 img (windowed 2) → average-at 2 40 img ≡ record { number = 0; average = Nothing }
+  pub claimed-audit :
+      As-the-book 2 after-one one → (audit 2 after-one [] .number ≡ 17) × (audit 2 after-one (7 ∷ 7 ∷ []) .number ≡ 0)
+  pub claimed-booking : As-the-book 2 greatest-one (windowed 2) → withdraws (pos 4) 35 45 greatest-one .number ≡ 22
+  -- No list has a format that was accepted, nor a booking that changed the image and is not among the changes.
+  pub accepted-format : ¬ Step 2 after-one [] (format 2 1 0 after-one .image)
+  pub change-left-out : ¬ Step 2 after-one [] after-two
+  -- nor a change that the image doesn't have
+  pub change-made-up : ¬ Step 2 after-one (entry (pos 3) 20 50 ∷ []) after-one
   -- "A withdrawal matches an entry of the same v, s and e, whichever came first." "the same in whatever order, or become so when entries
   -- are struck out with their matching withdrawals".
   pub couple : couples (struck ∷ []) ≡ entry (pos 6) 10 40 ∷ withdrawal (pos 6) 10 40 ∷ []

@@ -3,10 +3,10 @@ pub mod Refusals
 pub mod Calls
 pub mod Tables
 pub mod Book
-pub mod Lists
+pub mod Trace
 pub mod Aggregate
-pub mod Demands
 pub mod Accepted
+pub mod Demands
 pub mod Program
 pub mod Examples
 pub mod Walks

@@ -21,14 +21,12 @@ use Rattle.calls.specs.Changes.{Side, withdraws}
 use Rattle.calls.specs.Refusals.{first, scratch-ok}
 use Rattle.calls.specs.Calls.{head, book-early, book-number, book, instant-number, instant, average-at, audit-early, audit, listing}
 use Rattle.calls.specs.Book.{Book, book-pair, listing-of}
-use Rattle.calls.specs.Lists.{Call, booking, asking, averaging, listing-over, auditing, formatting, fixed-number, Refused-format, Refused-formats, Agrees, All-agree}
+use Rattle.calls.specs.Demands.{fixed-number, As-the-book}
 use Rattle.audit.proofs.Sound.{sound-whole}
-use Rattle.answers.proofs.Demand.{demand-1}
 use Rattle.answers.proofs.Sound.{sound-number, sound-pair, sound-listing}
 use Rattle.ledger.proofs.Runs.{listing-same}
 use Rattle.demands.proofs.Rows.{first-off, first-on}
-use Rattle.demands.proofs.Booked.{Wide}
-use Rattle.demands.proofs.Kept.{Kept, kept-call}
+use Rattle.demands.proofs.Kept.{Kept}
 
 -- ---- a booking: 16 and 21 don't turn it back
 
@@ -68,9 +66,12 @@ module _ {half : ℕ} {img : List ℕ} {B : Book} (K : Kept half img B) where
   passes-16 : not (length-ok half img) ≡ false
   passes-16 = ap not (sound-whole half img (K .sound))
 
-  agrees-booking : (side : Side) (v : ℤ) (s e : ℕ) (scratch : List ℕ) → Agrees half (booking side v s e scratch) img B
-  unfolding Agrees book book-number book-early fixed-number
-  agrees-booking side v s e scratch =
+  booking-is : (side : Side) (v : ℤ) (s e : ℕ) (scratch : List ℕ)
+      → let number = book half side v s e img scratch .number in
+      let fixed = fixed-number (pages-in half img) side v s e scratch B in
+      (number ≡ fixed) ⊎ ((fixed ≡ 0) × (number ≡ 24))
+  unfolding book book-number book-early fixed-number
+  booking-is side v s e scratch =
       numbers (not (scratch-ok (pages-in half img) scratch)) (not (span-ok s e)) (not (value-ok v)) (withdraws side && not (eqb (B .kind) 1))
       (eqb (length (B .items)) most-changes) (lacks-pages half s (lengthened e (head half img .window)) (image-of half img))
       passes-16 (ap not (K .sound)) (ap (λ k. withdraws side && not (eqb k 1)) (K .kind)) (ap (λ n. eqb n most-changes) (K .changes))
@@ -102,9 +103,9 @@ module _ {half : ℕ} {img : List ℕ} {B : Book} (K : Kept half img B) where
 
   -- ---- an audit
 
-  agrees-audit : (scratch : List ℕ) → Agrees half (auditing scratch) img B
-  unfolding Agrees audit audit-early
-  agrees-audit scratch = first-off 16 _ passes-16 ∙ go (not (scratch-ok (pages-in half img) scratch))
+  audit-is : (scratch : List ℕ) → audit half img scratch .number ≡ first ((17, not (scratch-ok (pages-in half img) scratch)) ∷ [])
+  unfolding audit audit-early
+  audit-is scratch = first-off 16 _ passes-16 ∙ go (not (scratch-ok (pages-in half img) scratch))
     where
       go : (x : Bool) → first ((17, x) ∷ (21, not (sound half img)) ∷ []) ≡ first ((17, x) ∷ [])
       go true = unfold first in refl
@@ -117,20 +118,16 @@ module _ {half : ℕ} {img : List ℕ} {B : Book} (K : Kept half img B) where
       sound-listing half img (K .sound) a b out
       ∙ listing-same (λ t. instant half t img .pair) (book-pair B) a b out (λ t l h below. instant-is t below .1)
 
-  -- ---- any call
+  -- ---- all of them
 
-  pub agrees : (c : Call) → Refused-format half c img → Agrees half c img B
-  unfolding Agrees Refused-format
-  agrees (booking side v s e scratch) r = agrees-booking side v s e scratch
-  agrees (asking t) r = (λ l. instant-end half img (K .sound) t l .0, λ l. instant-is t l)
-  agrees (averaging t) r = (λ l. average-end t l, λ l. average-is t l)
-  agrees (listing-over a b out) r = listing-is a b out
-  agrees (auditing scratch) r = agrees-audit scratch
-  agrees (formatting kind window) r = demand-1 half .of-format kind window img r
-
--- ---- every call of a list
-
-pub all-agree : {half : ℕ} → Wide half → {img : List ℕ} {B : Book} (cs : List Call) → Refused-formats half cs img → Kept half img B → All-agree half cs img B
-unfolding All-agree Refused-formats
-all-agree wide [] r K = listing-is K 0 END
-all-agree wide (c ∷ cs) r K = (agrees K c (r .0), all-agree wide cs (r .1) (kept-call wide c (r .0) K))
+  pub as-the-book : As-the-book half img B
+  as-the-book =
+      record {
+        instant-end = λ t l. instant-end half img (K .sound) t l .0;
+        instants = instant-is;
+        average-end = average-end;
+        averages = average-is;
+        listings = listing-is;
+        audits = audit-is;
+        bookings = booking-is;
+      }

@@ -25,7 +25,7 @@ use Rattle.audit.proofs.Sound.{the-head}
 use Rattle.steps.specs.Change.{change, change-names}
 use Rattle.calls.specs.Changes.{Side, effect}
 use Rattle.calls.specs.Calls.{head, changed, book}
-use Rattle.calls.specs.Demands.{named}
+use Rattle.calls.specs.Accepted.{named}
 use Rattle.tree.specs.Tree.{pair-at}
 use Rattle.tree.specs.Cut.{State}
 use Rattle.state.specs.Good.{Good}

@@ -1,96 +1,74 @@
--- Demands 2 and 3, of every history. Assumes nothing.
+-- Demands 2 and 3, of every list of calls. Assumes nothing.
 use Prim.Native.Nat.{ℕ, _<_}
 use mathlib.Core.Path.{_≡_, sym, ap, _∙_}
-use mathlib.Core.List.{List}
-use lib.IntN.{ℤ}
-use Rattle.rule.specs.declared.Pair.{Pair}
+use mathlib.Core.List.{List, _++_}
+use lib.ListN.{length}
 use Rattle.rule.specs.Time.{END}
 use Rattle.rule.specs.Averages.{average}
-use Rattle.calls.specs.Changes.{Side, Change}
-use Rattle.calls.specs.Calls.{head, book}
-use Rattle.calls.specs.Book.{Book, book-pair, listing-of}
+use Rattle.calls.specs.Changes.{Change}
+use Rattle.calls.specs.Calls.{listing}
+use Rattle.calls.specs.Book.{Book, book-of, book-pair}
 use Rattle.calls.specs.Aggregate.{aggregate}
-use Rattle.calls.specs.Accepted.{Accepted-change, Every-change}
-use Rattle.calls.specs.Demands.{History, at-first, at-last, changes, Demand-2, Demand-3-list, Demand-3-two, Demand-3-one, Demand-3}
-use Rattle.ledger.specs.Books.{book-of, Each, Sided}
-use Rattle.ledger.proofs.Books.{book-is}
+use Rattle.calls.specs.Trace.{Trace, formatted, extended, Throughout}
+use Rattle.calls.specs.Demands.{Demand-2, As-the-book, Demand-3-list, Same-changes, Headed, The-demands}
+use Rattle.calls.proofs.Tables.{turned-back}
+use Rattle.calls.proofs.Steps.{steps}
+use Rattle.answers.proofs.Demand.{demand-1}
+use Rattle.ledger.proofs.Books.{book-fed, book-is, items-length}
 use Rattle.ledger.proofs.Aggregates.{book-aggregate, aggregate-live}
 use Rattle.ledger.proofs.Listings.{book-listing, listing-same-changes}
 use Rattle.demands.proofs.Booked.{Wide}
-use Rattle.demands.proofs.Agree.{instant-is, average-is, listing-is, all-agree}
+use Rattle.demands.proofs.Agree.{instant-is, average-is, listing-is, as-the-book}
 use Rattle.demands.proofs.Accepted.{every-change}
-use Rattle.demands.proofs.Histories.{Told, told}
+use Rattle.demands.proofs.Traces.{Reached, reached, book-kind}
 
 module _ {half : ℕ} (wide : Wide half) where
-  -- ---- demand 2
-
-  module _ (H : History half) where
-    of-H : Told half H
-    of-H = told wide H
-
-    abbrev aggregated : ℕ → Pair
-    aggregated t = aggregate (H .kind) (H .window) (changes half H) t
-
-    abbrev written-in : Book
-    written-in = book-of (H .kind) (H .window) (changes half H)
-
-    pair-is : (t : ℕ) → t < END → book-pair written-in t ≡ aggregated t
-    pair-is t l = book-aggregate (H .kind) (H .window) t l (of-H .spanned) (of-H .sided)
-
-    kind-is : written-in .kind ≡ H .kind
-    kind-is = ap (λ (B : Book). B .kind) (book-is (H .kind) (H .window) (changes half H))
-
-    pub demand-2 : Demand-2 half H
-    demand-2 =
+  module _ {kind window : ℕ} where
+    demand-2 : {img : List ℕ} {cs : List Change} → Reached half kind window img cs → Demand-2 half kind window img cs
+    demand-2 {img} {cs} R =
         record {
-          instants = λ t l. let r = instant-is (of-H .last) t l in (r .0, r .1 ∙ pair-is t l);
+          instants = λ t l. let r = instant-is (R .kept) t l in (r .0, r .1 ∙ pair-is t l);
           averages =
-              λ t l.
-              average-is (of-H .last) t l ∙ (λ i. record { number = 0; average = average (kind-is i) (pair-is t l i) });
-          spans =
-              λ a b out.
-              listing-is (of-H .last) a b out ∙ book-listing (H .kind) (H .window) a b out (of-H .spanned) (of-H .sided);
-          sound-after = of-H .last .sound;
-          live = λ m t. aggregate-live (H .kind) (H .window) t (of-H .sided) m;
+              λ t l. average-is (R .kept) t l ∙ (λ i. record { number = 0; average = average (book-kind kind window cs i) (pair-is t l i) });
+          spans = λ a b out. listing-is (R .kept) a b out ∙ book-listing kind window a b out (R .spanned) (R .sided);
+          sound-after = R .kept .sound;
+          live = λ m t. aggregate-live kind window t (R .sided) m;
         }
+      where
+        pair-is : (t : ℕ) → t < END → book-pair (book-of kind window cs) t ≡ aggregate kind window cs t
+        pair-is t l = book-aggregate kind window t l (R .spanned) (R .sided)
 
-    -- ---- demand 3, the list
+    demand-3-list : {img : List ℕ} {cs : List Change} (T : Trace half kind window img cs) → Demand-3-list T
+    unfolding Demand-3-list Throughout
+    demand-3-list (formatted before p) = as-the-book (reached wide (formatted before p) .kept)
+    demand-3-list (extended T step) = (demand-3-list T, as-the-book (reached wide (extended T step) .kept))
 
-    pub demand-3-list : Demand-3-list half H
-    unfolding Demand-3-list at-first
-    demand-3-list = all-agree wide (H .calls) (H .refused) (of-H .first)
+    demand-3-two : {img other : List ℕ} {cs ds : List Change} → Reached half kind window img cs → Reached half kind window other ds → Same-changes cs ds
+        → (out : List ℕ) → listing half 0 END img out ≡ listing half 0 END other out
+    demand-3-two R Q S out =
+        listing-is (R .kept) 0 END out
+        ∙ listing-same-changes kind window 0 END out S (R .sided) (Q .sided)
+        ∙ sym (listing-is (Q .kept) 0 END out)
 
-    -- ---- demand 3, one more change
-
-    -- what holds of every change
-    one-more : (side : Side) (v : ℤ) (s e : ℕ) (scratch : List ℕ) → book half side v s e (at-last half H) scratch .number ≡ 0
-        → Accepted-change half side v s e (at-last half H) (book half side v s e (at-last half H) scratch .image)
-    unfolding Every-change
-    one-more side v s e scratch n = every-change wide side v s e (at-last half H) scratch (of-H .last .bytes) n
-
-    window-is : head half (at-last half H) .window ≡ H .window
-    window-is = of-H .last .window ∙ ap (λ (B : Book). B .window) (book-is (H .kind) (H .window) (changes half H))
-
-    pub demand-3-one : Demand-3-one half H
-    demand-3-one =
+    headed : {img : List ℕ} {cs : List Change} → Reached half kind window img cs → Headed half kind window img cs
+    headed {cs = cs} R =
         record {
-          instants = λ side v s e scratch n t o. one-more side v s e scratch n .outside t (rw window-is o);
-          bytes = λ side v s e scratch n. one-more side v s e scratch n .unnamed;
+          bytes = R .kept .bytes;
+          kind-is = R .kept .kind ∙ book-kind kind window cs;
+          window-is = R .kept .window ∙ ap (λ (B : Book). B .window) (book-is kind window cs);
+          changes-are = R .kept .changes ∙ ap (λ (B : Book). length (B .items)) (book-is kind window cs) ∙ items-length window cs;
         }
 
-  -- ---- demand 3, two images
-
-  pub demand-3-two : (H J : History half) → Demand-3-two half H J
-  unfolding Demand-3-two
-  demand-3-two H J k w S out =
-      let ys : List Change = changes half J in
-      let sided : Each (Sided (H .kind)) ys = rw k (of-H J .sided) in
-      listing-is (of-H H .last) 0 END out
-      ∙ listing-same-changes (H .kind) (H .window) 0 END out S (of-H H .sided) sided
-      ∙ (λ i. listing-of (book-pair (book-of (k i) (w i) ys)) 0 END out)
-      ∙ sym (listing-is (of-H J .last) 0 END out)
-
-  -- ---- demand 3
-
-  pub demand-3 : Demand-3 half
-  demand-3 = record { of-the-list = demand-3-list; of-two-images = demand-3-two; of-one-more = demand-3-one }
+  pub the-demands : The-demands half
+  the-demands =
+      record {
+        demand-1 = demand-1 half;
+        demand-1-numbers = turned-back half;
+        steps = steps half;
+        fed = book-fed;
+        demand-2 = λ T. demand-2 (reached wide T);
+        demand-3-list = demand-3-list;
+        demand-3-two = λ T U. demand-3-two (reached wide T) (reached wide U);
+        demand-3-one = every-change wide;
+        headed = λ T. headed (reached wide T);
+      }

@@ -9,9 +9,9 @@ use Rattle.rule.specs.Time.{END}
 use Rattle.rule.specs.Pairs.{none, entry-effect, opposite, same-number, same-pair, added, greater, lesser, better, combine}
 use Rattle.rule.proofs.Laws.{lawful, same-pair-is}
 use Rattle.calls.specs.Changes.{withdraws, effect, Change}
-use Rattle.calls.specs.Book.{book-pair}
+use Rattle.calls.specs.Book.{book-of, book-pair}
 use Rattle.calls.specs.Aggregate.{counts-at, counting, signed, sum-of, count-of, best-of, best-pair, aggregate-of, aggregate, Matched, live-from}
-use Rattle.ledger.specs.Books.{effect-of, book-of, Each, more, Spanned, Enters, Sided}
+use Rattle.ledger.specs.Books.{effect-of, Each, more, Spanned, Enters, Sided}
 use Rattle.ledger.proofs.Spans.{span-is, overlap-is}
 use Rattle.ledger.proofs.Totals.{total, total-same, unit-right, cond-unit, each-map}
 use Rattle.ledger.proofs.Struck.{by-side}

@@ -1,20 +1,20 @@
 -- The plain book over lists of changes: entering step by step, and its pair as a total. Assumes nothing.
-use Prim.Native.Nat.{ℕ, suc}
+use Prim.Native.Nat.{ℕ, suc, _+_}
 use mathlib.Core.Path.{_≡_, refl, sym, ap, _∙_}
-use mathlib.Core.Logic.{_≢_}
 use mathlib.Core.Bool.{Bool, true, false, cond}
-use mathlib.Core.List.{List, [], _∷_}
+use mathlib.Core.List.{List, [], _∷_, _++_}
+use native.Mathlib.Omega.{arith}
 use lib.Dec.{eqb}
 use lib.ListN.{length}
 use lib.IntN.{ℤ}
-use borrow.Author.Tests.{ne-eqb}
 use Rattle.rule.specs.Time.{lengthened, covers}
 use Rattle.rule.specs.Pairs.{combine}
 use Rattle.rule.proofs.Laws.{lawful}
 use Rattle.calls.specs.Changes.{Side, effect, Change}
-use Rattle.calls.specs.Book.{Book, empty-book, entered, items-pair, book-pair}
+use Rattle.calls.specs.Book.{Item, Book, empty-book, entered, entered-all, book-of, items-pair, book-pair}
+use Rattle.calls.specs.Trace.{made}
 use Rattle.calls.specs.Demands.{Reordered, Same-changes}
-use Rattle.ledger.specs.Books.{effect-of, entered-all, book-of, item-of, items-onto, items-of, Each, Sided}
+use Rattle.ledger.specs.Books.{effect-of, item-of, items-onto, items-of, Each, Sided}
 use Rattle.ledger.proofs.Totals.{total, total-reordered, between, unit-right, cond-unit}
 use Rattle.ledger.proofs.Struck.{same-changes-total}
 use Rattle.ledger.proofs.Shares.{share, sided-undone}
@@ -34,32 +34,22 @@ module _ (side : Side) (v : ℤ) (s e : ℕ) (B : Book) where
       entered-pair t
       ∙ ap (λ z. cond (covers s (lengthened e (B .window)) t) z (book-pair B t)) (lawful (B .kind) .comm (effect side v) (book-pair B t))
 
-  pub entered-refused : (number : ℕ) → number ≢ 0 → entered number side v s e B ≡ B
-  unfolding entered
-  entered-refused number n = rw (ne-eqb number 0 n)
-
-  -- what an accepted change keeps of the book, a refused one keeps too
-  keeps : {A : Type 0} (f : Book → A) → f (entered 0 side v s e B) ≡ f B → (number : ℕ) → f (entered number side v s e B) ≡ f B
-  unfolding entered
-  keeps f h number = go (eqb number 0)
-    where
-      go : (x : Bool) → f (cond x (entered 0 side v s e B) B) ≡ f B
-      go true = h
-      go false = refl
-
-  pub entered-kind : (number : ℕ) → entered number side v s e B .kind ≡ B .kind
-  unfolding entered
-  entered-kind = keeps (λ C. C .kind) refl
-
-  pub entered-window : (number : ℕ) → entered number side v s e B .window ≡ B .window
-  unfolding entered
-  entered-window = keeps (λ C. C .window) refl
-
-  pub entered-length : length (entered 0 side v s e B .items) ≡ suc (length (B .items))
-  unfolding entered
-  entered-length = refl
-
 -- ---- the book of a list
+
+pub entered-all-append : (xs ys : List Change) (B : Book) → entered-all (xs ++ ys) B ≡ entered-all ys (entered-all xs B)
+unfolding entered-all
+entered-all-append [] ys B = refl
+entered-all-append (c ∷ xs) ys B = entered-all-append xs ys (entered 0 (c .side) (c .v) (c .s) (c .e) B)
+
+-- a booking is entered by the number that it returned
+pub book-fed : (kind w : ℕ) (cs : List Change) (r : ℕ) (c : Change)
+    → book-of kind w (cs ++ made r c) ≡ entered r (c .side) (c .v) (c .s) (c .e) (book-of kind w cs)
+unfolding book-of made entered entered-all
+book-fed kind w cs r c = entered-all-append cs (made r c) (empty-book kind w) ∙ go (eqb r 0) (book-of kind w cs)
+  where
+    go : (x : Bool) (B : Book) → entered-all (cond x (c ∷ []) []) B ≡ cond x (entered 0 (c .side) (c .v) (c .s) (c .e) B) B
+    go true B = refl
+    go false B = refl
 
 -- where a change counts in a book of window w
 abbrev pub within : ℕ → ℕ → ℕ → ℕ → Bool
@@ -106,3 +96,12 @@ entered-all-is (c ∷ cs) B = entered-all-is cs (entered 0 (c .side) (c .v) (c .
 pub book-is : (kind w : ℕ) (cs : List Change) → book-of kind w cs ≡ record { kind = kind; window = w; items = items-of w cs }
 unfolding book-of empty-book items-of
 book-is kind w cs = entered-all-is cs (empty-book kind w)
+
+items-onto-length : (w : ℕ) (cs : List Change) (items : List Item) → length (items-onto w cs items) ≡ length cs + length items
+unfolding items-onto
+items-onto-length w [] items = omega arith
+items-onto-length w (c ∷ cs) items = omega (arith, items-onto-length w cs (item-of w c ∷ items))
+
+pub items-length : (w : ℕ) (cs : List Change) → length (items-of w cs) ≡ length cs
+unfolding items-of
+items-length w cs = omega (arith, items-onto-length w cs [])

@@ -2,11 +2,11 @@
 use Prim.Native.Nat.{ℕ}
 use mathlib.Core.Path.{_≡_}
 use mathlib.Core.List.{List}
-use Rattle.calls.specs.Book.{book-pair, listing-of}
+use Rattle.calls.specs.Book.{book-of, book-pair, listing-of}
 use Rattle.calls.specs.Aggregate.{aggregate}
 use Rattle.calls.specs.Changes.{Change}
 use Rattle.calls.specs.Demands.{Same-changes}
-use Rattle.ledger.specs.Books.{book-of, Each, Spanned, Sided}
+use Rattle.ledger.specs.Books.{Each, Spanned, Sided}
 use Rattle.ledger.proofs.Books.{book-same-changes}
 use Rattle.ledger.proofs.Aggregates.{book-aggregate}
 use Rattle.ledger.proofs.Runs.{listing-same}

@@ -1,7 +1,7 @@
 -- The total of a list of changes under a combining rule, each change having a share: it doesn't turn on the order. Assumes nothing.
 use mathlib.Core.Path.{_≡_, refl, sym, ap, _∙_}
 use mathlib.Core.Bool.{Bool, true, false, cond}
-use mathlib.Core.List.{List, [], _∷_}
+use mathlib.Core.List.{List, [], _∷_, _++_}
 use Rattle.rule.specs.declared.Pair.{Pair}
 use Rattle.rule.specs.Pairs.{none, Lawful}
 use Rattle.calls.specs.Changes.{Change}
@@ -21,6 +21,10 @@ total-same rule f g (more {c} {cs} e h) = rw (e, total-same rule f g h)
 pub each-map : {P Q : Change → Type 0} {cs : List Change} → ((c : Change) → P c → Q c) → Each P cs → Each Q cs
 each-map f Each.none = Each.none
 each-map f (more {c} p h) = more (f c p) (each-map f h)
+
+pub each-append : {P : Change → Type 0} {xs ys : List Change} → Each P xs → Each P ys → Each P (xs ++ ys)
+each-append Each.none k = k
+each-append (more p h) k = more p (each-append h k)
 
 -- a list of the same changes keeps what holds of each
 pub each-reordered : {P : Change → Type 0} {xs ys : List Change} → Reordered xs ys → Each P xs → Each P ys

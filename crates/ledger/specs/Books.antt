@@ -1,4 +1,4 @@
--- The book of a list of changes, and what accepted changes have in common. Assumes nothing.
+-- The items of a list of changes, and what accepted changes have in common. Assumes nothing.
 use Prim.Native.Nat.{ℕ}
 use mathlib.Core.Path.{_≡_}
 use mathlib.Core.Bool.{true, false, not, _&&_}
@@ -7,19 +7,11 @@ use lib.Dec.{eqb}
 use Rattle.rule.specs.declared.Pair.{Pair}
 use Rattle.rule.specs.Time.{span-ok, lengthened}
 use Rattle.calls.specs.Changes.{withdraws, effect, Change}
-use Rattle.calls.specs.Book.{Item, Book, empty-book, entered}
+use Rattle.calls.specs.Book.{Item}
 
 -- the pair that a change adds, whenever it counts
 unfoldable pub effect-of : Change → Pair
 effect-of c = effect (c .side) (c .v)
-
--- accepted changes, entered one after the other
-unfoldable pub entered-all : List Change → Book → Book
-entered-all [] B = B
-entered-all (c ∷ cs) B = entered-all cs (entered 0 (c .side) (c .v) (c .s) (c .e) B)
-
-unfoldable pub book-of : ℕ → ℕ → List Change → Book
-book-of kind w cs = entered-all cs (empty-book kind w)
 
 -- the items that a book of window w gets from them, the latest first
 unfoldable pub item-of : ℕ → Change → Item

@@ -1,4 +1,4 @@
--- What each call promises, by name: the contracts of the functions that C gets are these, and the demands are proved of them.
+-- What each call promises, by name: the contracts of the functions that C gets are these; crate `promises` ties the demands to them.
 -- Each says of a call which definition its number, its answer and every byte that it was lent are equal to. Assumes nothing.
 use Prim.Native.Nat.{ℕ}
 use mathlib.Core.Path.{_≡_}

@@ -8,9 +8,10 @@ use Rattle.rule.specs.Pairs.{combine}
 use Rattle.calls.specs.Changes.{Side, effect}
 use Rattle.calls.specs.Calls.{Booked, head}
 use Rattle.calls.specs.Accepted.{Accepted-change, Every-change}
-use Rattle.demands.proofs.All.{the-changes}
+use Rattle.demands.proofs.Accepted.{every-change}
+use Rattle.demands.proofs.All.{twelve}
 use Rattle.promises.specs.Changes.{Change-promised, Every-change-promised}
-use Rattle.promises.proofs.Courses.{answer-number, answer-pair}
+use Rattle.promises.proofs.Answers.{answer-number, answer-pair}
 
 changed-so : (side : Side) (v : ℤ) (s e : ℕ) (img after : List ℕ) → Accepted-change 12 side v s e img after → Change-promised side v s e img after
 changed-so side v s e img after c =
@@ -31,4 +32,4 @@ unfolding Every-change-promised Every-change
 every-change-promised side v s e img scratch after left b p =
     changed-so side v s e img after
     (subst⁻¹ (Accepted-change 12 side v s e img) (ap (λ (x : Booked). x .image) p)
-    (the-changes side v s e img scratch b (sym (ap (λ (x : Booked). x .number) p))))
+    (every-change twelve side v s e img scratch b (sym (ap (λ (x : Booked). x .number) p))))

@@ -1,5 +1,6 @@
-pub mod Courses
+pub mod Answers
+pub mod Refusing
 pub mod Tables
 pub mod Changes
-pub mod Kept
 pub mod Header
+pub mod Demands

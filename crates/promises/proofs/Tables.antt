@@ -1,33 +1,11 @@
 -- The functions for C refuse by the numbers of document 01's tables: they return what the definitions return. Assumes nothing.
-use Prim.Native.Nat.{ℕ}
-use mathlib.Core.Path.{_≡_, refl, ap, _∙_, subst⁻¹}
-use mathlib.Core.List.{List}
-use Rattle.rule.specs.declared.Average.{Average}
-use Rattle.rule.specs.declared.Average.the-variants.{Hundredths, Nothing, Beyond}
-use Rattle.calls.specs.Calls.{Formatted, Booked, Listed, Audited, instant, average-at}
+use mathlib.Core.Path.{ap, subst⁻¹}
+use Rattle.calls.specs.Calls.{Formatted, Booked, Listed, Audited, instant}
 use Rattle.calls.specs.Tables.{Exactly, format-cases, book-cases, instant-cases, listing-cases, audit-cases, Pages-told, Turned-back}
 use Rattle.calls.proofs.Tables.{turned-back}
-use Rattle.luwhenoka.specs.declared.InstantAnswer.{InstantAnswer}
-use Rattle.luwhenoka.specs.declared.AverageAnswer.{AverageAnswer}
-use Rattle.luwhenoka.specs.Answers.{instant-answer, average-answer, averaged-answer, listed}
-use Rattle.luwhenoka.specs.Promises.{Answers, Averages}
+use Rattle.luwhenoka.specs.Answers.{listed}
 use Rattle.promises.specs.Tables.{By-number}
-use Rattle.promises.proofs.Courses.{answer-number}
-
-pub answer-pages : (t : ℕ) (img : List ℕ) {r : InstantAnswer} → Answers t img r → r .pages ≡ instant 12 t img .pages
-unfolding instant-answer
-answer-pages t img p = ap (λ (a : InstantAnswer). a .pages) p
-
--- the number of an average's answer
-answer-of : (n : ℕ) (a : Average) → average-answer n a .number ≡ n
-unfolding average-answer
-answer-of n Nothing = refl
-answer-of n (Hundredths x) = refl
-answer-of n Beyond = refl
-
-pub average-number : (t : ℕ) (img : List ℕ) {r : AverageAnswer} → Averages t img r → r .number ≡ average-at 12 t img .number
-unfolding averaged-answer
-average-number t img p = ap (λ (a : AverageAnswer). a .number) p ∙ answer-of (average-at 12 t img .number) (average-at 12 t img .average)
+use Rattle.promises.proofs.Answers.{answer-number, answer-pages, average-number}
 
 abbrev rows : Turned-back 12
 rows = turned-back 12

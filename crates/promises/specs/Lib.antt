@@ -1,5 +1,5 @@
-pub mod Course
+pub mod Refusing
 pub mod Tables
 pub mod Changes
-pub mod Demands
 pub mod Header
+pub mod Demands

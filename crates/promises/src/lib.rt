@@ -1,7 +1,7 @@
-// The demands of what the functions for C promise, and each of these functions called once, under a contract that says what the demands
-// take of it: a step of a course of calls (`Promised`), or the promise that a field of `Demands-met` asks for. The demands are proved of
-// promises alone; that the functions keep them is said here, where a call whose own contract said less would not be proved.
-// Nothing of this is exported, and nothing calls it.
+// The demands, and each function for C called once, under a contract that says what the demands take of it, in the definitions' own
+// words: the number, the answer and every byte that it was lent are the definition's, and the call is that step of a list of calls on
+// the image that it is handed. The demands hold of every list of such steps; that the functions make them is said here, where a call
+// whose own promise said less would not be proved. Nothing of this is exported, and nothing calls it.
 use luwhenoka::AverageAnswer;
 use luwhenoka::InstantAnswer;
 use luwhenoka::ListingAnswer;
@@ -15,59 +15,73 @@ use luwhenoka::instants::luw_instant;
 use luwhenoka::listings::luw_listing;
 ghost use mathlib.Core.Path.{_≡_};
 ghost use mathlib.Core.Logic.{_≢_};
+ghost use mathlib.Core.List.{[]};
 ghost use Rattle.rule.specs.Averages.{average};
 ghost use Rattle.calls.specs.Changes.{entering, withdrawing};
+ghost use Rattle.calls.specs.Calls as calls;
+ghost use Rattle.calls.specs.Trace.{Step, Trace, made};
 ghost use Rattle.luwhenoka.specs.Answers.{average-answer};
-ghost use Rattle.luwhenoka.specs.Promises.{Formats};
-ghost use Rattle.promises.specs.Course.{Promised, booked, asked, averaged, listed-over, audited, formatted};
 
-// A format that returns 0 begins a course (`From-format`), and a refused one may stand in it.
+// A format that returns 0 begins a list, and a refused one keeps the image.
 pub fn format(img: &mut [u8], kind: u32, window: u32) -> u32
-    ensures { λ r. ⌜ (r ≡ 0 → Formats kind window (now (img .entry)) 0 (now (img .exit))) ⌝ }
-    ensures { λ r. ⌜ (r ≢ 0 → Promised (formatted kind window r) (now (img .entry)) (now (img .exit))) ⌝ }
+    ensures { λ r. ⌜ record { number = r; image = now (img .exit) } ≡ calls.format 12 kind window (now (img .entry)) ⌝ }
+    ensures { λ r. ⌜ (r ≡ 0 → Trace 12 kind window (now (img .exit)) []) ⌝ }
+    ensures { λ r. ⌜ (r ≢ 0 → Step 12 (now (img .entry)) [] (now (img .exit))) ⌝ }
 {
     luw_format(img, kind, window)
 }
 
+// A booking makes its change if it returns 0, and none if it is refused.
 pub fn enter(img: &mut [u8], scratch: &mut [u8], v: i64, s: u32, e: u32) -> u32
-    ensures { λ r. ⌜ Promised (booked entering v s e (now (scratch .entry)) r (now (scratch .exit)))
-        (now (img .entry)) (now (img .exit)) ⌝ }
+    ensures { λ r. ⌜ record { number = r; image = now (img .exit); scratch = now (scratch .exit) }
+        ≡ calls.book 12 entering v s e (now (img .entry)) (now (scratch .entry)) ⌝ }
+    ensures { λ r. ⌜ Step 12 (now (img .entry)) (made r (record { side = entering; v = v; s = s; e = e })) (now (img .exit)) ⌝ }
 {
     luw_enter(img, scratch, v, s, e)
 }
 
 pub fn withdraw(img: &mut [u8], scratch: &mut [u8], v: i64, s: u32, e: u32) -> u32
-    ensures { λ r. ⌜ Promised (booked withdrawing v s e (now (scratch .entry)) r (now (scratch .exit)))
-        (now (img .entry)) (now (img .exit)) ⌝ }
+    ensures { λ r. ⌜ record { number = r; image = now (img .exit); scratch = now (scratch .exit) }
+        ≡ calls.book 12 withdrawing v s e (now (img .entry)) (now (scratch .entry)) ⌝ }
+    ensures { λ r. ⌜ Step 12 (now (img .entry)) (made r (record { side = withdrawing; v = v; s = s; e = e })) (now (img .exit)) ⌝ }
 {
     luw_withdraw(img, scratch, v, s, e)
 }
 
+// Who only reads an image keeps it.
 pub fn instant(img: &[u8], t: u32) -> InstantAnswer
-    ensures { λ r. ⌜ Promised (asked t r) (now (img .entry)) (now (img .exit)) ⌝ }
+    ensures { λ r. ⌜ record { number = r .number; pair = record { sum = r .sum; count = r .count }; pages = r .pages }
+        ≡ calls.instant 12 t (now (img .entry)) ⌝ }
+    ensures { λ r. ⌜ Step 12 (now (img .entry)) [] (now (img .exit)) ⌝ }
 {
     luw_instant(img, t)
 }
 
 pub fn listing(img: &[u8], a: u32, b: u32, out: &mut [u8]) -> ListingAnswer
-    ensures { λ r. ⌜ Promised (listed-over a b (now (out .entry)) r (now (out .exit))) (now (img .entry)) (now (img .exit)) ⌝ }
+    ensures { λ r. ⌜ record { number = r .number; runs = r .runs; output = now (out .exit) }
+        ≡ calls.listing 12 a b (now (img .entry)) (now (out .entry)) ⌝ }
+    ensures { λ r. ⌜ Step 12 (now (img .entry)) [] (now (img .exit)) ⌝ }
 {
     luw_listing(img, a, b, out)
 }
 
 pub fn audit(img: &[u8], scratch: &mut [u8]) -> u32
-    ensures { λ r. ⌜ Promised (audited (now (scratch .entry)) r (now (scratch .exit))) (now (img .entry)) (now (img .exit)) ⌝ }
+    ensures { λ r. ⌜ record { number = r; scratch = now (scratch .exit) }
+        ≡ calls.audit 12 (now (img .entry)) (now (scratch .entry)) ⌝ }
+    ensures { λ r. ⌜ Step 12 (now (img .entry)) [] (now (img .exit)) ⌝ }
 {
     luw_audit(img, scratch)
 }
 
 pub fn average_at(img: &[u8], t: u32) -> AverageAnswer
-    ensures { λ r. ⌜ Promised (averaged t r) (now (img .entry)) (now (img .exit)) ⌝ }
+    ensures { λ r. ⌜ r ≡ average-answer (calls.average-at 12 t (now (img .entry)) .number)
+        (calls.average-at 12 t (now (img .entry)) .average) ⌝ }
+    ensures { λ r. ⌜ Step 12 (now (img .entry)) [] (now (img .exit)) ⌝ }
 {
     luw_average(img, t)
 }
 
-// No demand speaks of an average without an image: the definition itself stands here.
+// An average without an image is no step of a list.
 pub fn average_of(kind: u32, sum: i64, count: i32) -> AverageAnswer
     ensures { λ r. ⌜ r ≡ average-answer 0 (average kind (record { sum = sum; count = count })) ⌝ }
 {

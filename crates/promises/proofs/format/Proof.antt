@@ -1,16 +1,15 @@
--- `promises::format` meets its contract, which is what `luw_format` promises, accepted or refused. Assumes nothing.
-use mathlib.Core.Path.{subst}
+-- `promises::format` meets its contract: `luw_format` promises what a format leaves; accepted it begins a list, refused it is a step.
+-- Assumes nothing.
 use borrow.Author.Needs.{needs}
-use Rattle.luwhenoka.specs.Promises.{Formats}
-use Rattle.promises.specs.Course.{Promised}
+use Rattle.calls.specs.Trace.{formatted}
+use Rattle.calls.proofs.Steps.{steps}
 use Rattle.promises.proofs.format.Statement.{statement}
 use Rattle.promises.proofs.format.Tie as tie
 
 returns : tie.Need-returns
-unfolding Promised
 returns c =
-    let did = c .before .before in
-    (λ z. rw z at (did .luw-format .ensures), λ n. (did .luw-format .ensures, n))
+    let p = c .before .before .luw-format .ensures in
+    (p, (λ z. formatted _ (rw z at p), λ n. steps 12 .of-refused-format _ _ _ _ _ p n))
 
 pub format-spec : {M : Type 1} → statement M
 format-spec = tie.close (tie.spec (λ c κs. search needs) (λ c. search needs) returns)

@@ -1,12 +1,13 @@
--- `promises::listing` meets its contract, which is what `luw_listing` promises of a step of a course. Assumes nothing.
+-- `promises::listing` meets its contract: `luw_listing` promises the answer, and an image that is lent for reading is kept. Assumes nothing.
 use borrow.Author.Needs.{needs}
-use Rattle.promises.specs.Course.{Promised}
+use Rattle.calls.specs.Trace.{kept}
+use Rattle.luwhenoka.specs.Answers.{listed}
 use Rattle.promises.proofs.listing.Statement.{statement}
 use Rattle.promises.proofs.listing.Tie as tie
 
 returns : tie.Need-returns
-unfolding Promised
-returns c = search needs
+unfolding listed
+returns c = (search needs, kept)
 
 pub listing-spec : {M : Type 1} → statement M
 listing-spec = tie.close (tie.spec (λ c κs. search needs) (λ c. search needs) returns)

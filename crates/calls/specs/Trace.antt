@@ -1,0 +1,65 @@
+-- What happens to one image, from the format on. Document 01, "The plain book of demand 3": "A list starts from an image on which format
+-- returned 0 .. Each gets the image as the last one left it; nobody else writes it meanwhile." "A call that a later request adds stands in
+-- it by the change that it makes to this image." So a list is told here by what its calls did to the image, and a further call is one of
+-- these steps on every image that it is handed. Assumes nothing.
+use Prim.Native.Nat.{ℕ}
+use mathlib.Core.Path.{_≡_}
+use mathlib.Core.Logic.{_≢_}
+use mathlib.Core.Bool.{cond}
+use mathlib.Core.List.{List, [], _∷_, _++_}
+use lib.Dec.{eqb}
+use lib.IntN.{ℤ}
+use Rattle.calls.specs.Changes.{Side, Change}
+use Rattle.calls.specs.Calls.{format, book}
+
+-- One call on an image: the image before it, the changes that it made, the image that it left. A call that only reads keeps the image,
+-- and so does one that is refused; a booking that returned 0 made its change. (The five steps of a change are steps within one such call.)
+pub data Step (half : ℕ) : List ℕ → List Change → List ℕ → Type 0 where
+  kept : {img : List ℕ} → Step half img [] img
+  accepted :
+      {img after left : List ℕ} {side : Side} {v : ℤ} {s e : ℕ} (scratch : List ℕ)
+      → record { number = 0; image = after; scratch = left } ≡ book half side v s e img scratch
+      → Step half img (record { side = side; v = v; s = s; e = e } ∷ []) after
+
+-- A list of calls on one image, from a format of that kind and window that returned 0, whatever bytes were there before: the image that
+-- it leads to, and the changes accepted on the way, the first first.
+pub data Trace (half kind window : ℕ) : List ℕ → List Change → Type 0 where
+  formatted :
+      {img : List ℕ} (before : List ℕ)
+      → record { number = 0; image = img } ≡ format half kind window before
+      → Trace half kind window img []
+  extended :
+      {img after : List ℕ} {cs ds : List Change}
+      → Trace half kind window img cs
+      → Step half img ds after
+      → Trace half kind window after (cs ++ ds)
+
+-- "Demand 3 is a single claim about the list, not one for each call": P of each image on the way, the first and the last among them, and
+-- of the changes accepted until then
+unfoldable pub Throughout :
+    {half kind window : ℕ} (P : List ℕ → List Change → Type 0) {img : List ℕ} {cs : List Change}
+    → Trace half kind window img cs → Type 0
+Throughout P {img} {cs} (formatted before f) = P img []
+Throughout P (extended {img} {after} {cs} {ds} T step) = Throughout P T × P after (cs ++ ds)
+
+-- The change that a booking made by the number that it returned: "Enter or withdraw .. that returned 0 adds an item .. Any other number
+-- adds nothing".
+unfoldable pub made : ℕ → Change → List Change
+made number c = cond (eqb number 0) (c ∷ []) []
+
+-- Every call is such a step. Instant, average, listing and audit leave no image: the caller's stays, which is `kept`.
+pub record Steps (half : ℕ) : Type 0 where
+  pub of-booking :
+      (side : Side) (v : ℤ) (s e : ℕ) (img scratch : List ℕ) (r : ℕ) (after left : List ℕ)
+      → record { number = r; image = after; scratch = left } ≡ book half side v s e img scratch
+      → Step half img (made r (record { side = side; v = v; s = s; e = e })) after
+  -- an accepted format is no step of a list: it begins one
+  pub of-format :
+      (kind window : ℕ) (img : List ℕ) (after : List ℕ)
+      → record { number = 0; image = after } ≡ format half kind window img
+      → Trace half kind window after []
+  pub of-refused-format :
+      (kind window : ℕ) (img : List ℕ) (r : ℕ) (after : List ℕ)
+      → record { number = r; image = after } ≡ format half kind window img
+      → r ≢ 0
+      → Step half img [] after

@@ -1,0 +1,34 @@
+-- The numbers of an answer, as C gets it, are the definition's. Assumes nothing.
+use Prim.Native.Nat.{ℕ}
+use mathlib.Core.Path.{_≡_, refl, ap, _∙_}
+use mathlib.Core.List.{List}
+use Rattle.rule.specs.declared.Average.{Average}
+use Rattle.rule.specs.declared.Average.the-variants.{Hundredths, Nothing, Beyond}
+use Rattle.calls.specs.Calls.{instant, average-at}
+use Rattle.luwhenoka.specs.declared.InstantAnswer.{InstantAnswer}
+use Rattle.luwhenoka.specs.declared.AverageAnswer.{AverageAnswer}
+use Rattle.luwhenoka.specs.Answers.{instant-answer, pair-of, average-answer, averaged-answer}
+use Rattle.luwhenoka.specs.Promises.{Answers, Averages}
+
+pub answer-number : (t : ℕ) (img : List ℕ) {r : InstantAnswer} → Answers t img r → r .number ≡ instant 12 t img .number
+unfolding instant-answer
+answer-number t img p = ap (λ (a : InstantAnswer). a .number) p
+
+pub answer-pair : (t : ℕ) (img : List ℕ) {r : InstantAnswer} → Answers t img r → pair-of r ≡ instant 12 t img .pair
+unfolding instant-answer
+answer-pair t img p = ap (λ (a : InstantAnswer). pair-of a) p
+
+pub answer-pages : (t : ℕ) (img : List ℕ) {r : InstantAnswer} → Answers t img r → r .pages ≡ instant 12 t img .pages
+unfolding instant-answer
+answer-pages t img p = ap (λ (a : InstantAnswer). a .pages) p
+
+-- the number of an average's answer
+answer-of : (n : ℕ) (a : Average) → average-answer n a .number ≡ n
+unfolding average-answer
+answer-of n Nothing = refl
+answer-of n (Hundredths x) = refl
+answer-of n Beyond = refl
+
+pub average-number : (t : ℕ) (img : List ℕ) {r : AverageAnswer} → Averages t img r → r .number ≡ average-at 12 t img .number
+unfolding averaged-answer
+average-number t img p = ap (λ (a : AverageAnswer). a .number) p ∙ answer-of (average-at 12 t img .number) (average-at 12 t img .average)

@@ -1,0 +1,17 @@
+-- The demands are met. Assumes nothing.
+use Rattle.demands.proofs.All.{demands-at-12}
+use Rattle.promises.specs.Demands.{Demands-met}
+use Rattle.promises.proofs.Refusing.{refusing}
+use Rattle.promises.proofs.Tables.{by-number}
+use Rattle.promises.proofs.Changes.{every-change-promised}
+use Rattle.promises.proofs.Header.{header-runs}
+
+pub demands-met : Demands-met
+demands-met =
+    record {
+      demands = demands-at-12;
+      refusing = refusing;
+      by-number = by-number;
+      every-change = every-change-promised;
+      header-runs = header-runs;
+    }
