@@ -1,20 +1,20 @@
 -- The cases hold: each is computed. Assumes nothing.
 use Prim.Native.Nat.{ℕ, suc, _*_}
-use mathlib.Core.Path.{_≡_, refl, sym, ap}
+use mathlib.Core.Path.{_≡_, refl, sym, ap, _∙_}
 use mathlib.Core.Logic.{_≢_, _⊎_, inl, inr}
 use mathlib.Core.Bool.{Bool, true, false, not, false≢true}
 use mathlib.Core.List.{List, [], _∷_}
 use native.Mathlib.Omega.{arith}
-use lib.ListN.{replicate}
+use lib.ListN.{length, length-append, replicate}
 use lib.IntN.{pos}
 use Rattle.rule.specs.Time.{END}
 use Rattle.calls.specs.Refusals.{first, scratch-ok}
-use Rattle.calls.specs.Changes.{entering, withdrawing}
+use Rattle.calls.specs.Changes.{entering, withdrawing, Change}
 use Rattle.calls.specs.Calls.{Booked, head, book}
 use Rattle.calls.specs.Book.{empty-book, entered, entered-all, book-of, items-pair, book-pair, runs-after, runs-of, listing-of}
 use Rattle.calls.specs.Aggregate.{counts-at, counting, signed, sum-of, count-of, best-of, best-pair, aggregate-of, aggregate, same-booking, without, live-has, live-after, live-from, Matched}
 use Rattle.calls.specs.Trace.{Step, kept, accepted, Trace, formatted, extended, Throughout, made}
-use Rattle.calls.specs.Demands.{fixed-number, As-the-book, couples, Reordered, same, next, swap, then}
+use Rattle.calls.specs.Demands.{fixed-number, As-the-book, Booking, couples, Reordered, same, next, swap, then, Same-changes}
 use Rattle.calls.specs.Examples.{prescribed, one, windowed, two, below-zero, Book-cases, prescription, again, twice, three, Aggregate-cases, entry, fresh-image, after-one, after-two, after-three, three-changes, greatest-one, struck, struck-too, List-cases}
 use Rattle.calls.proofs.Opened.{every-call}
 use Rattle.calls.proofs.Steps.{stayed}
@@ -106,6 +106,30 @@ fixed-one : {n : ℕ} (m : ℕ) → (n ≡ suc m) ⊎ ((suc m ≡ 0) × (n ≡ 2
 fixed-one m (inl e) = e
 fixed-one m (inr e) = absurd (omega (arith, e .0))
 
+-- ---- what is struck out is even in number
+
+reordered-length : {xs ys : List Change} → Reordered xs ys → length xs ≡ length ys
+reordered-length same = refl
+reordered-length (next r) = ap suc (reordered-length r)
+reordered-length swap = refl
+reordered-length (then r q) = reordered-length r ∙ reordered-length q
+
+couples-length : (bs : List Booking) → length (couples bs) ≡ 2 * length bs
+unfolding couples
+couples-length [] = refl
+couples-length (b ∷ bs) = omega (arith, couples-length bs)
+
+differs : ¬ Same-changes (entry (pos 6) 10 40 ∷ []) []
+differs S =
+    omega (
+      arith,
+      reordered-length (S .of-x),
+      reordered-length (S .of-y),
+      length-append (couples (S .struck-x)) (S .left),
+      length-append (couples (S .struck-y)) (S .left),
+      couples-length (S .struck-x),
+    )
+
 pub list-cases : List-cases
 unfolding every-call empty-book entered entered-all book-of book-pair items-pair one windowed fixed-number couples fresh-image after-one after-two after-three three-changes greatest-one made Throughout a-day
 list-cases =
@@ -145,6 +169,7 @@ list-cases =
             of-x = same;
             of-y = swap;
           };
+      different = differs;
       struck-from-both =
           record {
             struck-x = struck ∷ struck-too ∷ [];

@@ -319,6 +319,8 @@ pub record List-cases : Type 0 where
       Same-changes (withdrawal (pos 6) 10 40 ∷ entry (pos 3) 20 50 ∷ entry (pos 6) 10 40 ∷ []) (entry (pos 3) 20 50 ∷ [])
   pub other-order :
       Same-changes (entry (pos 6) 10 40 ∷ entry (pos 3) 20 50 ∷ []) (entry (pos 3) 20 50 ∷ entry (pos 6) 10 40 ∷ [])
+  -- An entry without its withdrawal can't be struck out.
+  pub different : ¬ Same-changes (entry (pos 6) 10 40 ∷ []) []
   -- "Any number may be struck out, each entry with one withdrawal, from either list."
   pub struck-from-both :
       Same-changes

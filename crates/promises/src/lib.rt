@@ -19,6 +19,7 @@ ghost use mathlib.Core.List.{[]};
 ghost use Rattle.rule.specs.Averages.{average};
 ghost use Rattle.calls.specs.Changes.{entering, withdrawing};
 ghost use Rattle.calls.specs.Calls as calls;
+ghost use Rattle.calls.specs.Accepted.{Accepted-change};
 ghost use Rattle.calls.specs.Trace.{Step, Trace, made};
 ghost use Rattle.luwhenoka.specs.Answers.{average-answer};
 
@@ -31,11 +32,13 @@ pub fn format(img: &mut [u8], kind: u32, window: u32) -> u32
     luw_format(img, kind, window)
 }
 
-// A booking makes its change if it returns 0, and none if it is refused.
+// A booking makes its change if it returns 0, and none if it is refused. What an accepted change leaves is said of images of bytes, and
+// every image that is lent is one.
 pub fn enter(img: &mut [u8], scratch: &mut [u8], v: i64, s: u32, e: u32) -> u32
     ensures { λ r. ⌜ record { number = r; image = now (img .exit); scratch = now (scratch .exit) }
         ≡ calls.book 12 entering v s e (now (img .entry)) (now (scratch .entry)) ⌝ }
     ensures { λ r. ⌜ Step 12 (now (img .entry)) (made r (record { side = entering; v = v; s = s; e = e })) (now (img .exit)) ⌝ }
+    ensures { λ r. ⌜ (r ≡ 0 → Accepted-change 12 entering v s e (now (img .entry)) (now (img .exit))) ⌝ }
 {
     luw_enter(img, scratch, v, s, e)
 }
@@ -44,6 +47,7 @@ pub fn withdraw(img: &mut [u8], scratch: &mut [u8], v: i64, s: u32, e: u32) -> u
     ensures { λ r. ⌜ record { number = r; image = now (img .exit); scratch = now (scratch .exit) }
         ≡ calls.book 12 withdrawing v s e (now (img .entry)) (now (scratch .entry)) ⌝ }
     ensures { λ r. ⌜ Step 12 (now (img .entry)) (made r (record { side = withdrawing; v = v; s = s; e = e })) (now (img .exit)) ⌝ }
+    ensures { λ r. ⌜ (r ≡ 0 → Accepted-change 12 withdrawing v s e (now (img .entry)) (now (img .exit))) ⌝ }
 {
     luw_withdraw(img, scratch, v, s, e)
 }
