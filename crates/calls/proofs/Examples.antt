@@ -15,9 +15,9 @@ use Rattle.calls.specs.Book.{empty-book, entered, entered-all, book-of, 
 use Rattle.calls.specs.Aggregate.{counts-at, counting, signed, sum-of, count-of, best-of, best-pair, aggregate-of, aggregate, same-booking, without, live-has, live-after, live-from, Matched}
 use Rattle.calls.specs.Trace.{Step, kept, accepted, Trace, formatted, extended, Throughout, made}
 use Rattle.calls.specs.Demands.{fixed-number, As-the-book, Booking, couples, Reordered, same, next, swap, then, Same-changes}
-use Rattle.calls.specs.Examples.{prescribed, one, windowed, two, below-zero, Book-cases, prescription, again, twice, three, Aggregate-cases, entry, fresh-image, after-one, after-two, after-three, three-changes, greatest-one, struck, struck-too, List-cases}
+use Rattle.calls.specs.Examples.{prescribed, one, windowed, two, below-zero, Book-cases, prescription, again, twice, three, Aggregate-cases, entry, fresh-image, after-one, after-two, after-three, three-changes, greatest-one, greatest-book, struck, struck-too, List-cases}
 use Rattle.calls.proofs.Opened.{every-call}
-use Rattle.calls.proofs.Steps.{stayed}
+use Rattle.calls.proofs.Steps.{stayed, steps}
 
 pub book-cases : Book-cases
 unfolding every-call empty-book entered items-pair book-pair runs-after runs-of listing-of prescribed one windowed two below-zero
@@ -80,12 +80,23 @@ aggregate-cases =
       other-end = λ m. false≢true (m .1 .0);
     }
 
--- a day of calls: the second step is a booking that was refused, the third a format that was refused and the fourth a reading call
+-- a day of calls: behind the first booking one that is refused, a format that is refused and a reading call
+refused-step : Step 2 after-one [] after-one
+unfolding every-call fresh-image after-one made
+refused-step = steps 2 .of-booking entering (pos 3) 20 50 after-one (7 ∷ 7 ∷ []) 24 after-one (0 ∷ 0 ∷ []) refl
+
+refused-format : Step 2 after-one [] after-one
+unfolding every-call fresh-image after-one
+refused-format = steps 2 .of-refused-format 4 0 after-one 14 after-one refl (λ e. omega arith)
+
 a-day : Trace 2 1 0 after-three three-changes
 unfolding every-call fresh-image after-one after-two after-three three-changes
 a-day =
     extended
-    (extended (extended (extended (extended (extended (formatted (replicate (112 * 2) 0) refl) (accepted (7 ∷ 7 ∷ []) refl)) kept) kept) kept)
+    (extended
+    (extended
+    (extended (extended (extended (formatted (replicate (112 * 2) 0) refl) (accepted (7 ∷ 7 ∷ []) refl)) refused-step) refused-format)
+    kept)
     (accepted (7 ∷ 7 ∷ []) refl))
     (accepted (7 ∷ 7 ∷ []) refl)
 
@@ -131,12 +142,13 @@ differs S =
     )
 
 pub list-cases : List-cases
-unfolding every-call empty-book entered entered-all book-of book-pair items-pair one windowed fixed-number couples fresh-image after-one after-two after-three three-changes greatest-one made Throughout a-day
+unfolding every-call empty-book entered entered-all book-of book-pair items-pair runs-after runs-of listing-of one windowed fixed-number couples fresh-image after-one after-two after-three three-changes greatest-one greatest-book made Throughout a-day
 list-cases =
     record {
       fits-at-first = refl;
       fits-no-more = refl;
       fixed = (refl, refl, refl, refl);
+      refused-numbers = (refl, refl, refl, refl, refl, refl, refl);
       refused-leaves = (refl, refl);
       left-one = refl;
       left-twice = refl;
@@ -151,9 +163,10 @@ list-cases =
       first-of-day = λ h. omega (arith, h .0 .0 .0 .0 .0 .0);
       fed = refl;
       claimed = λ h. (h .instant-end END (omega arith), h .instants 39 (omega arith) .1, h .average-end END (omega arith), h .averages 39 (omega arith));
+      claimed-listing = λ h. h .listings 30 41 (replicate 34 9);
       claimed-greatest = λ h. h .averages 40 (omega arith);
       claimed-audit = λ h. (h .audits [], h .audits (7 ∷ 7 ∷ []));
-      claimed-booking = λ h. fixed-one 21 (h .bookings withdrawing (pos 4) 35 45 (7 ∷ 7 ∷ []));
+      claimed-booking = λ h. fixed-one 21 (h .bookings withdrawing (pos 6) 10 40 (7 ∷ 7 ∷ []));
       accepted-format = λ step. let e : _≡_ {A = ℕ} 0 1 = ap (λ img. head 2 img .changes) (stayed step) in omega arith;
       change-left-out = λ step. let e : _≡_ {A = ℕ} 2 1 = ap (λ img. head 2 img .changes) (stayed step) in omega arith;
       change-made-up = made-up;

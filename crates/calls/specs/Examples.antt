@@ -13,7 +13,7 @@ use Rattle.rule.specs.Pairs.{none}
 use Rattle.rule.specs.Averages.{average}
 use Rattle.image.specs.Listing.{Run}
 use Rattle.calls.specs.Changes.{Side, entering, withdrawing, Change}
-use Rattle.calls.specs.Calls.{Booked, format, book, instant, average-at, audit}
+use Rattle.calls.specs.Calls.{Booked, format, book, instant, average-at, audit, listing}
 use Rattle.calls.specs.Book.{Item, Book, empty-book, entered, book-of, book-pair, runs-of, listing-of}
 use Rattle.calls.specs.Aggregate.{counts-at, aggregate, live-from, Matched}
 use Rattle.calls.specs.Trace.{Step, Trace, Throughout, made}
@@ -240,7 +240,11 @@ after-three = enters (pos 3) 20 50 after-two .image
 unfoldable pub greatest-one : List ℕ
 greatest-one = enters (pos 6) 10 40 (format 2 2 0 (replicate (112 * 2) 0) .image) .image
 
--- their changes
+-- its book
+unfoldable pub greatest-book : Book
+greatest-book = entered 0 entering (pos 6) 10 40 (empty-book 2 0)
+
+-- the changes of the three
 unfoldable pub three-changes : List Change
 three-changes = entry (pos 6) 10 40 ∷ withdrawal (pos 6) 10 40 ∷ entry (pos 3) 20 50 ∷ []
 
@@ -261,6 +265,15 @@ pub record List-cases : Type 0 where
       × (fixed-number 2 entering (pos 1000001) 5 5 (7 ∷ 7 ∷ []) one ≡ 11)
       × (fixed-number 2 withdrawing (pos 4) 35 45 (7 ∷ 7 ∷ []) (windowed 2) ≡ 22)
       × (fixed-number 2 withdrawing (pos 4) 35 45 (7 ∷ []) (windowed 2) ≡ 17)
+  -- Each call that is refused there, by its number.
+  pub refused-numbers :
+      (enters (pos 1) 5 5 after-one .number ≡ 11)
+      × (instant 2 END after-one .number ≡ 12)
+      × (enters (pos 1000001) 5 6 after-one .number ≡ 13)
+      × (format 2 4 0 after-one .number ≡ 14)
+      × (listing 2 0 50 after-one [] .number ≡ 15)
+      × (audit 2 (255 ∷ after-one) [] .number ≡ 16)
+      × (audit 2 after-one [] .number ≡ 17)
   -- What a refused booking and a refused format leave is what they found.
   pub refused-leaves : (enters (pos 3) 20 50 after-one .image ≡ after-one) × (format 2 4 0 after-one .image ≡ after-one)
   -- What a booking leaves is what the next call finds.
@@ -280,8 +293,8 @@ pub record List-cases : Type 0 where
       × (average-at 2 20 greatest-one ≡ record { number = 0; average = Nothing })
   -- A booking that returned 0 made its change, and one that was refused made none.
   pub made-by-number : (made 0 (entry (pos 3) 20 50) ≡ entry (pos 3) 20 50 ∷ []) × (made 24 (entry (pos 3) 20 50) ≡ [])
-  -- A list of calls: the three bookings, in this order alone, and behind the first one 3 on [20, 50) refused by 24, a format refused by
-  -- 14, and a call that only reads.
+  -- A list of calls: the three bookings, in this order, and behind the first one 3 on [20, 50) refused by 24, a format refused by 14,
+  -- both as the steps that every call is, and a call that only reads.
   pub day : Trace 2 1 0 after-three three-changes
   -- Each image on the way is looked at, the first and the last too.
   pub all-day : (Throughout (λ img cs. length cs < 4) day)
@@ -294,18 +307,30 @@ pub record List-cases : Type 0 where
       ∷ record { s = 10; e = 40; pair = pair (negsuc 5) (negsuc 0) }
       ∷ record { s = 10; e = 40; pair = pair (pos 6) (pos 1) }
       ∷ []
-  -- What is claimed of an image whose book has one booking; of one of kind 2; of an audit; and of a withdrawal, which kind 2 turns back.
+  -- What is claimed of an image whose book has one booking; of a listing there; of one of kind 2; of an audit; and of a withdrawal, which
+  -- kind 2 turns back.
   pub claimed :
       {img : List ℕ} → As-the-book 2 img one
       → (instant 2 END img .number ≡ 12)
       × (instant 2 39 img .pair ≡ pair (pos 6) (pos 1))
       × (average-at 2 END img ≡ record { number = 12; average = Nothing })
       × (average-at 2 39 img ≡ record { number = 0; average = Hundredths (pos 600) })
+  pub claimed-listing :
+      {img : List ℕ} → As-the-book 2 img one
+      → listing 2 30 41 img (replicate 34 9)
+      ≡ record {
+        number = 0;
+        runs = 2;
+        output =
+            (30 ∷ 0 ∷ 0 ∷ 0 ∷ 1 ∷ 0 ∷ 0 ∷ 0 ∷ 6 ∷ 0 ∷ 0 ∷ 0 ∷ 0 ∷ 0 ∷ 0 ∷ 0 ∷ [])
+            ++ (40 ∷ 0 ∷ 0 ∷ 0 ∷ 0 ∷ 0 ∷ 0 ∷ 0 ∷ 0 ∷ 0 ∷ 0 ∷ 0 ∷ 0 ∷ 0 ∷ 0 ∷ 0 ∷ [])
+            ++ (9 ∷ 9 ∷ []);
+      }
   pub claimed-greatest : {img : List ℕ} → As-the-book 2 img (windowed 2) → average-at 2 40 img ≡ record { number = 0; average = Nothing }
   pub claimed-audit :
       As-the-book 2 after-one one → (audit 2 after-one [] .number ≡ 17) × (audit 2 after-one (7 ∷ 7 ∷ []) .number ≡ 0)
-  pub claimed-booking : As-the-book 2 greatest-one (windowed 2) → withdraws (pos 4) 35 45 greatest-one .number ≡ 22
-  -- No list has a format that was accepted, nor a booking that changed the image and is not among the changes.
+  pub claimed-booking : As-the-book 2 greatest-one greatest-book → withdraws (pos 6) 10 40 greatest-one .number ≡ 22
+  -- No list has a format that was accepted and changed the image, nor a booking that changed it and is not among the changes.
   pub accepted-format : ¬ Step 2 after-one [] (format 2 1 0 after-one .image)
   pub change-left-out : ¬ Step 2 after-one [] after-two
   -- nor a change that the image doesn't have

@@ -1,7 +1,7 @@
 -- What happens to one image, from the format on. Document 01, "The plain book of demand 3": "A list starts from an image on which format
 -- returned 0 .. Each gets the image as the last one left it; nobody else writes it meanwhile." "A call that a later request adds stands in
 -- it by the change that it makes to this image." So a list is told here by what its calls did to the image, and a further call is one of
--- these steps on every image that it is handed. Assumes nothing.
+-- these steps, or a kind of step that it adds, on every image that it is handed. Assumes nothing.
 use Prim.Native.Nat.{ℕ}
 use mathlib.Core.Path.{_≡_}
 use mathlib.Core.Logic.{_≢_}
@@ -47,13 +47,13 @@ Throughout P (extended {img} {after} {cs} {ds} T step) = Throughout P T × P aft
 unfoldable pub made : ℕ → Change → List Change
 made number c = cond (eqb number 0) (c ∷ []) []
 
--- Every call is such a step. Instant, average, listing and audit leave no image: the caller's stays, which is `kept`.
+-- Every booking and every format is such a step. Instant, average, listing and audit leave no image: the caller's stays, which is `kept`.
 pub record Steps (half : ℕ) : Type 0 where
   pub of-booking :
       (side : Side) (v : ℤ) (s e : ℕ) (img scratch : List ℕ) (r : ℕ) (after left : List ℕ)
       → record { number = r; image = after; scratch = left } ≡ book half side v s e img scratch
       → Step half img (made r (record { side = side; v = v; s = s; e = e })) after
-  -- an accepted format is no step of a list: it begins one
+  -- an accepted format begins a list
   pub of-format :
       (kind window : ℕ) (img : List ℕ) (after : List ℕ)
       → record { number = 0; image = after } ≡ format half kind window img

@@ -22,6 +22,7 @@ ghost use Rattle.calls.specs.Calls as calls;
 ghost use Rattle.calls.specs.Accepted.{Accepted-change};
 ghost use Rattle.calls.specs.Trace.{Step, Trace, made};
 ghost use Rattle.luwhenoka.specs.Answers.{average-answer};
+ghost use Rattle.promises.specs.AfterLists.{After-lists, Instant-as, Average-as, Listing-as, Audit-as, Booking-as};
 
 // A format that returns 0 begins a list, and a refused one keeps the image.
 pub fn format(img: &mut [u8], kind: u32, window: u32) -> u32
@@ -39,6 +40,7 @@ pub fn enter(img: &mut [u8], scratch: &mut [u8], v: i64, s: u32, e: u32) -> u32
         ≡ calls.book 12 entering v s e (now (img .entry)) (now (scratch .entry)) ⌝ }
     ensures { λ r. ⌜ Step 12 (now (img .entry)) (made r (record { side = entering; v = v; s = s; e = e })) (now (img .exit)) ⌝ }
     ensures { λ r. ⌜ (r ≡ 0 → Accepted-change 12 entering v s e (now (img .entry)) (now (img .exit))) ⌝ }
+    ensures { λ r. ⌜ After-lists (now (img .entry)) (Booking-as entering v s e (now (img .entry)) (now (scratch .entry)) r) ⌝ }
 {
     luw_enter(img, scratch, v, s, e)
 }
@@ -48,15 +50,17 @@ pub fn withdraw(img: &mut [u8], scratch: &mut [u8], v: i64, s: u32, e: u32) -> u
         ≡ calls.book 12 withdrawing v s e (now (img .entry)) (now (scratch .entry)) ⌝ }
     ensures { λ r. ⌜ Step 12 (now (img .entry)) (made r (record { side = withdrawing; v = v; s = s; e = e })) (now (img .exit)) ⌝ }
     ensures { λ r. ⌜ (r ≡ 0 → Accepted-change 12 withdrawing v s e (now (img .entry)) (now (img .exit))) ⌝ }
+    ensures { λ r. ⌜ After-lists (now (img .entry)) (Booking-as withdrawing v s e (now (img .entry)) (now (scratch .entry)) r) ⌝ }
 {
     luw_withdraw(img, scratch, v, s, e)
 }
 
-// Who only reads an image keeps it.
+// Who only reads an image keeps it, and tells after any list of calls what the book does.
 pub fn instant(img: &[u8], t: u32) -> InstantAnswer
     ensures { λ r. ⌜ record { number = r .number; pair = record { sum = r .sum; count = r .count }; pages = r .pages }
         ≡ calls.instant 12 t (now (img .entry)) ⌝ }
     ensures { λ r. ⌜ Step 12 (now (img .entry)) [] (now (img .exit)) ⌝ }
+    ensures { λ r. ⌜ After-lists (now (img .entry)) (Instant-as t r) ⌝ }
 {
     luw_instant(img, t)
 }
@@ -65,6 +69,7 @@ pub fn listing(img: &[u8], a: u32, b: u32, out: &mut [u8]) -> ListingAnswer
     ensures { λ r. ⌜ record { number = r .number; runs = r .runs; output = now (out .exit) }
         ≡ calls.listing 12 a b (now (img .entry)) (now (out .entry)) ⌝ }
     ensures { λ r. ⌜ Step 12 (now (img .entry)) [] (now (img .exit)) ⌝ }
+    ensures { λ r. ⌜ After-lists (now (img .entry)) (Listing-as a b (now (out .entry)) r (now (out .exit))) ⌝ }
 {
     luw_listing(img, a, b, out)
 }
@@ -73,6 +78,7 @@ pub fn audit(img: &[u8], scratch: &mut [u8]) -> u32
     ensures { λ r. ⌜ record { number = r; scratch = now (scratch .exit) }
         ≡ calls.audit 12 (now (img .entry)) (now (scratch .entry)) ⌝ }
     ensures { λ r. ⌜ Step 12 (now (img .entry)) [] (now (img .exit)) ⌝ }
+    ensures { λ r. ⌜ After-lists (now (img .entry)) (Audit-as (now (img .entry)) (now (scratch .entry)) r) ⌝ }
 {
     luw_audit(img, scratch)
 }
@@ -81,6 +87,7 @@ pub fn average_at(img: &[u8], t: u32) -> AverageAnswer
     ensures { λ r. ⌜ r ≡ average-answer (calls.average-at 12 t (now (img .entry)) .number)
         (calls.average-at 12 t (now (img .entry)) .average) ⌝ }
     ensures { λ r. ⌜ Step 12 (now (img .entry)) [] (now (img .exit)) ⌝ }
+    ensures { λ r. ⌜ After-lists (now (img .entry)) (Average-as t r) ⌝ }
 {
     luw_average(img, t)
 }
