@@ -48,28 +48,25 @@ sum-ones : (n : ℕ) → total n (λ _. 1) ≡ n
 sum-ones n = total-ones n (λ _. 1) (λ i l. refl)
 
 -- above 24 leaf pages stands one page, above those of them the root
+leaf-above : (img : List ℕ) (l p : ℕ) → ((q : ℕ) → 25 * leaves img (suc l) q ≤ 24 * length (tree-pages 12 img (suc l) q))
+    → 25 * leaves img (suc (suc l)) p + 24 ≤ 24 * length (tree-pages 12 img (suc (suc l)) p)
+unfolding leaves
+leaf-above img l p below =
+    omega (
+      arith,
+      pages-more img (suc l) p,
+      sum-le (min (number-of (page-at 12 img p)) 24) (λ i. leaves img (suc l) (child-at 12 (page-at 12 img p) i))
+          (λ i. length (tree-pages 12 img (suc l) (child-at 12 (page-at 12 img p) i))) 25 24
+          (λ i. below (child-at 12 (page-at 12 img p) i)),
+    )
+
 leaf-part : (img : List ℕ) (l p : ℕ) → 25 * leaves img (suc l) p ≤ 24 * length (tree-pages 12 img (suc l) p)
 unfolding leaves tree-pages
 leaf-part img zero p = omega (arith, pages-more img zero p, sum-ones (min (number-of (page-at 12 img p)) 24))
-leaf-part img (suc l) p =
-    omega (
-      arith,
-      pages-more img (suc l) p,
-      sum-le (min (number-of (page-at 12 img p)) 24) (λ i. leaves img (suc l) (child-at 12 (page-at 12 img p) i))
-          (λ i. length (tree-pages 12 img (suc l) (child-at 12 (page-at 12 img p) i))) 25 24
-          (λ i. leaf-part img l (child-at 12 (page-at 12 img p) i)),
-    )
+leaf-part img (suc l) p = omega (arith, leaf-above img l p (λ q. leaf-part img l q))
 
 leaf-more : (img : List ℕ) (l p : ℕ) → 25 * leaves img (suc (suc l)) p + 24 ≤ 24 * length (tree-pages 12 img (suc (suc l)) p)
-unfolding leaves
-leaf-more img l p =
-    omega (
-      arith,
-      pages-more img (suc l) p,
-      sum-le (min (number-of (page-at 12 img p)) 24) (λ i. leaves img (suc l) (child-at 12 (page-at 12 img p) i))
-          (λ i. length (tree-pages 12 img (suc l) (child-at 12 (page-at 12 img p) i))) 25 24
-          (λ i. leaf-part img l (child-at 12 (page-at 12 img p) i)),
-    )
+leaf-more img l p = leaf-above img l p (λ q. leaf-part img l q)
 
 leaves-few : (img : List ℕ) (l p : ℕ) → length (tree-pages 12 img l p) ≤ 63 → leaves img l p ≤ 59
 unfolding leaves
