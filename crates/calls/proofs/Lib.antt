@@ -1,9 +1,11 @@
 -- `Reflects` has tests and the propositions that they decide, `Cases` that the first row whose test passes is the first case that holds,
 -- and `Tables` that every call returns the number that document 01's tables have for it. `Steps` has that every call is a step of a list.
--- `Examples` has the cases that compute, over the definitions that `Opened` opens.
+-- `BookCases`, `AggregateCases` and `ListCases` have the cases that compute, over the definitions that `Opened` opens.
 pub mod Reflects
 pub mod Cases
 pub mod Tables
 pub mod Steps
 pub mod Opened
-pub mod Examples
+pub mod BookCases
+pub mod AggregateCases
+pub mod ListCases

@@ -8,5 +8,7 @@ pub mod Aggregate
 pub mod Accepted
 pub mod Demands
 pub mod Program
-pub mod Examples
+pub mod BookCases
+pub mod AggregateCases
+pub mod ListCases
 pub mod Walks

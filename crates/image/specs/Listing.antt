@@ -16,6 +16,9 @@ pub record Run : Type 0 where
   pub start : ℕ
   pub pair : Pair
 
+abbrev pub run : ℕ → Pair → Run
+run start p = record { start = start; pair = p }
+
 -- "16 bytes each: start (u32), count (i32), sum (i64)"
 unfoldable pub run-bytes : Run → List ℕ
 run-bytes r = u32-bytes (r .start) ++ (i32-bytes (r .pair .count) ++ i64-bytes (r .pair .sum))

@@ -7,17 +7,18 @@ use mathlib.Core.List.{List, [], _∷_, _++_}
 use lib.ListN.{replicate}
 use lib.IntN.{ℤ, pos, negsuc}
 use Rattle.rule.specs.Time.{END, lengthened}
-use Rattle.rule.specs.Pairs.{none}
+use Rattle.rule.specs.Pairs.{pair, none}
 use Rattle.fields.specs.Bytes.{part, patch}
 use Rattle.fields.specs.Numbers.{u32-bytes, i64-bytes}
 use Rattle.page.specs.Entries.{entry}
 use Rattle.page.specs.Layout.{entries-of}
 use Rattle.image.specs.Images.{page-at, image-bytes, fresh}
 use Rattle.image.specs.Sound.{sound}
+use Rattle.image.specs.Listing.{run}
 use Rattle.calls.specs.Changes.{Side, entering, withdrawing}
 use Rattle.calls.specs.Calls.{head, format, book, instant, listing, audit, runs-over}
 use Rattle.calls.specs.Program.{program}
-use Rattle.marks.specs.Marks.{half, pair, run, formatted, number, after, pair-of, full-listing, one-booking}
+use Rattle.marks.specs.Marks.{half, formatted, number, after, pair-of, full-listing, one-booking}
 
 -- s with byte b at place o
 unfoldable pub with-byte : ℕ → ℕ → List ℕ → List ℕ

@@ -8,10 +8,10 @@ use lib.IntN.{ℤ, pos, negsuc}
 use Rattle.rule.specs.declared.Pair.{Pair}
 use Rattle.rule.specs.declared.Average.the-variants.{Hundredths, Nothing}
 use Rattle.rule.specs.Time.{END}
-use Rattle.rule.specs.Pairs.{none}
+use Rattle.rule.specs.Pairs.{pair, none}
 use Rattle.rule.specs.Averages.{average}
 use Rattle.image.specs.Images.{pages-in, page-at}
-use Rattle.image.specs.Listing.{Run}
+use Rattle.image.specs.Listing.{Run, run}
 use Rattle.page.specs.Layout.{number-of}
 use Rattle.calls.specs.Changes.{Side, entering, withdrawing}
 use Rattle.calls.specs.Calls.{head, format, book, instant, runs-over}
@@ -31,19 +31,12 @@ number side v s e img = book half side v s e img (replicate (pages-in half img) 
 unfoldable pub after : Side → ℤ → ℕ → ℕ → List ℕ → List ℕ
 after side v s e img = book half side v s e img (replicate (pages-in half img) 7) .image
 
--- (sum, count)
-abbrev pub pair : ℤ → ℤ → Pair
-pair sum count = record { sum = sum; count = count }
-
 unfoldable pub pair-of : ℕ → List ℕ → Pair
 pair-of t img = instant half t img .pair
 
 -- the number of an instant call with it: a refusal has (0, 0) too
 unfoldable pub told : ℕ → List ℕ → ℕ × Pair
 told t img = (instant half t img .number, pair-of t img)
-
-abbrev pub run : ℕ → Pair → Run
-run start p = record { start = start; pair = p }
 
 unfoldable pub full-listing : List ℕ → List Run
 full-listing img = runs-over half 0 END img

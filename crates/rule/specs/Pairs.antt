@@ -7,9 +7,13 @@ use lib.IntN.{ℤ, pos, negsuc, _+ℤ_, negℤ}
 use lib.Signed.{leZ}
 use Rattle.rule.specs.declared.Pair.{Pair}
 
+-- (sum, count)
+abbrev pub pair : ℤ → ℤ → Pair
+pair sum count = record { sum = sum; count = count }
+
 -- (0, 0): what an instant answers where nothing counts
 abbrev pub none : Pair
-none = record { sum = pos 0; count = pos 0 }
+none = pair (pos 0) (pos 0)
 
 -- "an entry adds (v, 1), a withdrawal (−v, −1)"
 abbrev pub entry-effect : ℤ → Pair

@@ -4,16 +4,12 @@ use mathlib.Core.Path.{_≡_}
 use mathlib.Core.Bool.{true, false}
 use mathlib.Core.List.{List, [], _∷_}
 use lib.IntN.{ℤ, pos, negsuc}
-use Rattle.rule.specs.declared.Pair.{Pair}
-use Rattle.rule.specs.Pairs.{none, entry-effect, opposite, combine}
+use Rattle.rule.specs.Pairs.{pair, none, entry-effect, opposite, combine}
 use Rattle.rule.specs.Time.{END}
 use Rattle.page.specs.Entries.{entry}
 use Rattle.image.specs.Images.{Image, free, fresh}
 use Rattle.steps.specs.Supply.{entries}
 use Rattle.steps.specs.Change.{change, lacks-pages, change-names}
-
-abbrev pub pair : ℤ → ℤ → Pair
-pair sum count = record { sum = sum; count = count }
 
 -- value v entered on [s, e), and withdrawn
 unfoldable pub enter : ℤ → ℕ → ℕ → Image → Image

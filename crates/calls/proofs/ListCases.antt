@@ -1,8 +1,8 @@
--- The cases hold: each is computed. Assumes nothing.
+-- The cases of lists of calls hold. Assumes nothing.
 use Prim.Native.Nat.{ℕ, suc, _*_}
 use mathlib.Core.Path.{_≡_, refl, sym, ap, _∙_}
 use mathlib.Core.Logic.{_≢_, _⊎_, inl, inr}
-use mathlib.Core.Bool.{Bool, true, false, not, false≢true}
+use mathlib.Core.Bool.{Bool, true, false, not}
 use mathlib.Core.List.{List, [], _∷_}
 use native.Mathlib.Omega.{arith}
 use lib.ListN.{length, length-append, replicate}
@@ -12,73 +12,13 @@ use Rattle.calls.specs.Refusals.{first, scratch-ok}
 use Rattle.calls.specs.Changes.{entering, withdrawing, Change}
 use Rattle.calls.specs.Calls.{Booked, head, book}
 use Rattle.calls.specs.Book.{empty-book, entered, entered-all, book-of, items-pair, book-pair, runs-after, runs-of, listing-of}
-use Rattle.calls.specs.Aggregate.{counts-at, counting, signed, sum-of, count-of, best-of, best-pair, aggregate-of, aggregate, same-booking, without, live-has, live-after, live-from, Matched}
 use Rattle.calls.specs.Trace.{Step, kept, accepted, Trace, formatted, extended, Throughout, made}
 use Rattle.calls.specs.Demands.{fixed-number, As-the-book, Booking, couples, Reordered, same, next, swap, then, Same-changes}
-use Rattle.calls.specs.Examples.{prescribed, one, windowed, two, below-zero, Book-cases, prescription, again, twice, three, Aggregate-cases, entry, fresh-image, after-one, after-two, after-three, three-changes, greatest-one, greatest-book, struck, struck-too, List-cases}
+use Rattle.calls.specs.BookCases.{one, windowed}
+use Rattle.calls.specs.AggregateCases.{entry}
+use Rattle.calls.specs.ListCases.{fresh-image, after-one, after-two, after-three, three-changes, greatest-one, greatest-book, struck, struck-too, List-cases}
 use Rattle.calls.proofs.Opened.{every-call}
 use Rattle.calls.proofs.Steps.{stayed, steps}
-
-pub book-cases : Book-cases
-unfolding every-call empty-book entered items-pair book-pair runs-after runs-of listing-of prescribed one windowed two below-zero
-book-cases =
-    record {
-      totals = refl;
-      totals-on = refl;
-      window-5 = refl;
-      averages = (refl, refl);
-      window-20 = refl;
-      windows = (refl, refl, refl);
-      greatest = refl;
-      least = refl;
-      greatest-below-zero = refl;
-      least-below-zero = refl;
-      refused = (refl, refl);
-      withdrawal = refl;
-      withdrawal-alone = refl;
-      items = refl;
-      ends = refl;
-      ends-at-END = refl;
-      runs = refl;
-      runs-within = refl;
-      runs-up-to = refl;
-      runs-past = refl;
-      equal-sums = refl;
-      equal-counts = refl;
-      equal-pairs = refl;
-      listing-11 = (refl, refl);
-      listing-15 = refl;
-      listing-0 = refl;
-    }
-
-pub aggregate-cases : Aggregate-cases
-unfolding every-call counts-at counting signed sum-of count-of best-of best-pair aggregate-of aggregate same-booking without live-has live-after live-from Matched prescription again twice three
-aggregate-cases =
-    record {
-      totals = refl;
-      totals-on = refl;
-      window-5 = refl;
-      window-20 = refl;
-      counts = refl;
-      counts-now = refl;
-      counts-early = refl;
-      greatest = refl;
-      least = refl;
-      least-last = refl;
-      of-none = (refl, refl, refl);
-      withdrawn = refl;
-      withdrawn-alone = refl;
-      live-again = refl;
-      live-twice = refl;
-      total-again = (refl, refl);
-      matched = ((tt, (refl, (tt, tt))), (tt, (tt, (tt, (refl, tt)))));
-      unmatched = λ m. false≢true (m .0);
-      unmatched-yet = λ m. false≢true (m .0);
-      unmatched-twice = λ m. false≢true (m .1 .1 .0);
-      other-value = λ m. false≢true (m .1 .0);
-      other-start = λ m. false≢true (m .1 .0);
-      other-end = λ m. false≢true (m .1 .0);
-    }
 
 -- a day of calls: behind the first booking one that is refused, a format that is refused and a reading call
 refused-step : Step 2 after-one [] after-one

@@ -1,0 +1,146 @@
+-- Lists of calls on an image of two pages of four entries (half of which is 2): cases that compute, or that a few lines of proof settle.
+-- Assumes nothing.
+use Prim.Native.Nat.{ℕ, _*_, _<_}
+use mathlib.Core.Path.{_≡_}
+use mathlib.Core.List.{List, [], _∷_, map}
+use lib.ListN.{length, replicate}
+use lib.IntN.{ℤ, pos, negsuc}
+use Rattle.rule.specs.declared.Average.the-variants.{Hundredths, Nothing}
+use Rattle.rule.specs.Time.{END}
+use Rattle.rule.specs.Pairs.{pair, none}
+use Rattle.calls.specs.Changes.{entering, withdrawing, Change}
+use Rattle.calls.specs.Calls.{Booked, format, book, instant, average-at, listing, audit}
+use Rattle.calls.specs.Book.{Book, empty-book, entered, book-of}
+use Rattle.calls.specs.Trace.{Step, Trace, Throughout, made}
+use Rattle.calls.specs.Demands.{fixed-number, As-the-book, Booking, couples, Same-changes}
+use Rattle.calls.specs.BookCases.{one, windowed, listed-30-41}
+use Rattle.calls.specs.AggregateCases.{entry, withdrawal}
+
+-- freshly formatted: kind 1, no window
+unfoldable pub fresh-image : List ℕ
+fresh-image = format 2 1 0 (replicate (112 * 2) 0) .image
+
+-- bookings with scratch enough
+abbrev pub enters : ℤ → ℕ → ℕ → List ℕ → Booked
+enters v s e img = book 2 entering v s e img (7 ∷ 7 ∷ [])
+
+abbrev pub withdraws : ℤ → ℕ → ℕ → List ℕ → Booked
+withdraws v s e img = book 2 withdrawing v s e img (7 ∷ 7 ∷ [])
+
+-- 6 on [10, 40), which leaves three leaf entries; the same withdrawn; and 3 on [20, 50), which fits only now
+unfoldable pub after-one : List ℕ
+after-one = enters (pos 6) 10 40 fresh-image .image
+
+unfoldable pub after-two : List ℕ
+after-two = withdraws (pos 6) 10 40 after-one .image
+
+unfoldable pub after-three : List ℕ
+after-three = enters (pos 3) 20 50 after-two .image
+
+-- the first on an image of kind 2
+unfoldable pub greatest-one : List ℕ
+greatest-one = enters (pos 6) 10 40 (format 2 2 0 (replicate (112 * 2) 0) .image) .image
+
+-- its book
+unfoldable pub greatest-book : Book
+greatest-book = entered 0 entering (pos 6) 10 40 (empty-book 2 0)
+
+-- the changes of the three
+unfoldable pub three-changes : List Change
+three-changes = entry (pos 6) 10 40 ∷ withdrawal (pos 6) 10 40 ∷ entry (pos 3) 20 50 ∷ []
+
+-- the bookings that are struck out below
+abbrev pub struck : Booking
+struck = record { v = pos 6; s = 10; e = 40 }
+
+abbrev pub struck-too : Booking
+struck-too = record { v = negsuc 0; s = 0; e = 9 }
+
+pub record List-cases : Type 0 where
+  -- "Each gets the image as the last one left it": 3 on [20, 50) fits in the fresh image, and not in what the first booking left.
+  pub fits-at-first : enters (pos 3) 20 50 fresh-image .number ≡ 0
+  pub fits-no-more : enters (pos 3) 20 50 after-one .number ≡ 24
+  -- What the book fixes of a booking's number: all but 24.
+  pub fixed :
+      (fixed-number 2 entering (pos 3) 20 50 (7 ∷ 7 ∷ []) one ≡ 0)
+      × (fixed-number 2 entering (pos 1000001) 5 5 (7 ∷ 7 ∷ []) one ≡ 11)
+      × (fixed-number 2 withdrawing (pos 4) 35 45 (7 ∷ 7 ∷ []) (windowed 2) ≡ 22)
+      × (fixed-number 2 withdrawing (pos 4) 35 45 (7 ∷ []) (windowed 2) ≡ 17)
+  -- Each call that is refused there, by its number.
+  pub refused-numbers :
+      (enters (pos 1) 5 5 after-one .number ≡ 11)
+      × (instant 2 END after-one .number ≡ 12)
+      × (enters (pos 1000001) 5 6 after-one .number ≡ 13)
+      × (format 2 4 0 after-one .number ≡ 14)
+      × (listing 2 0 50 after-one [] .number ≡ 15)
+      × (audit 2 (255 ∷ after-one) [] .number ≡ 16)
+      × (audit 2 after-one [] .number ≡ 17)
+  -- What a refused booking and a refused format leave is what they found.
+  pub refused-leaves : (enters (pos 3) 20 50 after-one .image ≡ after-one) × (format 2 4 0 after-one .image ≡ after-one)
+  -- What a booking leaves is what the next call finds.
+  pub left-one : instant 2 20 after-one ≡ record { number = 0; pair = pair (pos 6) (pos 1); pages = 1 }
+  pub left-twice : instant 2 20 (enters (pos 6) 10 40 after-one .image) .pair ≡ pair (pos 12) (pos 2)
+  pub left-two : instant 2 20 after-two .pair ≡ none
+  pub left-three :
+      map (λ t. instant 2 t after-three .pair) (19 ∷ 20 ∷ 49 ∷ 50 ∷ [])
+      ≡ none ∷ pair (pos 3) (pos 1) ∷ pair (pos 3) (pos 1) ∷ none ∷ []
+  -- An average, at an instant, where nothing counts, and at END; and for kind 2, where there is none.
+  pub averaged :
+      (average-at 2 20 after-one ≡ record { number = 0; average = Hundredths (pos 600) })
+      × (average-at 2 40 after-one ≡ record { number = 0; average = Nothing })
+      × (average-at 2 END after-one ≡ record { number = 12; average = Nothing })
+  pub averaged-greatest :
+      (instant 2 20 greatest-one ≡ record { number = 0; pair = pair (pos 6) (pos 1); pages = 1 })
+      × (average-at 2 20 greatest-one ≡ record { number = 0; average = Nothing })
+  -- A booking that returned 0 made its change, and one that was refused made none.
+  pub made-by-number : (made 0 (entry (pos 3) 20 50) ≡ entry (pos 3) 20 50 ∷ []) × (made 24 (entry (pos 3) 20 50) ≡ [])
+  -- A list of calls: the three bookings, in this order, and behind the first one 3 on [20, 50) refused by 24, a format refused by 14,
+  -- both as the steps that every call is, and a call that only reads.
+  pub day : Trace 2 1 0 after-three three-changes
+  -- Each image on the way is looked at, the first and the last too.
+  pub all-day : (Throughout (λ img cs. length cs < 4) day)
+  pub last-of-day : ¬ Throughout (λ img cs. length cs < 3) day
+  pub first-of-day : ¬ Throughout (λ img cs. 0 < length cs) day
+  -- The book gets the three changes that were accepted, and nothing of those that were refused.
+  pub fed :
+      book-of 1 0 three-changes .items
+      ≡ record { s = 20; e = 50; pair = pair (pos 3) (pos 1) }
+      ∷ record { s = 10; e = 40; pair = pair (negsuc 5) (negsuc 0) }
+      ∷ record { s = 10; e = 40; pair = pair (pos 6) (pos 1) }
+      ∷ []
+  -- What is claimed of an image whose book has one booking; of a listing there; of one of kind 2; of an audit; and of a withdrawal, which
+  -- kind 2 turns back.
+  pub claimed :
+      {img : List ℕ} → As-the-book 2 img one
+      → (instant 2 END img .number ≡ 12)
+      × (instant 2 39 img .pair ≡ pair (pos 6) (pos 1))
+      × (average-at 2 END img ≡ record { number = 12; average = Nothing })
+      × (average-at 2 39 img ≡ record { number = 0; average = Hundredths (pos 600) })
+  pub claimed-listing :
+      {img : List ℕ} → As-the-book 2 img one
+      → listing 2 30 41 img (replicate 34 9) ≡ listed-30-41
+  pub claimed-greatest : {img : List ℕ} → As-the-book 2 img (windowed 2) → average-at 2 40 img ≡ record { number = 0; average = Nothing }
+  pub claimed-audit :
+      As-the-book 2 after-one one → (audit 2 after-one [] .number ≡ 17) × (audit 2 after-one (7 ∷ 7 ∷ []) .number ≡ 0)
+  pub claimed-booking : As-the-book 2 greatest-one greatest-book → withdraws (pos 6) 10 40 greatest-one .number ≡ 22
+  -- No list has a format that was accepted and changed the image, nor a booking that changed it and is not among the changes.
+  pub accepted-format : ¬ Step 2 after-one [] (format 2 1 0 after-one .image)
+  pub change-left-out : ¬ Step 2 after-one [] after-two
+  -- nor a change that the image doesn't have
+  pub change-made-up : ¬ Step 2 after-one (entry (pos 3) 20 50 ∷ []) after-one
+  -- "A withdrawal matches an entry of the same v, s and e, whichever came first." "the same in whatever order, or become so when entries
+  -- are struck out with their matching withdrawals".
+  pub couple : couples (struck ∷ []) ≡ entry (pos 6) 10 40 ∷ withdrawal (pos 6) 10 40 ∷ []
+  pub struck-out :
+      Same-changes (entry (pos 6) 10 40 ∷ entry (pos 3) 20 50 ∷ withdrawal (pos 6) 10 40 ∷ []) (entry (pos 3) 20 50 ∷ [])
+  pub withdrawn-first :
+      Same-changes (withdrawal (pos 6) 10 40 ∷ entry (pos 3) 20 50 ∷ entry (pos 6) 10 40 ∷ []) (entry (pos 3) 20 50 ∷ [])
+  pub other-order :
+      Same-changes (entry (pos 6) 10 40 ∷ entry (pos 3) 20 50 ∷ []) (entry (pos 3) 20 50 ∷ entry (pos 6) 10 40 ∷ [])
+  -- An entry without its withdrawal can't be struck out.
+  pub different : ¬ Same-changes (entry (pos 6) 10 40 ∷ []) []
+  -- "Any number may be struck out, each entry with one withdrawal, from either list."
+  pub struck-from-both :
+      Same-changes
+      (entry (pos 6) 10 40 ∷ entry (negsuc 0) 0 9 ∷ withdrawal (pos 6) 10 40 ∷ entry (pos 3) 20 50 ∷ withdrawal (negsuc 0) 0 9 ∷ [])
+      (withdrawal (negsuc 0) 0 9 ∷ entry (pos 3) 20 50 ∷ entry (negsuc 0) 0 9 ∷ [])
