@@ -1,9 +1,9 @@
 /*
  * Luwhenoka: a time index in an image of 512-byte pages that the caller lends.
  *
- * Every call may be handed any image, span, instant, value and buffer, unchecked. It returns, and what it turns back is
- * refused by a number. The archive is libluwhenoka.a (`rt staticlib luwhenoka`); it needs no other library but memset and
- * memcpy of the C library, takes no memory of its own and keeps nothing between two calls.
+ * Every call may be handed any image, span, instant, value and buffer, unchecked. It returns, and the status tells what it
+ * turns back. The archive is libluwhenoka.a (`rt staticlib luwhenoka`); it needs no other library but memset and memcpy of
+ * the C library, takes no memory of its own and keeps nothing between two calls.
  *
  * Time and value. Instants are 0 to 4,294,967,294; LUW_END is no instant. A span [s, e) has s < e <= LUW_END. A value is
  * -1,000,000 to 1,000,000. An index has a kind and a window w, both set at format. A booking on [s, e) counts from s up to
@@ -18,8 +18,8 @@
  *   scratch   at least n bytes, of any content.
  *   output    16 bytes for each run that a listing writes; any length.
  *
- * Numbers returned. 0 is accepted; every other number is a refusal. Where several would apply, the first of this order is
- * returned: 16, 17, 11 or 12, 13, 14, 21, 22, 23, 24, and 15 last.
+ * The status that a call returns. 0 is accepted; every other one is a refusal. Where several would apply, the first of this
+ * order is returned: 16, 17, 11 or 12, 13, 14, 21, 22, 23, 24, and 15 last.
  *
  *   turned back by the input
  *     11  LUW_SPAN_EMPTY      span with s >= e, or a >= b                          enter, withdraw, listing
@@ -36,7 +36,7 @@
  *     23  LUW_CHANGES_FULL    the index has had 1,000,000,000 changes              enter, withdraw
  *     24  LUW_PAGES_LACKING   the change takes more pages than are left            enter, withdraw
  *
- * A refusal returns its number with zeros for every answer (luw_instant: the pages read too), and image and output keep
+ * A refusal returns its status with zeros for every answer (luw_instant: the pages read too), and image and output keep
  * their bytes. What becomes of the scratch is said at luw_audit and luw_enter.
  */
 #ifndef LUWHENOKA_H
@@ -69,7 +69,7 @@ extern "C" {
 /* The greatest value; the least is its opposite. */
 #define LUW_MOST_VALUE 1000000
 
-/* Numbers returned. */
+/* What a call returns: its status. */
 #define LUW_ACCEPTED 0
 #define LUW_SPAN_EMPTY 11
 #define LUW_INSTANT_END 12
@@ -104,8 +104,8 @@ uint32_t luw_format(uint8_t *image, size_t image_length, uint32_t kind, uint32_t
  * pages is the number of tree pages read: the height of the tree (1 to 4) if answered. At 21 it is the number of pages up
  * to and including the unfit one, or 0 if that is the head. At 16 and 12 it is 0.
  */
-struct luw_instant {
-    uint32_t number;
+struct luw_instant_answer {
+    uint32_t status;
     uint32_t pages;
     int64_t sum;
     int32_t count;
@@ -115,7 +115,7 @@ struct luw_instant {
  * The pair at instant t, combined on the way from the root to the leaf that has t. Only the head and the pages on that way
  * are looked at, each as a whole: damage elsewhere doesn't matter. Refusals: 16, 12, 21; sum and count are then 0.
  */
-struct luw_instant luw_instant(const uint8_t *image, size_t image_length, uint32_t t);
+struct luw_instant_answer luw_instant(const uint8_t *image, size_t image_length, uint32_t t);
 
 /*
  * An average in hundredths. answer tells the case:
@@ -127,8 +127,8 @@ struct luw_instant luw_instant(const uint8_t *image, size_t image_length, uint32
  *
  * hundredths is 0 in cases 0 and 2.
  */
-struct luw_average {
-    uint32_t number;
+struct luw_average_answer {
+    uint32_t status;
     uint32_t answer;
     int64_t hundredths;
 };
@@ -137,16 +137,16 @@ struct luw_average {
  * The average at instant t: that of the pair which luw_instant answers there. Refusals: 16, 12, 21, as at luw_instant. For
  * kinds 2 and 3 it is accepted, with no average.
  */
-struct luw_average luw_average(const uint8_t *image, size_t image_length, uint32_t t);
+struct luw_average_answer luw_average(const uint8_t *image, size_t image_length, uint32_t t);
 
 /*
- * The average of a pair of a kind, for instance of a run that was listed. Takes any numbers; number is always 0.
+ * The average of a pair of a kind, for instance of a run that was listed. Takes any numbers; status is always 0.
  */
-struct luw_average luw_average_of(uint32_t kind, int64_t sum, int32_t count);
+struct luw_average_answer luw_average_of(uint32_t kind, int64_t sum, int32_t count);
 
 /* A listing's answer: the number of runs that were written, 0 at every refusal. */
-struct luw_listing {
-    uint32_t number;
+struct luw_listing_answer {
+    uint32_t status;
     uint32_t runs;
 };
 
@@ -160,8 +160,8 @@ struct luw_listing {
  * Only the head, the root and the pages whose span overlaps [a, b) are looked at. Refusals: 16, 11, 21, 15; the output then
  * keeps every byte, also where it would have had room for some of the runs.
  */
-struct luw_listing luw_listing(const uint8_t *image, size_t image_length, uint32_t a, uint32_t b,
-                               uint8_t *output, size_t output_length);
+struct luw_listing_answer luw_listing(const uint8_t *image, size_t image_length, uint32_t a, uint32_t b,
+                                      uint8_t *output, size_t output_length);
 
 /*
  * Whether the image is sound: head and all tree pages are fit, each page below the high mark but the head is once in the

@@ -4,7 +4,9 @@
 
 use std::error::Error;
 
-use luwhenoka::{audit, average, average_of, enter, format, instant, listing, runs, withdraw, Average, Kind, Refusal, END};
+use luwhenoka::{
+    audit, average, average_of, enter, format, instant, listing, runs, withdraw, Average, Kind, Refusal, END,
+};
 
 const PAGES: usize = 2;
 
@@ -38,9 +40,9 @@ fn main() -> Result<(), Box<dyn Error>> {
     println!("at 22: sum {}, count {}, average {}", now.sum, now.count, in_words(average(&image, 22)?));
 
     let mut output = [0; 16 * 24 * (PAGES - 1)];
-    let number = listing(&image, 0, END, &mut output)?;
-    println!("runs {number}");
-    for run in runs(&output, number) {
+    let count = listing(&image, 0, END, &mut output)?;
+    println!("runs {count}");
+    for run in runs(&output, count) {
         let average = average_of(Kind::Totals, run.sum, run.count);
         println!("from {} sum {} count {} average {}", run.start, run.sum, run.count, in_words(average));
     }

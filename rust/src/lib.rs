@@ -15,8 +15,8 @@
 //! assert_eq!((now.sum, now.count), (6, 1));
 //!
 //! let mut output = [0; 16 * 8];
-//! let number = listing(&image, 0, END, &mut output)?;
-//! assert_eq!(runs(&output, number).count(), 3);
+//! let count = listing(&image, 0, END, &mut output)?;
+//! assert_eq!(runs(&output, count).count(), 3);
 //! # Ok::<(), Box<dyn std::error::Error>>(())
 //! ```
 
@@ -77,7 +77,7 @@ pub struct Instant {
 /// The pair at instant `t`. Only the head and the pages on the way from the root to the leaf that has `t` are looked at.
 ///
 /// Refusals: [`ImageLength`](Refusal::ImageLength), [`InstantEnd`](Refusal::InstantEnd), [`Unsound`](Refusal::Unsound);
-/// with each comes the number of tree pages read.
+/// with each comes how many tree pages were read.
 ///
 /// ```
 /// use luwhenoka::{format, instant, Instant, Kind, Refusal, Refused};
@@ -91,8 +91,8 @@ pub struct Instant {
 /// # Ok::<(), Refusal>(())
 /// ```
 pub fn instant(image: &[u8], t: u32) -> Result<Instant, Refused> {
-    let raw::Instant { number, pages, sum, count } = raw::instant(image, t);
-    match Refusal::result(number) {
+    let raw::InstantAnswer { status, pages, sum, count } = raw::instant(image, t);
+    match Refusal::result(status) {
         Ok(()) => Ok(Instant { sum, count, pages }),
         Err(refusal) => Err(Refused { refusal, pages }),
     }
@@ -110,7 +110,7 @@ pub enum Average {
 }
 
 impl Average {
-    fn of(raw: raw::Average) -> Average {
+    fn of(raw: raw::AverageAnswer) -> Average {
         match raw.answer {
             0 => Average::None,
             1 => Average::Hundredths(raw.hundredths),
@@ -135,7 +135,7 @@ impl Average {
 /// ```
 pub fn average(image: &[u8], t: u32) -> Result<Average, Refusal> {
     let averaged = raw::average(image, t);
-    Refusal::result(averaged.number)?;
+    Refusal::result(averaged.status)?;
     Ok(Average::of(averaged))
 }
 
@@ -164,14 +164,14 @@ pub fn average_of(kind: Kind, sum: i64, count: i32) -> Average {
 /// let mut image = [0; 1_024];
 /// format(&mut image, Kind::Totals, 0)?;
 /// let mut output = [0; 40];
-/// let number = listing(&image, 10, 20, &mut output)?;
-/// assert_eq!(runs(&output, number).collect::<Vec<_>>(), [Run { start: 10, count: 0, sum: 0 }]);
+/// let count = listing(&image, 10, 20, &mut output)?;
+/// assert_eq!(runs(&output, count).collect::<Vec<_>>(), [Run { start: 10, count: 0, sum: 0 }]);
 /// assert_eq!(listing(&image, 10, 20, &mut output[..15]), Err(Refusal::OutputShort));
 /// # Ok::<(), Refusal>(())
 /// ```
 pub fn listing(image: &[u8], a: u32, b: u32, output: &mut [u8]) -> Result<usize, Refusal> {
     let listed = raw::listing(image, a, b, output);
-    Refusal::result(listed.number)?;
+    Refusal::result(listed.status)?;
     Ok(listed.runs as usize)
 }
 

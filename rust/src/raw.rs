@@ -1,17 +1,17 @@
-//! The library's functions with the numbers that they return, for callers who want them as they are.
+//! The library's functions with the status that they return, for callers who want it as it is.
 //!
 //! [`ffi`] has the C functions themselves. The functions beside it take slices, so that they are safe: a slice is readable,
 //! a `&mut` slice is writable and overlaps no other, and the library is proved to return on any content.
 
 /// The C functions, as `include/luwhenoka.h` declares them.
 pub mod ffi {
-    use super::{Average, Instant, Listing};
+    use super::{AverageAnswer, InstantAnswer, ListingAnswer};
 
     extern "C" {
         pub fn luw_format(image: *mut u8, image_length: usize, kind: u32, window: u32) -> u32;
-        pub fn luw_instant(image: *const u8, image_length: usize, t: u32) -> Instant;
-        pub fn luw_average(image: *const u8, image_length: usize, t: u32) -> Average;
-        pub fn luw_average_of(kind: u32, sum: i64, count: i32) -> Average;
+        pub fn luw_instant(image: *const u8, image_length: usize, t: u32) -> InstantAnswer;
+        pub fn luw_average(image: *const u8, image_length: usize, t: u32) -> AverageAnswer;
+        pub fn luw_average_of(kind: u32, sum: i64, count: i32) -> AverageAnswer;
         pub fn luw_listing(
             image: *const u8,
             image_length: usize,
@@ -19,7 +19,7 @@ pub mod ffi {
             b: u32,
             output: *mut u8,
             output_length: usize,
-        ) -> Listing;
+        ) -> ListingAnswer;
         pub fn luw_audit(image: *const u8, image_length: usize, scratch: *mut u8, scratch_length: usize) -> u32;
         pub fn luw_enter(
             image: *mut u8,
@@ -42,30 +42,30 @@ pub mod ffi {
     }
 }
 
-/// `struct luw_instant`
+/// `struct luw_instant_answer`
 #[repr(C)]
 #[derive(Clone, Copy, PartialEq, Eq, Debug)]
-pub struct Instant {
-    pub number: u32,
+pub struct InstantAnswer {
+    pub status: u32,
     pub pages: u32,
     pub sum: i64,
     pub count: i32,
 }
 
-/// `struct luw_average`; `answer` is 0 for none, 1 for hundredths, 2 for a sum that no fit page can show.
+/// `struct luw_average_answer`; `answer` is 0 for none, 1 for hundredths, 2 for a sum that no fit page can show.
 #[repr(C)]
 #[derive(Clone, Copy, PartialEq, Eq, Debug)]
-pub struct Average {
-    pub number: u32,
+pub struct AverageAnswer {
+    pub status: u32,
     pub answer: u32,
     pub hundredths: i64,
 }
 
-/// `struct luw_listing`
+/// `struct luw_listing_answer`
 #[repr(C)]
 #[derive(Clone, Copy, PartialEq, Eq, Debug)]
-pub struct Listing {
-    pub number: u32,
+pub struct ListingAnswer {
+    pub status: u32,
     pub runs: u32,
 }
 
@@ -73,19 +73,19 @@ pub fn format(image: &mut [u8], kind: u32, window: u32) -> u32 {
     unsafe { ffi::luw_format(image.as_mut_ptr(), image.len(), kind, window) }
 }
 
-pub fn instant(image: &[u8], t: u32) -> Instant {
+pub fn instant(image: &[u8], t: u32) -> InstantAnswer {
     unsafe { ffi::luw_instant(image.as_ptr(), image.len(), t) }
 }
 
-pub fn average(image: &[u8], t: u32) -> Average {
+pub fn average(image: &[u8], t: u32) -> AverageAnswer {
     unsafe { ffi::luw_average(image.as_ptr(), image.len(), t) }
 }
 
-pub fn average_of(kind: u32, sum: i64, count: i32) -> Average {
+pub fn average_of(kind: u32, sum: i64, count: i32) -> AverageAnswer {
     unsafe { ffi::luw_average_of(kind, sum, count) }
 }
 
-pub fn listing(image: &[u8], a: u32, b: u32, output: &mut [u8]) -> Listing {
+pub fn listing(image: &[u8], a: u32, b: u32, output: &mut [u8]) -> ListingAnswer {
     unsafe { ffi::luw_listing(image.as_ptr(), image.len(), a, b, output.as_mut_ptr(), output.len()) }
 }
 

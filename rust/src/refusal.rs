@@ -31,7 +31,7 @@ pub enum Refusal {
 }
 
 impl Refusal {
-    /// All of them, by number.
+    /// All of them, by status.
     pub const ALL: [Refusal; 11] = [
         Refusal::SpanEmpty,
         Refusal::InstantEnd,
@@ -46,12 +46,12 @@ impl Refusal {
         Refusal::PagesLacking,
     ];
 
-    /// The number that the call returned.
+    /// The status that the call returned.
     ///
     /// ```
-    /// assert_eq!(luwhenoka::Refusal::Unsound.number(), 21);
+    /// assert_eq!(luwhenoka::Refusal::Unsound.status(), 21);
     /// ```
-    pub fn number(self) -> u32 {
+    pub fn status(self) -> u32 {
         match self {
             Refusal::SpanEmpty => 11,
             Refusal::InstantEnd => 12,
@@ -67,23 +67,23 @@ impl Refusal {
         }
     }
 
-    /// The refusal of a number; none for 0 and for any that no call returns.
+    /// The refusal of a status; none for 0 and for any that no call returns.
     ///
     /// ```
     /// use luwhenoka::Refusal;
-    /// assert_eq!(Refusal::of_number(16), Some(Refusal::ImageLength));
-    /// assert_eq!(Refusal::of_number(0), None);
+    /// assert_eq!(Refusal::of_status(16), Some(Refusal::ImageLength));
+    /// assert_eq!(Refusal::of_status(0), None);
     /// ```
-    pub fn of_number(number: u32) -> Option<Refusal> {
-        Refusal::ALL.into_iter().find(|refusal| refusal.number() == number)
+    pub fn of_status(status: u32) -> Option<Refusal> {
+        Refusal::ALL.into_iter().find(|refusal| refusal.status() == status)
     }
 
-    /// A returned number as a result.
-    pub(crate) fn result(number: u32) -> Result<(), Refusal> {
-        if number == 0 {
+    /// A returned status as a result.
+    pub(crate) fn result(status: u32) -> Result<(), Refusal> {
+        if status == 0 {
             return Ok(());
         }
-        Err(Refusal::of_number(number).unwrap_or_else(|| panic!("the library returns no such number as {number}")))
+        Err(Refusal::of_status(status).unwrap_or_else(|| panic!("the library returns no such status as {status}")))
     }
 }
 
@@ -102,7 +102,7 @@ impl fmt::Display for Refusal {
             Refusal::ChangesFull => "the index has had 1000000000 changes",
             Refusal::PagesLacking => "the image lacks pages for the change",
         })?;
-        write!(f, " (refusal {})", self.number())
+        write!(f, " (refusal {})", self.status())
     }
 }
 

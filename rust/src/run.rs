@@ -23,7 +23,7 @@ impl Run {
     }
 }
 
-/// The first `number` runs in the output of a listing.
+/// The first `count` runs in the output of a listing.
 ///
 /// ```
 /// use luwhenoka::{runs, Run};
@@ -35,8 +35,8 @@ impl Run {
 /// # Panics
 ///
 /// If the output is shorter than so many runs.
-pub fn runs(output: &[u8], number: usize) -> Runs<'_> {
-    Runs { rest: output[..RUN_BYTES * number].chunks_exact(RUN_BYTES) }
+pub fn runs(output: &[u8], count: usize) -> Runs<'_> {
+    Runs { rest: output[..RUN_BYTES * count].chunks_exact(RUN_BYTES) }
 }
 
 /// The iterator of [`runs`].

@@ -33,20 +33,20 @@ fn leaf_of(entries: &[(u32, i64, i32)]) -> Vec<u8> {
 }
 
 #[test]
-fn every_number_has_its_refusal() {
-    let numbers: Vec<u32> = Refusal::ALL.iter().map(|refusal| refusal.number()).collect();
-    assert_eq!(numbers, [11, 12, 13, 14, 15, 16, 17, 21, 22, 23, 24]);
-    for number in 0..100 {
-        assert_eq!(Refusal::of_number(number).map(Refusal::number), numbers.contains(&number).then_some(number));
+fn every_status_has_its_refusal() {
+    let statuses: Vec<u32> = Refusal::ALL.iter().map(|refusal| refusal.status()).collect();
+    assert_eq!(statuses, [11, 12, 13, 14, 15, 16, 17, 21, 22, 23, 24]);
+    for status in 0..100 {
+        assert_eq!(Refusal::of_status(status).map(Refusal::status), statuses.contains(&status).then_some(status));
     }
 }
 
 #[test]
-fn messages_name_their_number() {
+fn messages_name_their_status() {
     let messages: HashSet<String> = Refusal::ALL.iter().map(ToString::to_string).collect();
     assert_eq!(messages.len(), Refusal::ALL.len());
     for refusal in Refusal::ALL {
-        assert!(refusal.to_string().ends_with(&format!("(refusal {})", refusal.number())));
+        assert!(refusal.to_string().ends_with(&format!("(refusal {})", refusal.status())));
     }
     let refused = Refused { refusal: Refusal::Unsound, pages: 3 };
     assert!(refused.to_string().ends_with("tree pages read: 3"));

@@ -51,20 +51,20 @@ static int all(const uint8_t *bytes, size_t length, uint8_t value) {
     return 1;
 }
 
-static int holds(struct luw_instant answer, int64_t sum, int32_t count, uint32_t pages) {
-    return answer.number == LUW_ACCEPTED && answer.sum == sum && answer.count == count && answer.pages == pages;
+static int holds(struct luw_instant_answer answer, int64_t sum, int32_t count, uint32_t pages) {
+    return answer.status == LUW_ACCEPTED && answer.sum == sum && answer.count == count && answer.pages == pages;
 }
 
-static int turned_back(struct luw_instant answer, uint32_t number, uint32_t pages) {
-    return answer.number == number && answer.pages == pages && answer.sum == 0 && answer.count == 0;
+static int turned_back(struct luw_instant_answer answer, uint32_t status, uint32_t pages) {
+    return answer.status == status && answer.pages == pages && answer.sum == 0 && answer.count == 0;
 }
 
-static int listed(struct luw_listing answer, uint32_t number, uint32_t runs) {
-    return answer.number == number && answer.runs == runs;
+static int listed(struct luw_listing_answer answer, uint32_t status, uint32_t runs) {
+    return answer.status == status && answer.runs == runs;
 }
 
-static int averages(struct luw_average average, uint32_t number, uint32_t answer, int64_t hundredths) {
-    return average.number == number && average.answer == answer && average.hundredths == hundredths;
+static int averages(struct luw_average_answer average, uint32_t status, uint32_t answer, int64_t hundredths) {
+    return average.status == status && average.answer == answer && average.hundredths == hundredths;
 }
 
 /* ---------------------------------------------------------------- an image made by hand */
@@ -127,7 +127,7 @@ static void instants(void) {
     CHECK(holds(luw_instant(image, sizeof image, LUW_END - 1), 0, 0, 2));
     CHECK(turned_back(luw_instant(image, sizeof image, LUW_END), LUW_INSTANT_END, 0));
     CHECK(turned_back(luw_instant(image, sizeof image + 1, LUW_END), LUW_IMAGE_LENGTH, 0));
-    struct luw_instant now = luw_instant(image, sizeof image, 122);
+    struct luw_instant_answer now = luw_instant(image, sizeof image, 122);
     printf("at 122: sum %" PRId64 ", count %" PRId32 ", %" PRIu32 " pages read\n", now.sum, now.count, now.pages);
 }
 
@@ -150,7 +150,7 @@ static void listings(void) {
     CHECK(all(output, sizeof output, 0xA5));
     CHECK(listed(luw_listing(image, sizeof image, 0, LUW_END, output, 16 * 25), LUW_ACCEPTED, 25));
     CHECK(all(output + 16 * 25, sizeof output - 16 * 25, 0xA5));
-    struct luw_listing answer = luw_listing(image, sizeof image, 58, 72, output, sizeof output);
+    struct luw_listing_answer answer = luw_listing(image, sizeof image, 58, 72, output, sizeof output);
     printf("runs %" PRIu32 " over [58, 72)\n", answer.runs);
     for (uint32_t i = 0; i < answer.runs; i++) {
         const uint8_t *run = output + LUW_RUN_BYTES * i;

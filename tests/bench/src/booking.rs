@@ -55,9 +55,9 @@ fn changes_of(table: &mut Table, case: &str, image: &[u8], spans: &[Booking]) {
     table.row(case, works);
 }
 
-/// Each booking entered and withdrawn again. Every change is to be accepted: the numbers returned add to 0.
+/// Each booking entered and withdrawn again. Every change is to be accepted: the statuses returned add to 0.
 fn both_ways(spans: &[Booking], mut change: impl FnMut(bool, Booking) -> u64) -> u64 {
-    let numbers: u64 = spans.iter().map(|span| change(false, *span) + change(true, *span)).sum();
-    assert_eq!(numbers, 0);
-    numbers
+    let statuses: u64 = spans.iter().map(|span| change(false, *span) + change(true, *span)).sum();
+    assert_eq!(statuses, 0);
+    statuses
 }

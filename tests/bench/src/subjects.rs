@@ -78,7 +78,7 @@ pub fn way(image: &[u8], t: u32) -> Vec<usize> {
 pub fn runs(image: &[u8]) -> Vec<(u32, i32, i64)> {
     let mut output = vec![0; 384 * (image.len() / 512)];
     let answer = plain::listing(image, 0, END, &mut output);
-    assert_eq!(answer.number, 0);
+    assert_eq!(answer.status, 0);
     let run = |bytes: &[u8]| {
         let start = u32::from_le_bytes(bytes[0..4].try_into().expect("4 bytes"));
         let count = i32::from_le_bytes(bytes[4..8].try_into().expect("4 bytes"));

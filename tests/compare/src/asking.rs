@@ -48,10 +48,10 @@ impl Comparer {
 
     // ------------------------------------------------------------ changes
 
-    /// Enters, or withdraws, and goes on with the image that it leaves; the number returned.
+    /// Enters, or withdraws, and goes on with the image that it leaves; the status returned.
     pub fn book(&mut self, withdrawal: bool, v: i64, s: u32, e: u32) -> u32 {
         let scratch = self.pages() + self.random.below(3);
-        self.ask(change(withdrawal, v, s, e), scratch, 0).number
+        self.ask(change(withdrawal, v, s, e), scratch, 0).status
     }
 
     /// A change of each sort, near the beginning or at a start anywhere, and back to the image as it was.

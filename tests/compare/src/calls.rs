@@ -15,7 +15,7 @@ pub enum Call {
     Withdraw { v: i64, s: u32, e: u32 },
 }
 
-/// Each call's name and the numbers that it can return: every one has to occur.
+/// Each call's name and each status that it can return: every one has to occur.
 pub const NAMES: &[(&str, &[u32])] = &[
     ("format", &[0, 14, 16]),
     ("instant", &[0, 12, 16, 21]),
@@ -51,10 +51,10 @@ impl Call {
     }
 }
 
-/// The number that a call returns and all that it answers; 0 for what it doesn't have.
+/// The status that a call returns and all that it answers; 0 for what it doesn't have.
 #[derive(Clone, Copy, PartialEq, Eq, Debug, Default)]
 pub struct Answer {
-    pub number: u32,
+    pub status: u32,
     pub pages: u32,
     pub sum: i64,
     pub count: i32,
@@ -64,8 +64,8 @@ pub struct Answer {
 }
 
 impl Answer {
-    pub fn number(number: u32) -> Answer {
-        Answer { number, ..Answer::default() }
+    pub fn status(status: u32) -> Answer {
+        Answer { status, ..Answer::default() }
     }
 
     pub fn pair(sum: i64, count: i32, pages: u32) -> Answer {
@@ -98,27 +98,27 @@ pub fn by_plain(call: Call, lent: Lent) -> (Answer, Option<Told>) {
         Call::Withdraw { v, s, e } => plain::withdraw_told(image, scratch, v, s, e),
         _ => return (without_steps(call, Lent { image, scratch, output }), None),
     };
-    (Answer::number(told.number), Some(told))
+    (Answer::status(told.status), Some(told))
 }
 
 fn without_steps(call: Call, lent: Lent) -> Answer {
     let Lent { image, scratch, output } = lent;
     match call {
-        Call::Format { kind, window } => Answer::number(plain::format(image, kind, window)),
+        Call::Format { kind, window } => Answer::status(plain::format(image, kind, window)),
         Call::Instant { t } => {
-            let plain::Instant { number, sum, count, pages } = plain::instant(image, t);
-            Answer { number, pages, sum, count, ..Answer::default() }
+            let plain::Instant { status, sum, count, pages } = plain::instant(image, t);
+            Answer { status, pages, sum, count, ..Answer::default() }
         }
         Call::Average { t } => {
-            let (number, hundredths) = plain::average(image, t);
-            Answer { number, ..averaged(hundredths.map_or(Average::None, Average::Hundredths)) }
+            let (status, hundredths) = plain::average(image, t);
+            Answer { status, ..averaged(hundredths.map_or(Average::None, Average::Hundredths)) }
         }
         Call::AverageOf { kind, sum, count } => averaged(plain::average_of(kind, sum, count)),
         Call::Listing { a, b } => {
-            let plain::Listing { number, runs } = plain::listing(image, a, b, output);
-            Answer { number, runs, ..Answer::default() }
+            let plain::Listing { status, runs } = plain::listing(image, a, b, output);
+            Answer { status, runs, ..Answer::default() }
         }
-        Call::Audit => Answer::number(plain::audit(image, scratch)),
+        Call::Audit => Answer::status(plain::audit(image, scratch)),
         Call::Enter { .. } | Call::Withdraw { .. } => unreachable!("a change has steps"),
     }
 }
@@ -142,23 +142,23 @@ pub fn by_library(call: Call, lent: Lent, null: bool) -> Answer {
     let (output, output_length) = parts(lent.output, null);
     unsafe {
         match call {
-            Call::Format { kind, window } => Answer::number(ffi::luw_format(image, image_length, kind, window)),
+            Call::Format { kind, window } => Answer::status(ffi::luw_format(image, image_length, kind, window)),
             Call::Instant { t } => {
                 let answer = ffi::luw_instant(image, image_length, t);
-                Answer { number: answer.number, ..Answer::pair(answer.sum, answer.count, answer.pages) }
+                Answer { status: answer.status, ..Answer::pair(answer.sum, answer.count, answer.pages) }
             }
             Call::Average { t } => library_averaged(ffi::luw_average(image, image_length, t)),
             Call::AverageOf { kind, sum, count } => library_averaged(ffi::luw_average_of(kind, sum, count)),
             Call::Listing { a, b } => {
                 let answer = ffi::luw_listing(image, image_length, a, b, output, output_length);
-                Answer { number: answer.number, ..Answer::runs(answer.runs) }
+                Answer { status: answer.status, ..Answer::runs(answer.runs) }
             }
-            Call::Audit => Answer::number(ffi::luw_audit(image, image_length, scratch, scratch_length)),
+            Call::Audit => Answer::status(ffi::luw_audit(image, image_length, scratch, scratch_length)),
             Call::Enter { v, s, e } => {
-                Answer::number(ffi::luw_enter(image, image_length, scratch, scratch_length, v, s, e))
+                Answer::status(ffi::luw_enter(image, image_length, scratch, scratch_length, v, s, e))
             }
             Call::Withdraw { v, s, e } => {
-                Answer::number(ffi::luw_withdraw(image, image_length, scratch, scratch_length, v, s, e))
+                Answer::status(ffi::luw_withdraw(image, image_length, scratch, scratch_length, v, s, e))
             }
         }
     }
@@ -172,7 +172,7 @@ fn parts(bytes: &mut [u8], null: bool) -> (*mut u8, usize) {
     }
 }
 
-fn library_averaged(answer: luwhenoka::raw::Average) -> Answer {
-    let luwhenoka::raw::Average { number, answer: average, hundredths } = answer;
-    Answer { number, average, hundredths, ..Answer::default() }
+fn library_averaged(answer: luwhenoka::raw::AverageAnswer) -> Answer {
+    let luwhenoka::raw::AverageAnswer { status, answer: average, hundredths } = answer;
+    Answer { status, average, hundredths, ..Answer::default() }
 }

@@ -1,4 +1,4 @@
-//! One image, lent to the plain version and to the library alike; every call is done by both and compared: the number and
+//! One image, lent to the plain version and to the library alike; every call is done by both and compared: the status and
 //! the answer, and every byte of image, scratch and output, with the bytes around them. Of a change also the pages that it
 //! wrote, against those that its steps name.
 
@@ -142,7 +142,7 @@ impl Comparer {
     /// What a call wrote to the image that it may not write, by the image ahead of it.
     fn wrong_writes(&mut self, call: Call, answer: Answer, told: Option<Told>) -> Option<String> {
         let (before, after) = (&self.before, self.lent.held());
-        if call.writes() && answer.number != 0 {
+        if call.writes() && answer.status != 0 {
             return (before != after).then(|| "image: written by a refused call".to_string());
         }
         told.and_then(|told| self.tally.steps.add(&Change { before, after, told: &told }))

@@ -1,9 +1,9 @@
-//! How often each call returned each number, and what changes did.
+//! How often each call returned each status, and what changes did.
 
 use crate::calls::{Answer, Call, NAMES};
 use crate::steps::Steps;
 
-const NUMBERS: usize = 25;
+const STATUSES: usize = 25;
 
 /// A comparison of all groups does at least so many calls, and accepts at least so many changes.
 const FEWEST_CALLS: u64 = 2_000_000;
@@ -11,7 +11,7 @@ const FEWEST_CHANGES: u64 = 150_000;
 
 #[derive(Clone)]
 pub struct Tally {
-    numbers: Vec<[u64; NUMBERS]>,
+    statuses: Vec<[u64; STATUSES]>,
     /// Tree pages read by instants that were answered, and by those refused with 21.
     answered_pages: [u64; 5],
     refused_pages: [u64; 5],
@@ -24,7 +24,7 @@ pub struct Tally {
 impl Default for Tally {
     fn default() -> Tally {
         Tally {
-            numbers: vec![[0; NUMBERS]; NAMES.len()],
+            statuses: vec![[0; STATUSES]; NAMES.len()],
             answered_pages: [0; 5],
             refused_pages: [0; 5],
             averages: [0; 3],
@@ -35,17 +35,17 @@ impl Default for Tally {
 
 impl Tally {
     pub fn add(&mut self, call: Call, answer: &Answer) {
-        self.numbers[call.place()][answer.number as usize] += 1;
+        self.statuses[call.place()][answer.status as usize] += 1;
         match call {
-            Call::Instant { .. } if answer.number == 0 => self.answered_pages[answer.pages as usize] += 1,
-            Call::Instant { .. } if answer.number == 21 => self.refused_pages[answer.pages as usize] += 1,
+            Call::Instant { .. } if answer.status == 0 => self.answered_pages[answer.pages as usize] += 1,
+            Call::Instant { .. } if answer.status == 21 => self.refused_pages[answer.pages as usize] += 1,
             Call::AverageOf { .. } => self.averages[answer.average as usize] += 1,
             _ => {}
         }
     }
 
     pub fn add_all(&mut self, other: &Tally) {
-        for (mine, theirs) in self.numbers.iter_mut().zip(&other.numbers) {
+        for (mine, theirs) in self.statuses.iter_mut().zip(&other.statuses) {
             add(mine, theirs);
         }
         add(&mut self.answered_pages, &other.answered_pages);
@@ -55,15 +55,15 @@ impl Tally {
     }
 
     pub fn calls(&self) -> u64 {
-        self.numbers.iter().flatten().sum()
+        self.statuses.iter().flatten().sum()
     }
 
     pub fn print(&self) {
-        for ((name, _), numbers) in NAMES.iter().zip(&self.numbers) {
-            let total: u64 = numbers.iter().sum();
+        for ((name, _), statuses) in NAMES.iter().zip(&self.statuses) {
+            let total: u64 = statuses.iter().sum();
             let each: Vec<String> =
-                (0..NUMBERS).filter(|i| numbers[*i] > 0).map(|i| format!("{i}: {}", numbers[i])).collect();
-            println!("{name:<11}{total:>9} calls, by number {}", each.join(", "));
+                (0..STATUSES).filter(|i| statuses[*i] > 0).map(|i| format!("{i}: {}", statuses[i])).collect();
+            println!("{name:<11}{total:>9} calls, by status {}", each.join(", "));
         }
         println!(
             "instants by tree pages read: answered {}, refused {}",
@@ -80,8 +80,8 @@ impl Tally {
     /// What should have occurred and didn't.
     pub fn lacking(&self) -> Vec<String> {
         let mut lacking = Vec::new();
-        for ((name, possible), numbers) in NAMES.iter().zip(&self.numbers) {
-            lacking.extend(possible.iter().filter(|i| numbers[**i as usize] == 0).map(|i| format!("{name} with {i}")));
+        for ((name, possible), statuses) in NAMES.iter().zip(&self.statuses) {
+            lacking.extend(possible.iter().filter(|i| statuses[**i as usize] == 0).map(|i| format!("{name} with {i}")));
         }
         for pages in 0..=4 {
             if pages > 0 && self.answered_pages[pages] == 0 {

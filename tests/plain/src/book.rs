@@ -31,14 +31,14 @@ impl Book {
 
     /// "Enter or withdraw of v on [s, e) that returned 0 adds an item: s, e′ and (v, 1), for a withdrawal (−v, −1). Any
     /// other number adds nothing; nor do format, instant, listing and audit."
-    pub fn enter(&mut self, v: i64, s: u32, e: u32, number: u32) {
-        if number == 0 {
+    pub fn enter(&mut self, v: i64, s: u32, e: u32, status: u32) {
+        if status == 0 {
             self.items.push(Item { start: s, end: self.end_of(e), value: v, count: 1 });
         }
     }
 
-    pub fn withdraw(&mut self, v: i64, s: u32, e: u32, number: u32) {
-        if number == 0 {
+    pub fn withdraw(&mut self, v: i64, s: u32, e: u32, status: u32) {
+        if status == 0 {
             self.items.push(Item { start: s, end: self.end_of(e), value: -v, count: -1 });
         }
     }

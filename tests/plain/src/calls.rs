@@ -63,16 +63,16 @@ enum Change {
     Withdraw,
 }
 
-/// A change's number and, if it was accepted, the tales of its five steps.
+/// A change's status and, if it was accepted, the tales of its five steps.
 #[derive(Clone, PartialEq, Eq, Debug)]
 pub struct Told {
-    pub number: u32,
+    pub status: u32,
     pub tales: Vec<StepTale>,
 }
 
 impl Told {
-    fn refused(number: u32) -> Told {
-        Told { number, tales: Vec::new() }
+    fn refused(status: u32) -> Told {
+        Told { status, tales: Vec::new() }
     }
 
     /// The pages that the change's five steps name; none for a refused one. The count of changes is in the head, which
@@ -83,11 +83,11 @@ impl Told {
 }
 
 pub fn enter(image: &mut [u8], scratch: &mut [u8], v: i64, s: u32, e: u32) -> u32 {
-    change(image, scratch, Change::Enter, v, s, e).number
+    change(image, scratch, Change::Enter, v, s, e).status
 }
 
 pub fn withdraw(image: &mut [u8], scratch: &mut [u8], v: i64, s: u32, e: u32) -> u32 {
-    change(image, scratch, Change::Withdraw, v, s, e).number
+    change(image, scratch, Change::Withdraw, v, s, e).status
 }
 
 pub fn enter_told(image: &mut [u8], scratch: &mut [u8], v: i64, s: u32, e: u32) -> Told {
@@ -133,7 +133,7 @@ fn change_by_state(image: &mut [u8], which: Change, v: i64, booked: Span) -> Tol
         Err(_) => Told::refused(PAGES_LACK),
         Ok(tales) => {
             image.copy_from_slice(&copy);
-            Told { number: ACCEPTED, tales }
+            Told { status: ACCEPTED, tales }
         }
     }
 }
@@ -150,15 +150,15 @@ fn effect_of(head: &Head, which: Change, v: i64, booked: Span) -> Effect {
 
 #[derive(Clone, Copy, PartialEq, Eq, Debug)]
 pub struct Instant {
-    pub number: u32,
+    pub status: u32,
     pub sum: i64,
     pub count: i32,
     pub pages: u32,
 }
 
 impl Instant {
-    fn refused(number: u32, pages: u32) -> Instant {
-        Instant { number, sum: 0, count: 0, pages }
+    fn refused(status: u32, pages: u32) -> Instant {
+        Instant { status, sum: 0, count: 0, pages }
     }
 }
 
@@ -181,7 +181,7 @@ pub fn instant(image: &[u8], t: u32) -> Instant {
         let i = page.entry_at(t);
         pair = combine(head.kind, pair, page.entries[i].pair);
         if page.is_leaf() {
-            return Instant { number: ACCEPTED, sum: pair.sum, count: pair.count, pages };
+            return Instant { status: ACCEPTED, sum: pair.sum, count: pair.count, pages };
         }
         place = child_place(&place, &page, i);
     }
@@ -189,12 +189,12 @@ pub fn instant(image: &[u8], t: u32) -> Instant {
 
 // ---------------------------------------------------------------- average
 
-/// "The average's pair is taken by an instant call." The number and the hundredths; none where there is no average and
+/// "The average's pair is taken by an instant call." The status and the hundredths; none where there is no average and
 /// at a refusal. For kinds 2 and 3 it is accepted, with none (R13).
 pub fn average(image: &[u8], t: u32) -> (u32, Option<i64>) {
     let answer = instant(image, t);
-    if answer.number != ACCEPTED {
-        return (answer.number, None);
+    if answer.status != ACCEPTED {
+        return (answer.status, None);
     }
     match average_of(read_head(image).kind, answer.sum, answer.count) {
         Average::Hundredths(hundredths) => (ACCEPTED, Some(hundredths)),
@@ -207,7 +207,7 @@ pub fn average(image: &[u8], t: u32) -> (u32, Option<i64>) {
 
 #[derive(Clone, Copy, PartialEq, Eq, Debug)]
 pub struct Listing {
-    pub number: u32,
+    pub status: u32,
     pub runs: u32,
 }
 
@@ -225,19 +225,19 @@ pub const RUN_BYTES: usize = 16;
 /// what they held. The answer is the number of runs."
 pub fn listing(image: &[u8], a: u32, b: u32, out: &mut [u8]) -> Listing {
     if number_of_pages(image).is_none() {
-        return Listing { number: BAD_LENGTH, runs: 0 };
+        return Listing { status: BAD_LENGTH, runs: 0 };
     }
     if a >= b {
-        return Listing { number: BAD_SPAN, runs: 0 };
+        return Listing { status: BAD_SPAN, runs: 0 };
     }
-    let Some(runs) = runs_over(image, Span { start: a, end: b }) else { return Listing { number: UNFIT, runs: 0 } };
+    let Some(runs) = runs_over(image, Span { start: a, end: b }) else { return Listing { status: UNFIT, runs: 0 } };
     if out.len() < runs.len() * RUN_BYTES {
-        return Listing { number: SHORT_OUTPUT, runs: 0 };
+        return Listing { status: SHORT_OUTPUT, runs: 0 };
     }
     for (i, run) in runs.iter().enumerate() {
         out[i * RUN_BYTES..(i + 1) * RUN_BYTES].copy_from_slice(&run_bytes(run));
     }
-    Listing { number: ACCEPTED, runs: runs.len() as u32 }
+    Listing { status: ACCEPTED, runs: runs.len() as u32 }
 }
 
 pub fn run_bytes(run: &Run) -> [u8; RUN_BYTES] {

@@ -39,14 +39,14 @@ fn lines_of(text: &[u8]) -> Vec<&[u8]> {
 fn answer_to_line(image: &mut [u8], line_number: usize, line: &[u8]) -> String {
     let Some(read) = read_line(line) else { return format!("line {line_number} unread\n") };
     let mut scratch = [0; PAGES];
-    let number = match read.sign {
+    let status = match read.sign {
         Sign::Plus => enter(image, &mut scratch, read.v, read.s, read.e),
         Sign::Minus => withdraw(image, &mut scratch, read.v, read.s, read.e),
     };
-    if number == ACCEPTED {
+    if status == ACCEPTED {
         String::new()
     } else {
-        format!("line {line_number} refused {number}\n")
+        format!("line {line_number} refused {status}\n")
     }
 }
 
@@ -109,7 +109,7 @@ fn read_time(field: &[u8]) -> Option<u32> {
 fn print_runs(image: &[u8]) -> String {
     let mut out = vec![0; MOST_RUNS * RUN_BYTES];
     let answer = listing(image, 0, END, &mut out);
-    assert_eq!(answer.number, ACCEPTED, "the program's image is sound and its output long enough");
+    assert_eq!(answer.status, ACCEPTED, "the program's image is sound and its output long enough");
     let runs: Vec<&[u8]> = out.chunks(RUN_BYTES).take(answer.runs as usize).collect();
     let mut printed = format!("runs {}\n", answer.runs);
     for (i, run) in runs.iter().enumerate() {

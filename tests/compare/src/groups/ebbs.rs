@@ -52,14 +52,14 @@ fn valued(comparer: &mut Comparer, kind: u32, round: i64) -> i64 {
 
 /// A change, and calls at its ends.
 fn changed(comparer: &mut Comparer, withdrawal: bool, (v, s, e): Booking) -> u32 {
-    let number = comparer.book(withdrawal, v, s, e);
+    let status = comparer.book(withdrawal, v, s, e);
     let t = comparer.random.pick(&[s.saturating_sub(1), s, e - 1, e]);
     comparer.instant(t);
     if comparer.random.one_in(20) {
         comparer.audit();
         comparer.listing(t, t.saturating_add(200));
     }
-    number
+    status
 }
 
 /// Takes back what is booked, in some order, and gives what is still booked then. Kinds 2 and 3 have no withdrawals: there a
@@ -128,7 +128,7 @@ pub fn brims(comparer: &mut Comparer, _: &Pool, part: usize) {
         comparer.listings(0, END);
         comparer.audit();
     }
-    assert_eq!(comparer.format(kind, 0).number, 0);
+    assert_eq!(comparer.format(kind, 0).status, 0);
 }
 
 fn filled(comparer: &mut Comparer, kind: u32, round: i64, n: usize) -> Vec<Booking> {

@@ -118,10 +118,10 @@ fn above_32_bits() {
         return;
     };
     vast.lent()[..1_024].copy_from_slice(&image);
-    let refused = luwhenoka::raw::Instant { number: 16, pages: 0, sum: 0, count: 0 };
+    let refused = luwhenoka::raw::InstantAnswer { status: 16, pages: 0, sum: 0, count: 0 };
     assert_eq!(raw::instant(vast.lent(), 0), refused);
-    assert_eq!(raw::average(vast.lent(), 0).number, 16);
-    assert_eq!(raw::listing(vast.lent(), 0, END, &mut [0; 16]).number, 16);
+    assert_eq!(raw::average(vast.lent(), 0).status, 16);
+    assert_eq!(raw::listing(vast.lent(), 0, END, &mut [0; 16]).status, 16);
     assert_eq!(raw::audit(vast.lent(), &mut [0; 2]), 16);
     assert_eq!(raw::format(vast.lent(), 2, 0), 16);
     assert_eq!(vast.lent()[..1_024], image);
@@ -132,7 +132,7 @@ fn above_32_bits() {
     assert_eq!(raw::audit(&image, vast.lent()), 0);
     assert_eq!(vast.lent()[..4], [0, 0, 7, 7]);
     let listed = raw::listing(&image, 3, END, vast.lent());
-    assert_eq!(Answer { number: listed.number, ..Answer::runs(listed.runs) }, Answer::runs(1));
+    assert_eq!(Answer { status: listed.status, ..Answer::runs(listed.runs) }, Answer::runs(1));
     assert_eq!(vast.lent()[..4], [3, 0, 0, 0]);
     let mut image = image.clone();
     assert_eq!(raw::enter(&mut image, vast.lent(), 6, 10, 40), 0);

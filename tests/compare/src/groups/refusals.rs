@@ -1,4 +1,4 @@
-//! Every set of refusals that can meet in one call: the number is that of the first by document 01's order, worked out here.
+//! Every set of refusals that can meet in one call: the status is that of the first by document 01's order, worked out here.
 //!
 //! "The order is 16, 17, 11 or 12, 13, 14, 21, 22, 23, 24, and 15 last."
 
@@ -10,9 +10,9 @@ use crate::images::{fresh, one_by_one, Pool, KIND};
 
 const ORDER: [u32; 12] = [16, 17, 11, 12, 13, 14, 21, 22, 23, 24, 15, 0];
 
-/// The number of a call that these refusals meet.
+/// The status of a call that these refusals meet.
 fn first(refusals: &[(u32, bool)]) -> u32 {
-    ORDER.into_iter().find(|number| *number == 0 || refusals.contains(&(*number, true))).expect("0 is the last")
+    ORDER.into_iter().find(|status| *status == 0 || refusals.contains(&(*status, true))).expect("0 is the last")
 }
 
 /// All ways to choose among so many things.
@@ -55,29 +55,29 @@ fn lend(comparer: &mut Comparer, image: &[u8], cut: Option<usize>, bad_head: boo
 fn formats(comparer: &mut Comparer, image: &[u8], cut: usize) {
     for [short, kind, window, damaged] in choices() {
         lend(comparer, image, short.then_some(cut), damaged, damaged);
-        let number = first(&[(16, short), (14, kind | window)]);
+        let status = first(&[(16, short), (14, kind | window)]);
         let call = Call::Format { kind: if kind { 4 } else { 2 }, window: if window { 1_000_000_001 } else { 7 } };
-        comparer.expect(call, 0, 0, Answer::number(number));
+        comparer.expect(call, 0, 0, Answer::status(status));
     }
 }
 
 fn instants(comparer: &mut Comparer, image: &[u8], cut: usize) {
     for [short, end, bad_head, bad_page] in choices() {
         lend(comparer, image, short.then_some(cut), bad_head, bad_page);
-        let number = first(&[(16, short), (12, end), (21, bad_head | bad_page)]);
+        let status = first(&[(16, short), (12, end), (21, bad_head | bad_page)]);
         let t = if end { END } else { 3 };
-        let pages = u32::from(number == 0 || number == 21 && !bad_head);
-        comparer.expect(Call::Instant { t }, 0, 0, Answer { pages, ..Answer::number(number) });
-        comparer.expect(Call::Average { t }, 0, 0, Answer::number(number));
+        let pages = u32::from(status == 0 || status == 21 && !bad_head);
+        comparer.expect(Call::Instant { t }, 0, 0, Answer { pages, ..Answer::status(status) });
+        comparer.expect(Call::Average { t }, 0, 0, Answer::status(status));
     }
 }
 
 fn listings(comparer: &mut Comparer, image: &[u8], cut: usize) {
     for [short, empty, bad_head, bad_page, no_room] in choices() {
         lend(comparer, image, short.then_some(cut), bad_head, bad_page);
-        let number = first(&[(16, short), (11, empty), (21, bad_head | bad_page), (15, no_room)]);
+        let status = first(&[(16, short), (11, empty), (21, bad_head | bad_page), (15, no_room)]);
         let call = Call::Listing { a: 3, b: if empty { 3 } else { 5 } };
-        let expected = Answer { number, ..Answer::runs(u32::from(number == 0)) };
+        let expected = Answer { status, ..Answer::runs(u32::from(status == 0)) };
         comparer.expect(call, 0, if no_room { 15 } else { 16 }, expected);
     }
 }
@@ -85,9 +85,9 @@ fn listings(comparer: &mut Comparer, image: &[u8], cut: usize) {
 fn audits(comparer: &mut Comparer, image: &[u8], cut: usize) {
     for [short, little, bad_head, bad_page] in choices() {
         lend(comparer, image, short.then_some(cut), bad_head, bad_page);
-        let number = first(&[(16, short), (17, little), (21, bad_head | bad_page)]);
+        let status = first(&[(16, short), (17, little), (21, bad_head | bad_page)]);
         let n = image.len() / 512;
-        comparer.expect(Call::Audit, if little { n - 1 } else { n }, 0, Answer::number(number));
+        comparer.expect(Call::Audit, if little { n - 1 } else { n }, 0, Answer::status(status));
     }
 }
 
@@ -105,10 +105,10 @@ fn changes(comparer: &mut Comparer, image: &[u8], cut: usize) {
             let (s, e) = if wide { (0, END) } else { (1_000, 1_005) };
             let refusals = [(16, short), (17, little), (11, empty), (13, value), (21, damaged)];
             let later = [(22, withdrawal && kind != 1), (23, changes), (24, lacks)];
-            let number = first(&[&refusals[..], &later[..]].concat());
+            let status = first(&[&refusals[..], &later[..]].concat());
             let v = if value { 1_000_001 } else { -1_000_000 };
             let call = crate::asking::change(withdrawal, v, if empty { e } else { s }, e);
-            comparer.expect(call, if little { n - 1 } else { n }, 0, Answer::number(number));
+            comparer.expect(call, if little { n - 1 } else { n }, 0, Answer::status(status));
         }
     }
 }

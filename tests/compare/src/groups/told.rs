@@ -21,7 +21,7 @@ impl Comparer {
     fn expect_runs(&mut self, a: u32, b: u32, runs: &[(u32, i64, i32)]) {
         let output = 16 * runs.len();
         self.expect(Call::Listing { a, b }, 0, output, Answer::runs(runs.len() as u32));
-        self.expect(Call::Listing { a, b }, 0, output - 1, Answer::number(15));
+        self.expect(Call::Listing { a, b }, 0, output - 1, Answer::status(15));
         for (i, (start, sum, count)) in runs.iter().enumerate() {
             let end = runs.get(i + 1).map_or(b, |next| next.0);
             self.expect_pair(*start, *sum, *count);
@@ -29,12 +29,12 @@ impl Comparer {
         }
     }
 
-    fn expect_booked(&mut self, number: u32, v: i64, s: u32, e: u32) {
-        assert_eq!(self.book(false, v, s, e), number);
+    fn expect_booked(&mut self, status: u32, v: i64, s: u32, e: u32) {
+        assert_eq!(self.book(false, v, s, e), status);
     }
 
-    fn expect_withdrawn(&mut self, number: u32, v: i64, s: u32, e: u32) {
-        assert_eq!(self.book(true, v, s, e), number);
+    fn expect_withdrawn(&mut self, status: u32, v: i64, s: u32, e: u32) {
+        assert_eq!(self.book(true, v, s, e), status);
     }
 }
 
@@ -56,8 +56,8 @@ pub fn marks(comparer: &mut Comparer, _: &Pool, _: usize) {
 /// withdraw it: one run, one leaf entry."
 fn enter_and_withdraw(comparer: &mut Comparer, n: usize) {
     comparer.lend(&vec![0x5A; 512 * n]);
-    comparer.expect(Call::Format { kind: 1, window: 0 }, 0, 0, Answer::number(0));
-    comparer.expect(Call::Audit, n, 0, Answer::number(0));
+    comparer.expect(Call::Format { kind: 1, window: 0 }, 0, 0, Answer::status(0));
+    comparer.expect(Call::Audit, n, 0, Answer::status(0));
     comparer.expect_pair(0, 0, 0);
     comparer.expect_booked(0, 6, 10, 40);
     comparer.expect_runs(0, END, &[(0, 0, 0), (10, 6, 1), (40, 0, 0)]);
@@ -65,7 +65,7 @@ fn enter_and_withdraw(comparer: &mut Comparer, n: usize) {
     comparer.expect_average(40, None);
     comparer.expect_withdrawn(0, 6, 10, 40);
     comparer.expect_runs(0, END, &[(0, 0, 0)]);
-    comparer.expect(Call::Audit, n, 0, Answer::number(0));
+    comparer.expect(Call::Audit, n, 0, Answer::status(0));
 }
 
 /// "1,000,000 passes, 1,000,001 gives 13. [5, 5) gives 11 even with a value too large. [0, END) needs no cut."
@@ -78,8 +78,8 @@ fn ends_of_ranges(comparer: &mut Comparer, n: usize) {
     comparer.expect_withdrawn(11, i64::MIN, END, END);
     comparer.expect_booked(0, 7, 0, END);
     comparer.expect_runs(0, END, &[(0, 7, 1), (1, 1_000_007, 2), (2, 7, 1)]);
-    comparer.expect(Call::Instant { t: END }, 0, 0, Answer::number(12));
-    comparer.expect(Call::Listing { a: 5, b: 5 }, 0, 64, Answer::number(11));
+    comparer.expect(Call::Instant { t: END }, 0, 0, Answer::status(12));
+    comparer.expect(Call::Listing { a: 5, b: 5 }, 0, 64, Answer::status(11));
 }
 
 /// "Kind 2, w = 20, enter 4 on [35, 45): 64 gives (4, 1), 65 (0, 0); withdrawing gives 22."
@@ -94,16 +94,16 @@ fn greatest_within_a_window(comparer: &mut Comparer, n: usize) {
 /// "Value 1 on [10, 15), [20, 25) and so on: 11 leave 23 leaf entries; the twelfth takes two pages: 24 at n = 3, height 2 at
 /// n = 4."
 fn twelfth_booking(comparer: &mut Comparer) {
-    for (n, number, pages) in [(3, 24, 1), (4, 0, 2)] {
+    for (n, status, pages) in [(3, 24, 1), (4, 0, 2)] {
         let mut image = fresh(n, 1, 0);
         one_by_one(&mut image, 11);
         comparer.lend(&image);
         assert_eq!(crate::images::number(&image, 1, 4), 23);
-        comparer.expect_booked(number, 1, 120, 125);
+        comparer.expect_booked(status, 1, 120, 125);
         assert_eq!(head(comparer.image(), HEIGHT), pages);
-        assert_eq!(head(comparer.image(), CHANGES), 11 + u32::from(number == 0));
-        comparer.expect_pair(121, i64::from(number == 0), i32::from(number == 0));
-        comparer.expect(Call::Audit, n, 0, Answer::number(0));
+        assert_eq!(head(comparer.image(), CHANGES), 11 + u32::from(status == 0));
+        comparer.expect_pair(121, i64::from(status == 0), i32::from(status == 0));
+        comparer.expect(Call::Audit, n, 0, Answer::status(0));
     }
 }
 

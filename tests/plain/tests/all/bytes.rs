@@ -50,13 +50,13 @@ fn assert_image(image: &[u8], pages: &[Vec<u8>]) {
 
 fn enter(image: &mut [u8], v: i64, s: u32, e: u32) -> Told {
     let told = enter_told(image, &mut [0; 1_024], v, s, e);
-    assert_eq!(told.number, 0);
+    assert_eq!(told.status, 0);
     told
 }
 
 fn withdraw(image: &mut [u8], v: i64, s: u32, e: u32) -> Told {
     let told = withdraw_told(image, &mut [0; 1_024], v, s, e);
-    assert_eq!(told.number, 0);
+    assert_eq!(told.status, 0);
     told
 }
 
@@ -361,7 +361,7 @@ fn a_change_without_effect_lacks_pages() {
     enter(&mut image, 100, 500, END);
     assert_eq!(Node::of(&image).leaf_entries(), 23);
     let before = image.clone();
-    assert_eq!(enter_told(&mut image, &mut [0; 2], 1, 600, 700).number, 24);
+    assert_eq!(enter_told(&mut image, &mut [0; 2], 1, 600, 700).status, 24);
     assert!(image == before);
     // One cut is still possible; the entry that it makes is healed again.
     enter(&mut image, 1, 600, END);

@@ -81,16 +81,16 @@ fn check_damaged(image: &[u8], whole: &[u8], damaged: &[u32], tree: &Node, seen:
 
     for t in [0, 9, 64, 65, 130, 1_000, END - 1] {
         let answer = instant(image, t);
-        assert!(answer.number == 0 || answer.number == 21);
+        assert!(answer.status == 0 || answer.status == 21);
         assert!(answer.pages <= 4);
         if sound {
-            assert_eq!(answer.number, 0, "an instant on a sound image is answered");
+            assert_eq!(answer.status, 0, "an instant on a sound image is answered");
         }
         let way = tree.way(t);
         if !damaged.contains(&0) && !way.iter().any(|page| damaged.contains(page)) {
             assert_eq!(answer, instant(whole, t), "a page that isn't met doesn't matter");
         }
-        if answer.number == 21 {
+        if answer.status == 21 {
             assert_eq!((answer.sum, answer.count), (0, 0));
             seen.instants_refused += 1;
             if damaged.contains(&0) {
@@ -101,21 +101,21 @@ fn check_damaged(image: &[u8], whole: &[u8], damaged: &[u32], tree: &Node, seen:
                 assert!(answer.pages as usize > first);
             }
         }
-        let (number, hundredths) = average(image, t);
-        assert_eq!(number, answer.number);
-        assert!(number == 0 || hundredths.is_none());
+        let (status, hundredths) = average(image, t);
+        assert_eq!(status, answer.status);
+        assert!(status == 0 || hundredths.is_none());
         seen.calls += 2;
     }
-    assert_eq!(instant(image, END).number, 12);
+    assert_eq!(instant(image, END).status, 12);
 
     for (a, b) in [(0, END), (0, 65), (65, 70), (64, 66), (400, END), (END - 1, END)] {
         let mut out = vec![0x5A; 24 * 16 * image.len() / 512];
         let answer = listing(image, a, b, &mut out);
-        assert!(answer.number == 0 || answer.number == 21);
+        assert!(answer.status == 0 || answer.status == 21);
         if sound {
-            assert_eq!(answer.number, 0);
+            assert_eq!(answer.status, 0);
         }
-        if answer.number == 21 {
+        if answer.status == 21 {
             assert!(answer.runs == 0 && out.iter().all(|&byte| byte == 0x5A));
             seen.listings_refused += 1;
         }
@@ -134,17 +134,17 @@ fn change_damaged(image: &[u8], sound: bool, seen: &mut Seen) {
     for withdrawal in [false, true] {
         let mut copy = image.to_vec();
         let mut scratch = vec![2; image.len() / 512];
-        let number = if withdrawal {
+        let status = if withdrawal {
             withdraw(&mut copy, &mut scratch, 1, 40, 45)
         } else {
             enter(&mut copy, &mut scratch, 1_000_000, 33, 137)
         };
         assert!(scratch.iter().all(|&byte| byte == 0));
-        assert_eq!(number == 21, !sound);
-        if number == 0 {
+        assert_eq!(status == 21, !sound);
+        if status == 0 {
             assert!(audit_both_ways(&copy));
         } else {
-            assert!([21, 22, 23, 24].contains(&number));
+            assert!([21, 22, 23, 24].contains(&status));
             assert!(copy == image);
         }
         seen.calls += 1;
@@ -200,8 +200,8 @@ fn every_value_of_used_bytes() {
             seen.sound += u64::from(sound);
             seen.calls += 2;
             let answer = instant(&image, 200);
-            assert!(answer.number == 0 || answer.number == 21);
-            assert!(!sound || answer.number == 0);
+            assert!(answer.status == 0 || answer.status == 21);
+            assert!(!sound || answer.status == 0);
         }
         image[at] = whole[at];
     }

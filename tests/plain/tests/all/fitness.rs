@@ -28,25 +28,25 @@ fn base(kind: u32) -> Vec<u8> {
 fn list(image: &[u8], a: u32, b: u32) -> u32 {
     let mut out = vec![5; 16 * 100];
     let answer = listing(image, a, b, &mut out);
-    if answer.number != 0 {
+    if answer.status != 0 {
         assert!(answer.runs == 0 && out.iter().all(|&byte| byte == 5));
     }
-    answer.number
+    answer.status
 }
 
-fn number_and_pages(image: &[u8], t: u32) -> (u32, u32) {
+fn status_and_pages(image: &[u8], t: u32) -> (u32, u32) {
     let answer = instant(image, t);
-    if answer.number != 0 {
+    if answer.status != 0 {
         assert_eq!((answer.sum, answer.count), (0, 0));
     }
-    (answer.number, answer.pages)
+    (answer.status, answer.pages)
 }
 
 /// An image whose head alone was touched.
 fn check_head(image: &[u8], fit: bool) {
     let expected = if fit { (0, 2) } else { (21, 0) };
-    assert_eq!(number_and_pages(image, 0), expected);
-    assert_eq!(number_and_pages(image, END - 1), expected);
+    assert_eq!(status_and_pages(image, 0), expected);
+    assert_eq!(status_and_pages(image, END - 1), expected);
     assert_eq!(list(image, 0, END), expected.0);
     assert_eq!(list(image, 70, 71), expected.0);
     audit_both_ways(image);
@@ -55,8 +55,8 @@ fn check_head(image: &[u8], fit: bool) {
 /// An image whose root was touched.
 fn check_root(image: &[u8], fit: bool) {
     let expected = if fit { (0, 2) } else { (21, 1) };
-    assert_eq!(number_and_pages(image, 0), expected);
-    assert_eq!(number_and_pages(image, END - 1), expected);
+    assert_eq!(status_and_pages(image, 0), expected);
+    assert_eq!(status_and_pages(image, END - 1), expected);
     assert_eq!(list(image, 0, 1), expected.0);
     assert_eq!(audit_both_ways(image), fit);
 }
@@ -65,10 +65,10 @@ fn check_root(image: &[u8], fit: bool) {
 fn check_left(image: &[u8], fit: bool) {
     let expected = if fit { (0, 2) } else { (21, 2) };
     for t in [0, 17, 64] {
-        assert_eq!(number_and_pages(image, t), expected);
+        assert_eq!(status_and_pages(image, t), expected);
     }
     for t in [65, END - 1] {
-        assert_eq!(number_and_pages(image, t), (0, 2));
+        assert_eq!(status_and_pages(image, t), (0, 2));
     }
     assert_eq!(list(image, 0, 1), expected.0);
     assert_eq!(list(image, 64, 65), expected.0);
@@ -133,13 +133,13 @@ fn head_fields() {
     // Another height or root: the head is fit, the page expected there isn't.
     for (field, to) in [(HEIGHT, 1), (HEIGHT, 3), (HEIGHT, 4), (ROOT, 1), (ROOT, 2), (ROOT, 4), (ROOT, 6)] {
         let image = with(field, to);
-        assert_eq!(number_and_pages(&image, 0), (21, 1));
+        assert_eq!(status_and_pages(&image, 0), (21, 1));
         assert_eq!(list(&image, 0, 1), 21);
         assert!(!audit_both_ways(&image));
     }
     // Fewer changes than the pairs show.
-    assert_eq!(number_and_pages(&with(CHANGES, 0), 0), (21, 2));
-    assert_eq!(number_and_pages(&with(CHANGES, 1), 0), (0, 2));
+    assert_eq!(status_and_pages(&with(CHANGES, 0), 0), (21, 2));
+    assert_eq!(status_and_pages(&with(CHANGES, 1), 0), (0, 2));
 }
 
 #[test]
@@ -150,9 +150,9 @@ fn level_and_number_of_entries() {
     for level in [0, 2, 3, 255, u32::MAX] {
         check_root(&touched(1, |image| set(image, 3, LEVEL_AT, &u32::to_le_bytes(level))), UNFIT);
     }
-    for number in [0, 1, 11, 13, 24, 25, 26, 1 << 24, u32::MAX] {
-        check_left(&touched(1, |image| set(image, 1, NUMBER_AT, &u32::to_le_bytes(number))), UNFIT);
-        check_root(&touched(1, |image| set(image, 3, NUMBER_AT, &u32::to_le_bytes(number))), UNFIT);
+    for entry_count in [0, 1, 11, 13, 24, 25, 26, 1 << 24, u32::MAX] {
+        check_left(&touched(1, |image| set(image, 1, NUMBER_AT, &u32::to_le_bytes(entry_count))), UNFIT);
+        check_root(&touched(1, |image| set(image, 3, NUMBER_AT, &u32::to_le_bytes(entry_count))), UNFIT);
     }
     // A page with 11 entries, otherwise in order.
     let eleven = touched(1, |image| {
@@ -162,19 +162,19 @@ fn level_and_number_of_entries() {
     });
     check_left(&eleven, UNFIT);
     // With 24 in order, and with 13.
-    for number in [13, 24usize] {
+    for entry_count in [13, 24usize] {
         let more = touched(1, |image| {
-            set(image, 1, NUMBER_AT, &(number as u32).to_le_bytes());
-            for i in 11..number {
+            set(image, 1, NUMBER_AT, &(entry_count as u32).to_le_bytes());
+            for i in 11..entry_count {
                 set(image, 1, start_at(i), &(41 + i as u32).to_le_bytes());
                 set(image, 1, sum_at(i), &[0; 16]);
             }
             // The last own start was 55.
             set(image, 1, start_at(11), &56u32.to_le_bytes());
-            for i in 12..number {
+            for i in 12..entry_count {
                 set(image, 1, start_at(i), &((45 + i) as u32).to_le_bytes());
             }
-            if number == 24 {
+            if entry_count == 24 {
                 // From 56 to 64 there is room for 9: move the earlier ones closer.
                 for i in 1..24 {
                     set(image, 1, start_at(i), &(2 * i as u32).to_le_bytes());
@@ -192,11 +192,11 @@ fn level_and_number_of_entries() {
     check_root(&one, UNFIT);
     // A root leaf with none, and with one.
     let mut leaf = fresh(2, 1, 0);
-    assert_eq!(number_and_pages(&leaf, 0), (0, 1));
+    assert_eq!(status_and_pages(&leaf, 0), (0, 1));
     set(&mut leaf, 1, NUMBER_AT, &0u32.to_le_bytes());
     set(&mut leaf, 1, start_at(0), &[0xFF; 4]);
     set(&mut leaf, 1, sum_at(0), &[0xFF; 16]);
-    assert_eq!(number_and_pages(&leaf, 0), (21, 1));
+    assert_eq!(status_and_pages(&leaf, 0), (21, 1));
     assert!(!audit_both_ways(&leaf));
 }
 
@@ -224,20 +224,20 @@ fn starts() {
     check_root(&start(3, 1, 0), UNFIT);
     check_root(&start(3, 1, END), UNFIT);
     let image = start(3, 1, 66);
-    assert_eq!(number_and_pages(&image, 65), (0, 2));
-    assert_eq!(number_and_pages(&image, 66), (21, 2));
+    assert_eq!(status_and_pages(&image, 65), (0, 2));
+    assert_eq!(status_and_pages(&image, 66), (21, 2));
     assert_eq!(list(&image, 0, 66), 0);
     assert_eq!(list(&image, 0, 67), 21);
     // 60 is then the end of page 1, whose last start it is.
     let image = start(3, 1, 60);
-    assert_eq!(number_and_pages(&image, 59), (21, 2));
+    assert_eq!(status_and_pages(&image, 59), (21, 2));
     // A root leaf's last start.
-    for (to, number) in [(END - 1, 0), (END, 21)] {
+    for (to, status) in [(END - 1, 0), (END, 21)] {
         let mut rack = Rack::new(2, 1, 0, 1);
         assert_eq!(rack.enter(1, 50, END), 0);
         set(&mut rack.image, 1, start_at(1), &u32::to_le_bytes(to));
-        assert_eq!(instant(&rack.image, 7).number, number);
-        assert_eq!(audit_both_ways(&rack.image), number == 0);
+        assert_eq!(instant(&rack.image, 7).status, status);
+        assert_eq!(audit_both_ways(&rack.image), status == 0);
     }
 }
 
@@ -267,8 +267,8 @@ fn children() {
     // In range, but not the page that is fit there: itself, the other leaf, a free and a never used page.
     for to in [2, 3, 4, 5, 6] {
         let image = child(3, 0, to);
-        assert_eq!(number_and_pages(&image, 0), (21, 2));
-        assert_eq!(number_and_pages(&image, 65), (0, 2));
+        assert_eq!(status_and_pages(&image, 0), (21, 2));
+        assert_eq!(status_and_pages(&image, 65), (0, 2));
         assert!(!audit_both_ways(&image));
     }
 }
@@ -348,7 +348,7 @@ fn bounds_of_totals_over_three_levels() {
                     set(&mut image, way[2], count_at(0), &(sign(2) as i32 * 2).to_le_bytes());
                 }
                 let expected = if pages == 0 { (0, 3) } else { (21, pages) };
-                assert_eq!(number_and_pages(&image, 0), expected);
+                assert_eq!(status_and_pages(&image, 0), expected);
                 assert_eq!(audit_both_ways(&image), pages == 0);
             }
         }
@@ -356,10 +356,10 @@ fn bounds_of_totals_over_three_levels() {
     // At the root alone and at the inner page alone.
     let mut image = rack.image.clone();
     set(&mut image, way[0], sum_at(0), &(most_sum + 1).to_le_bytes());
-    assert_eq!(number_and_pages(&image, 0), (21, 1));
+    assert_eq!(status_and_pages(&image, 0), (21, 1));
     set(&mut image, way[0], sum_at(0), &(most_sum - 4).to_le_bytes());
     set(&mut image, way[1], sum_at(0), &5i64.to_le_bytes());
-    assert_eq!(number_and_pages(&image, 0), (21, 2));
+    assert_eq!(status_and_pages(&image, 0), (21, 2));
 }
 
 /// "kinds 2 and 3 have (0, 0) or a value with 1"
@@ -403,8 +403,8 @@ fn chain_and_high_mark() {
     let unsound = |touch: &dyn Fn(&mut [u8])| {
         let mut image = base_image.clone();
         touch(&mut image);
-        assert_eq!(number_and_pages(&image, 0), (0, 2));
-        assert_eq!(number_and_pages(&image, 99), (0, 2));
+        assert_eq!(status_and_pages(&image, 0), (0, 2));
+        assert_eq!(status_and_pages(&image, 99), (0, 2));
         assert_eq!(list(&image, 0, END), 0);
         assert!(!audit_both_ways(&image));
         let before = image.clone();
@@ -498,10 +498,10 @@ fn cycles() {
                 set_word(&mut image, page, 1, random.below(8) as u32);
                 continue;
             }
-            let number = random.pick(&[2, 12, 24, 24]);
+            let entry_count = random.pick(&[2, 12, 24, 24]);
             set(&mut image, page, LEVEL_AT, &(random.below(4) as u32).to_le_bytes());
-            set(&mut image, page, NUMBER_AT, &(number as u32).to_le_bytes());
-            for i in 0..number {
+            set(&mut image, page, NUMBER_AT, &(entry_count as u32).to_le_bytes());
+            for i in 0..entry_count {
                 set(&mut image, page, start_at(i), &(i as u32).to_le_bytes());
                 set(&mut image, page, sum_at(i), &[0; 16]);
                 let child = random.below(8) as u32;

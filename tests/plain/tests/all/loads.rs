@@ -62,8 +62,8 @@ impl Load {
         if self.random.one_in(40) {
             self.rack.withdraw(v, s, e);
         } else if towards == self.growing || self.live.is_empty() || self.rack.book.kind != 1 {
-            let number = self.rack.enter(v, s, e);
-            if number == 0 {
+            let status = self.rack.enter(v, s, e);
+            if status == 0 {
                 self.live.push((v, s, e));
             } else {
                 self.growing = false;
@@ -264,16 +264,16 @@ fn loads_at_the_brim() {
         load.rack.by_step = false;
         let mut slots: Vec<u32> = (0..20 * n as u32).collect();
         load.random.shuffle(&mut slots);
-        let mut number = 0;
-        while number == 0 {
+        let mut status = 0;
+        while status == 0 {
             let s = 100 * slots.pop().expect("pages lack before the slots are used up");
             let (v, e) = (load.value(), s + 1 + load.random.below(30) as u32);
-            number = load.rack.enter(v, s, e);
-            if number == 0 {
+            status = load.rack.enter(v, s, e);
+            if status == 0 {
                 load.live.push((v, s, e));
             }
         }
-        assert_eq!(number, 24);
+        assert_eq!(status, 24);
         load.rack.by_step = true;
         for _ in 0..70 {
             load.growing = load.random.one_in(2);
@@ -296,12 +296,12 @@ fn fill_1024_pages_until_24() {
     rack.by_step = false;
     rack.audit_each = false;
     let mut bookings = 0u32;
-    let mut number = 0;
-    while number == 0 {
+    let mut status = 0;
+    while status == 0 {
         bookings += 1;
-        number = rack.enter(1 + i64::from(bookings % 3), 10 * bookings, 10 * bookings + 5);
+        status = rack.enter(1 + i64::from(bookings % 3), 10 * bookings, 10 * bookings + 5);
     }
-    assert_eq!(number, 24);
+    assert_eq!(status, 24);
     rack.check_audit();
     rack.check_all_quickly();
     assert_eq!(height(&rack.image), 4);

@@ -5,7 +5,7 @@ use plain::{audit, average, average_of, enter, instant, listing, withdraw, Avera
 
 fn pair_at(image: &[u8], t: u32) -> (i64, i32) {
     let answer = instant(image, t);
-    assert_eq!(answer.number, 0);
+    assert_eq!(answer.status, 0);
     (answer.sum, answer.count)
 }
 
@@ -22,7 +22,7 @@ fn withdraw_in(image: &mut [u8], v: i64, s: u32, e: u32) -> u32 {
 fn runs(image: &[u8]) -> u32 {
     let mut out = vec![0; 24 * 16 * image.len() / 512];
     let answer = listing(image, 0, END, &mut out);
-    assert_eq!(answer.number, 0);
+    assert_eq!(answer.status, 0);
     answer.runs
 }
 
@@ -32,7 +32,7 @@ fn fresh_instant() {
     for n in [2, 3, 64, 1_024] {
         let image = fresh(n, 1, 0);
         let answer = instant(&image, 0);
-        assert_eq!((answer.number, answer.sum, answer.count, answer.pages), (0, 0, 0, 1));
+        assert_eq!((answer.status, answer.sum, answer.count, answer.pages), (0, 0, 0, 1));
         assert_eq!(audit(&image, &mut vec![0; n]), 0);
     }
 }
@@ -142,12 +142,12 @@ fn the_twelfth_booking() {
         assert_eq!(Node::of(&image).leaf_entries(), 23);
         assert_eq!(height(&image), 1);
         let before = image.clone();
-        let number = enter_in(&mut image, 1, 120, 125);
+        let status = enter_in(&mut image, 1, 120, 125);
         if n < 4 {
-            assert_eq!(number, 24);
+            assert_eq!(status, 24);
             assert!(image == before);
         } else {
-            assert_eq!(number, 0);
+            assert_eq!(status, 0);
             assert_eq!(height(&image), 2);
             assert_eq!(Node::of(&image).leaf_entries(), 25);
             assert_eq!(instant(&image, 122).pages, 2);

@@ -15,7 +15,7 @@ struct Change {
 fn full_listing(image: &[u8]) -> Vec<u8> {
     let mut out = vec![0; 16 * 24 * image.len() / 512];
     let answer = listing(image, 0, END, &mut out);
-    assert_eq!(answer.number, 0);
+    assert_eq!(answer.status, 0);
     out.truncate(16 * answer.runs as usize);
     out
 }
@@ -102,12 +102,12 @@ fn nothing_outside_the_span() {
             let s = random.below(300) as u32;
             let e = s + 1 + random.below(40) as u32;
             let before: Vec<plain::Instant> = (0..400).map(|t| instant(&rack.image, t)).collect();
-            let number = rack.change(kind == 1 && random.one_in(3), random.between(-2, 2), s, e);
+            let status = rack.change(kind == 1 && random.one_in(3), random.between(-2, 2), s, e);
             for (t, old) in before.iter().enumerate() {
                 let t = t as u32;
                 let new = instant(&rack.image, t);
                 let outside = t < s || t >= e + window;
-                if outside || number != 0 {
+                if outside || status != 0 {
                     assert_eq!((new.sum, new.count), (old.sum, old.count));
                 }
                 instants += 2;

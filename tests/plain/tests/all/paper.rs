@@ -18,7 +18,7 @@ fn prescriptions(kind: u32, window: u32) -> Rack {
 fn listed(rack: &Rack, a: u32, b: u32) -> Vec<(u32, i64, i32)> {
     let mut out = vec![0; 16 * 200];
     let answer = plain::listing(&rack.image, a, b, &mut out);
-    assert_eq!(answer.number, 0);
+    assert_eq!(answer.status, 0);
     let runs = out.chunks(16).take(answer.runs as usize);
     runs.map(|run| {
         let start = u32::from_le_bytes(run[0..4].try_into().unwrap());

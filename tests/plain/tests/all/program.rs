@@ -140,9 +140,9 @@ fn until_pages_lack() {
     for i in 0..800u32 {
         let (v, s, e) = (1 + i64::from(i % 7), 10 * i + 10, 10 * i + 15);
         text.push_str(&format!("+ {v} {s} {e}\n"));
-        let number = rack.enter(v, s, e);
-        if number != 0 {
-            assert_eq!(number, 24);
+        let status = rack.enter(v, s, e);
+        if status != 0 {
+            assert_eq!(status, 24);
             refused += 1;
             expected.push_str(&format!("line {} refused 24\n", i + 1));
         }

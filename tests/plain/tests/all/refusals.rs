@@ -23,7 +23,7 @@ struct Case {
     expected: u32,
 }
 
-/// All subsets of the reasons for refusing a change: the earliest in the order is the number.
+/// All subsets of the reasons for refusing a change: the earliest in the order is the status.
 #[test]
 fn changes_in_every_combination() {
     let mut calls = 0;
@@ -86,16 +86,16 @@ fn check_change(withdrawal: bool, case: Case) {
     let mut scratch = vec![0xC3; case.scratch];
     let v = if case.value_is_bad { 1_000_001 } else { 1 };
     let (s, e) = if case.span_is_empty { (7, 7) } else { (7, 9) };
-    let number =
+    let status =
         if withdrawal { withdraw(&mut image, &mut scratch, v, s, e) } else { enter(&mut image, &mut scratch, v, s, e) };
-    assert_eq!(number, case.expected);
-    if number != 0 {
+    assert_eq!(status, case.expected);
+    if status != 0 {
         assert!(image == case.image);
     } else {
         assert!(image != case.image);
     }
     // "scratch is untouched at 16 and 17, also at 11 and 13, else its n bytes are 0"
-    if [16, 17, 11, 13].contains(&number) {
+    if [16, 17, 11, 13].contains(&status) {
         assert!(scratch.iter().all(|&byte| byte == 0xC3));
     } else {
         assert!(scratch[..2] == [0, 0] && scratch[2..].iter().all(|&byte| byte == 0xC3));
@@ -114,9 +114,9 @@ fn lengths() {
         assert_eq!(format(&mut image, 9, u32::MAX), 16);
         assert_eq!(enter(&mut image, &mut [], 1_000_001, 5, 5), 16);
         assert_eq!(withdraw(&mut image, &mut [], 1_000_001, 5, 5), 16);
-        assert_eq!((instant(&image, END).number, instant(&image, END).pages), (16, 0));
+        assert_eq!((instant(&image, END).status, instant(&image, END).pages), (16, 0));
         assert_eq!(average(&image, END), (16, None));
-        assert_eq!(listing(&image, 5, 5, &mut out), plain::Listing { number: 16, runs: 0 });
+        assert_eq!(listing(&image, 5, 5, &mut out), plain::Listing { status: 16, runs: 0 });
         assert_eq!(audit(&image, &mut []), 16);
         assert!(image == before && out == [1; 64]);
     }
@@ -145,9 +145,9 @@ fn formats() {
 #[test]
 fn instants_and_averages() {
     let mut image = fresh(2, 1, 0);
-    let refused = |number| plain::Instant { number, sum: 0, count: 0, pages: 0 };
+    let refused = |status| plain::Instant { status, sum: 0, count: 0, pages: 0 };
     assert_eq!(instant(&image, END), refused(12));
-    assert_eq!(instant(&image, END - 1).number, 0);
+    assert_eq!(instant(&image, END - 1).status, 0);
     // 12 is ahead of 21.
     set_word(&mut image, 0, KIND, 0);
     assert_eq!(instant(&image, END), refused(12));
@@ -157,7 +157,7 @@ fn instants_and_averages() {
     // An unfit root is one page read.
     let mut image = fresh(2, 1, 0);
     set_word(&mut image, 1, 0, 1);
-    assert_eq!(instant(&image, 0), plain::Instant { number: 21, sum: 0, count: 0, pages: 1 });
+    assert_eq!(instant(&image, 0), plain::Instant { status: 21, sum: 0, count: 0, pages: 1 });
     assert_eq!(average(&image, 0), (21, None));
     // R13: kinds 2 and 3 have no average, END and an unfit page are refused all the same.
     for kind in [2, 3] {
@@ -174,7 +174,7 @@ fn instants_and_averages() {
 fn listings() {
     let mut rack = Rack::new(2, 1, 0, 3);
     assert_eq!(rack.enter(6, 10, 40), 0);
-    let refused = |number| plain::Listing { number, runs: 0 };
+    let refused = |status| plain::Listing { status, runs: 0 };
     // 11 ahead of 21 ahead of 15.
     let mut unfit = rack.image.clone();
     unfit[511] = 0;
@@ -191,7 +191,7 @@ fn listings() {
     }
     for length in 48..70 {
         let mut out = vec![7; length];
-        assert_eq!(listing(&rack.image, 0, END, &mut out), plain::Listing { number: 0, runs: 3 });
+        assert_eq!(listing(&rack.image, 0, END, &mut out), plain::Listing { status: 0, runs: 3 });
         let mut expected = Vec::new();
         for (start, count, sum) in [(0u32, 0i32, 0i64), (10, 1, 6), (40, 0, 0)] {
             expected.extend_from_slice(&start.to_le_bytes());

@@ -553,23 +553,23 @@ impl Rack {
         } else {
             enter_told(&mut self.image, &mut scratch, v, s, e)
         };
-        assert_eq!(told.number, expected);
+        assert_eq!(told.status, expected);
         assert!(scratch[..n].iter().all(|&byte| byte == 0));
         assert_eq!(scratch[n..], beyond[..]);
 
         let count = if withdrawal { -1 } else { 1 };
         let signed = if withdrawal { -v } else { v };
         if withdrawal {
-            self.book.withdraw(v, s, e, told.number);
+            self.book.withdraw(v, s, e, told.status);
         } else {
-            self.book.enter(v, s, e, told.number);
+            self.book.enter(v, s, e, told.status);
         }
-        if told.number != 0 {
+        if told.status != 0 {
             assert!(self.image == before, "a refused change keeps the image's bytes");
             assert!(told.tales.is_empty());
             self.tally.changes_refused += 1;
-            self.tally.refused_24 += u64::from(told.number == 24);
-            return told.number;
+            self.tally.refused_24 += u64::from(told.status == 24);
+            return told.status;
         }
         self.timeline.change(signed, count, s, e);
 
@@ -617,7 +617,7 @@ impl Rack {
 
     pub fn check_instant_as(&mut self, t: u32, expected: Pair) {
         let answer = instant(&self.image, t);
-        assert_eq!(answer.number, 0);
+        assert_eq!(answer.status, 0);
         assert_eq!(Pair { sum: answer.sum, count: answer.count }, expected, "at {t}");
         assert_eq!(answer.pages, height(&self.image));
         self.tally.instants += 1;
@@ -652,7 +652,7 @@ impl Rack {
         let filled = self.random.bytes(length);
         let mut out = filled.clone();
         let answer = listing(&self.image, a, b, &mut out);
-        assert_eq!((answer.number, answer.runs), (0, runs.len() as u32));
+        assert_eq!((answer.status, answer.runs), (0, runs.len() as u32));
         for (i, run) in runs.iter().enumerate() {
             assert_eq!(out[16 * i..16 * i + 16], run_bytes(run), "run {i} over [{a}, {b})");
         }
@@ -660,7 +660,7 @@ impl Rack {
 
         let mut short = filled[..needed - 1].to_vec();
         let answer = listing(&self.image, a, b, &mut short);
-        assert_eq!((answer.number, answer.runs), (15, 0));
+        assert_eq!((answer.status, answer.runs), (15, 0));
         assert_eq!(short[..], filled[..needed - 1]);
         self.tally.listings += 2;
     }
