@@ -1,7 +1,7 @@
 //! The calls, as the plain version and as the library do them. A further call is one more case here.
 
 use luwhenoka::raw::ffi;
-use plain::{Average, Told};
+use plain::{Average, RecordedChange};
 
 #[derive(Clone, Copy, PartialEq, Eq, Debug)]
 pub enum Call {
@@ -91,14 +91,14 @@ pub struct Lent<'a> {
 // ---------------------------------------------------------------- the plain version
 
 /// Its answer and, of a change, its steps.
-pub fn by_plain(call: Call, lent: Lent) -> (Answer, Option<Told>) {
+pub fn by_plain(call: Call, lent: Lent) -> (Answer, Option<RecordedChange>) {
     let Lent { image, scratch, output } = lent;
-    let told = match call {
-        Call::Enter { v, s, e } => plain::enter_told(image, scratch, v, s, e),
-        Call::Withdraw { v, s, e } => plain::withdraw_told(image, scratch, v, s, e),
+    let recorded = match call {
+        Call::Enter { v, s, e } => plain::enter_recorded(image, scratch, v, s, e),
+        Call::Withdraw { v, s, e } => plain::withdraw_recorded(image, scratch, v, s, e),
         _ => return (without_steps(call, Lent { image, scratch, output }), None),
     };
-    (Answer::status(told.status), Some(told))
+    (Answer::status(recorded.status), Some(recorded))
 }
 
 fn without_steps(call: Call, lent: Lent) -> Answer {

@@ -5,39 +5,39 @@
 use std::cell::Cell;
 use std::sync::Mutex;
 
-use plain::Told;
+use plain::RecordedChange;
 
 use crate::calls::{by_library, by_plain, Answer, Call, Lent};
+use crate::guarded::Guarded;
 use crate::random::Random;
-use crate::room::Room;
 use crate::steps::Change;
 use crate::tally::Tally;
 
 /// Where the comparison is, for a message that lets one repeat it.
 #[derive(Clone, Copy)]
-pub struct Place {
+pub struct Position {
     pub group: &'static str,
     pub part: usize,
     pub seed: u64,
-    pub number: u64,
+    pub call_number: u64,
     pub call: Option<Call>,
 }
 
 thread_local! {
-    static PLACE: Cell<Place> = const { Cell::new(Place { group: "", part: 0, seed: 0, number: 0, call: None }) };
+    static POSITION: Cell<Position> = const { Cell::new(Position { group: "", part: 0, seed: 0, call_number: 0, call: None }) };
 }
 
 pub struct Comparer {
-    place: Place,
+    position: Position,
     /// The image as the plain version has it.
     image: Vec<u8>,
-    lent: Room,
+    lent: Guarded,
     /// The image ahead of a call that writes it.
     before: Vec<u8>,
     scratch: Vec<u8>,
-    lent_scratch: Room,
+    lent_scratch: Guarded,
     output: Vec<u8>,
-    lent_output: Room,
+    lent_output: Guarded,
     noise: Vec<u8>,
     null: bool,
     pub random: Random,
@@ -51,14 +51,14 @@ impl Comparer {
     pub fn new(group: &'static str, part: usize, seed: u64) -> Comparer {
         let mut random = Random::new(seed);
         Comparer {
-            place: Place { group, part, seed, number: 0, call: None },
+            position: Position { group, part, seed, call_number: 0, call: None },
             image: Vec::new(),
-            lent: Room::new(),
+            lent: Guarded::new(),
             before: Vec::new(),
             scratch: Vec::new(),
-            lent_scratch: Room::new(),
+            lent_scratch: Guarded::new(),
             output: Vec::new(),
-            lent_output: Room::new(),
+            lent_output: Guarded::new(),
             noise: random.bytes(NOISE_BYTES),
             null: false,
             random,
@@ -100,9 +100,9 @@ impl Comparer {
     /// Does a call both ways with a scratch and an output of these lengths and any content; the image goes on as the call
     /// left it. Ends the program at a difference.
     pub fn ask(&mut self, call: Call, scratch: usize, output: usize) -> Answer {
-        self.place.number += 1;
-        self.place.call = Some(call);
-        PLACE.set(self.place);
+        self.position.call_number += 1;
+        self.position.call = Some(call);
+        POSITION.set(self.position);
         if call.writes() {
             self.before.clear();
             self.before.extend_from_slice(&self.image);
@@ -111,10 +111,10 @@ impl Comparer {
         fill(&mut self.output, &mut self.lent_output, &self.noise, output, &mut self.random);
 
         let Comparer { image, scratch, output, .. } = self;
-        let (expected, told) = by_plain(call, Lent { image, scratch, output });
+        let (expected, recorded) = by_plain(call, Lent { image, scratch, output });
         let (image, scratch, output) = (self.lent.lent(), self.lent_scratch.lent(), self.lent_output.lent());
         let answer = by_library(call, Lent { image, scratch, output }, self.null);
-        let difference = self.difference(expected, answer).or_else(|| self.wrong_writes(call, answer, told));
+        let difference = self.difference(expected, answer).or_else(|| self.wrong_writes(call, answer, recorded));
         if let Some(difference) = difference {
             self.end(&difference);
         }
@@ -140,17 +140,17 @@ impl Comparer {
     }
 
     /// What a call wrote to the image that it may not write, by the image ahead of it.
-    fn wrong_writes(&mut self, call: Call, answer: Answer, told: Option<Told>) -> Option<String> {
+    fn wrong_writes(&mut self, call: Call, answer: Answer, recorded: Option<RecordedChange>) -> Option<String> {
         let (before, after) = (&self.before, self.lent.held());
         if call.writes() && answer.status != 0 {
             return (before != after).then(|| "image: written by a refused call".to_string());
         }
-        told.and_then(|told| self.tally.steps.add(&Change { before, after, told: &told }))
+        recorded.and_then(|recorded| self.tally.steps.add(&Change { before, after, recorded: &recorded }))
     }
 
     /// Tells the difference and how to see it again, keeps the image beside the program, and ends.
     fn end(&self, difference: &str) -> ! {
-        let writes = self.place.call.is_some_and(Call::writes);
+        let writes = self.position.call.is_some_and(Call::writes);
         let image = if writes { &self.before } else { &self.image };
         let beside = std::env::current_exe().unwrap_or_default().with_file_name("different.image");
         let kept = match std::fs::write(&beside, image) {
@@ -164,26 +164,26 @@ impl Comparer {
             self.output.len(),
             if self.null { "; empty ones are null" } else { "" }
         );
-        end_at(self.place, &format!("{difference}\n  {buffers}"))
+        end_at(self.position, &format!("{difference}\n  {buffers}"))
     }
 }
 
 /// Both get the same bytes out of the noise.
-fn fill(plain: &mut Vec<u8>, room: &mut Room, noise: &[u8], length: usize, random: &mut Random) {
+fn fill(plain: &mut Vec<u8>, guarded: &mut Guarded, noise: &[u8], length: usize, random: &mut Random) {
     let from = random.below(noise.len() - length);
     plain.clear();
     plain.extend_from_slice(&noise[from..from + length]);
-    room.fill(plain, random.below(16));
+    guarded.fill(plain, random.below(16));
 }
 
 /// The first byte of a buffer that differs.
-fn byte(name: &str, plain: &[u8], room: &Room) -> Option<String> {
-    let held = room.held();
+fn byte(name: &str, plain: &[u8], guarded: &Guarded) -> Option<String> {
+    let held = guarded.held();
     if plain != held {
         let at = plain.iter().zip(held).position(|(one, other)| one != other).unwrap_or(0);
         return Some(format!("{name}: byte {at} is {:02X} by plain, {:02X} by the library", plain[at], held[at]));
     }
-    (!room.walls_stand()).then(|| format!("{name}: bytes ahead of it or behind it were written"))
+    (!guarded.guards_stand()).then(|| format!("{name}: bytes ahead of it or behind it were written"))
 }
 
 // ---------------------------------------------------------------- the end of a comparison
@@ -191,11 +191,11 @@ fn byte(name: &str, plain: &[u8], room: &Room) -> Option<String> {
 /// One thread at a time tells its end.
 static TELLING: Mutex<()> = Mutex::new(());
 
-fn end_at(place: Place, what: &str) -> ! {
+fn end_at(position: Position, what: &str) -> ! {
     let _one = TELLING.lock();
-    let call = place.call.map_or(String::new(), |call| format!("{call:?}"));
-    let Place { group, part, seed, number, .. } = place;
-    println!("DIFFERENT: group {group}, part {part} (seed {seed}), call {number} of it: {call}");
+    let call = position.call.map_or(String::new(), |call| format!("{call:?}"));
+    let Position { group, part, seed, call_number, .. } = position;
+    println!("DIFFERENT: group {group}, part {part} (seed {seed}), call {call_number} of it: {call}");
     println!("  {what}");
     println!("  again: --only {group} --part {part}");
     std::process::exit(1)
@@ -203,5 +203,5 @@ fn end_at(place: Place, what: &str) -> ! {
 
 /// A panic of the plain version, or of a group's own checks, ends the comparison like a difference.
 pub fn end_at_a_panic() {
-    std::panic::set_hook(Box::new(|panic| end_at(PLACE.get(), &format!("{panic}"))));
+    std::panic::set_hook(Box::new(|panic| end_at(POSITION.get(), &format!("{panic}"))));
 }

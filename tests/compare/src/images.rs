@@ -18,7 +18,7 @@ pub const KIND: usize = 6;
 pub const CHANGES: usize = 8;
 
 /// Byte offsets in a tree page.
-pub const NUMBER_AT: usize = 4;
+pub const ENTRY_COUNT_AT: usize = 4;
 pub fn start_at(i: usize) -> usize {
     32 + 4 * i
 }
@@ -32,8 +32,8 @@ pub fn child_at(i: usize) -> usize {
     140 + 16 * i
 }
 
-/// The number of 4 bytes at an offset of a page.
-pub fn number(image: &[u8], page: usize, at: usize) -> u32 {
+/// The u32 at an offset of a page.
+pub fn u32_at(image: &[u8], page: usize, at: usize) -> u32 {
     let at = 512 * page + at;
     u32::from_le_bytes(image[at..at + 4].try_into().expect("4 bytes"))
 }
@@ -43,11 +43,11 @@ pub fn put(image: &mut [u8], page: usize, at: usize, bytes: &[u8]) {
 }
 
 pub fn head(image: &[u8], field: usize) -> u32 {
-    number(image, 0, 4 * field)
+    u32_at(image, 0, 4 * field)
 }
 
 pub fn level(image: &[u8], page: usize) -> u32 {
-    number(image, page, 0)
+    u32_at(image, page, 0)
 }
 
 /// The pages of an image that have this level.
@@ -65,9 +65,9 @@ pub fn instant_of(image: &[u8], page: usize, random: &mut Random) -> u32 {
     if page == 0 || level(image, page) > 3 {
         return random.instant();
     }
-    let entries = number(image, page, NUMBER_AT).clamp(1, 24) as usize;
+    let entries = u32_at(image, page, ENTRY_COUNT_AT).clamp(1, 24) as usize;
     let i = if random.one_in(3) { 0 } else { random.below(entries) };
-    number(image, page, start_at(i))
+    u32_at(image, page, start_at(i))
 }
 
 // ---------------------------------------------------------------- making images
@@ -89,14 +89,14 @@ pub fn withdraw(image: &mut [u8], v: i64, s: u32, e: u32) -> u32 {
 }
 
 /// Bookings of 1 on [10, 15), [20, 25) and so on, up to this many.
-pub fn one_by_one(image: &mut [u8], bookings: u32) {
+pub fn enter_in_order(image: &mut [u8], bookings: u32) {
     for i in 1..=bookings {
         assert_eq!(enter(image, 1 + i64::from(i % 3), 10 * i, 10 * i + 5), 0);
     }
 }
 
 /// Withdraws the first of them again, so that pages join and go to the chain.
-pub fn first_ones_back(image: &mut [u8], bookings: u32) {
+pub fn withdraw_first(image: &mut [u8], bookings: u32) {
     for i in 1..=bookings {
         assert_eq!(withdraw(image, 1 + i64::from(i % 3), 10 * i, 10 * i + 5), 0);
     }
@@ -115,15 +115,15 @@ fn small() -> Vec<Vec<u8>> {
     images.push(leaf);
     for kind in 1..=3 {
         let mut image = fresh(7, kind, 0);
-        one_by_one(&mut image, 18);
+        enter_in_order(&mut image, 18);
         assert_eq!(enter(&mut image, 5, 0, 65), 0);
         assert_eq!(enter(&mut image, -3, 20, END), 0);
         assert_eq!(head(&image, HEIGHT), 2);
         images.push(image);
     }
     let mut chained = fresh(9, 1, 0);
-    one_by_one(&mut chained, 30);
-    first_ones_back(&mut chained, 12);
+    enter_in_order(&mut chained, 30);
+    withdraw_first(&mut chained, 12);
     assert!(head(&chained, HEIGHT) == 2 && head(&chained, FREE_LENGTH) >= 2);
     images.push(chained);
     assert_eq!(images.len(), SMALL);
@@ -131,13 +131,13 @@ fn small() -> Vec<Vec<u8>> {
 }
 
 fn has_full_page(image: &[u8]) -> bool {
-    (1..image.len() / 512).any(|page| number(image, page, NUMBER_AT) == 24)
+    (1..image.len() / 512).any(|page| u32_at(image, page, ENTRY_COUNT_AT) == 24)
 }
 
 /// A root leaf of 24 entries.
 fn full_leaf() -> Vec<u8> {
     let mut image = fresh(2, 1, 0);
-    one_by_one(&mut image, 11);
+    enter_in_order(&mut image, 11);
     assert_eq!(enter(&mut image, 1, 1_000, END), 0);
     assert!(has_full_page(&image));
     image
@@ -145,16 +145,16 @@ fn full_leaf() -> Vec<u8> {
 
 /// Height 2 with a leaf of 24 entries.
 fn full_below() -> Vec<u8> {
-    let images = (0..).map(|seed| brim(6, 1, usize::MAX, seed));
+    let images = (0..).map(|seed| filled_until_24(6, 1, usize::MAX, seed));
     images.into_iter().find(|image| head(image, HEIGHT) == 2 && has_full_page(image)).expect("some seed gives one")
 }
 
 /// Height 3: with a chain for kind 1.
 fn height_3(kind: u32) -> Vec<u8> {
     let mut image = fresh(44, kind, 0);
-    one_by_one(&mut image, 220);
+    enter_in_order(&mut image, 220);
     if kind == 1 {
-        first_ones_back(&mut image, 40);
+        withdraw_first(&mut image, 40);
     }
     assert_eq!(enter(&mut image, 9, 300, 1_900), 0);
     assert_eq!(head(&image, HEIGHT), 3);
@@ -184,7 +184,7 @@ fn height_4(n: usize, kind: u32, window: u32) -> Vec<u8> {
 }
 
 /// Random bookings in no order until a change is refused with 24, or so many are done.
-fn brim(n: usize, kind: u32, most: usize, seed: u64) -> Vec<u8> {
+fn filled_until_24(n: usize, kind: u32, most: usize, seed: u64) -> Vec<u8> {
     let mut image = fresh(n, kind, 3);
     let mut random = Random::new(seed);
     let mut slots: Vec<u32> = (0..20 * n as u32).collect();
@@ -204,7 +204,7 @@ fn brim(n: usize, kind: u32, most: usize, seed: u64) -> Vec<u8> {
 /// Images that several groups use, made once.
 pub struct Pool {
     pub small: Vec<Vec<u8>>,
-    /// Heights 3 and 4, all kinds, and images filled to the brim.
+    /// Heights 3 and 4, all kinds, and images filled until 24.
     pub tall: Vec<Vec<u8>>,
 }
 
@@ -217,9 +217,9 @@ const TALL: &[(&str, Maker)] = &[
     ("height 4, kind 1, 1,024 pages, with a chain", || height_4(1_024, 1, 0)),
     ("height 4, kind 2, 1,024 pages", || height_4(1_024, 2, 3)),
     ("height 4, kind 3, 400 pages", || height_4(400, 3, 0)),
-    ("300 pages, random bookings", || brim(300, 1, 900, 5)),
-    ("64 pages, filled in no order until 24", || brim(64, 1, usize::MAX, 6)),
-    ("33 pages of kind 2, filled in no order until 24", || brim(33, 2, usize::MAX, 7)),
+    ("300 pages, random bookings", || filled_until_24(300, 1, 900, 5)),
+    ("64 pages, filled in no order until 24", || filled_until_24(64, 1, usize::MAX, 6)),
+    ("33 pages of kind 2, filled in no order until 24", || filled_until_24(33, 2, usize::MAX, 7)),
     ("height 3, kind 1, with a chain", || height_3(1)),
     ("height 3, kind 2", || height_3(2)),
     ("height 3, kind 3", || height_3(3)),

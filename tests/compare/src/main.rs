@@ -9,9 +9,9 @@ mod asking;
 mod calls;
 mod comparer;
 mod groups;
+mod guarded;
 mod images;
 mod random;
-mod room;
 mod steps;
 mod tally;
 mod work;
@@ -92,7 +92,7 @@ fn main() -> ExitCode {
             tally.add_all(one);
             seconds += took.as_secs_f64();
         }
-        println!("group {:<10}{:>9} calls in {seconds:.1} s: {}", group.name, tally.calls(), group.what);
+        println!("group {:<16}{:>9} calls in {seconds:.1} s: {}", group.name, tally.calls(), group.what);
         total.add_all(&tally);
     }
     total.print();

@@ -1,9 +1,9 @@
 //! What an accepted change did: the pages that it wrote against those that its steps name, and how often pages split, gave,
 //! joined and so on. The plain version tells the steps; the images are the library's own.
 
-use plain::Told;
+use plain::RecordedChange;
 
-use crate::images::{head, level, number, FREE_LENGTH, HEIGHT, HIGH_MARK, KIND, NUMBER_AT};
+use crate::images::{head, level, u32_at, ENTRY_COUNT_AT, FREE_LENGTH, HEIGHT, HIGH_MARK, KIND};
 
 /// What the steps of a change do: each has to occur for every kind.
 const WHAT: [&str; 15] = [
@@ -28,36 +28,36 @@ const WHAT: [&str; 15] = [
 pub struct Change<'a> {
     pub before: &'a [u8],
     pub after: &'a [u8],
-    pub told: &'a Told,
+    pub recorded: &'a RecordedChange,
 }
 
 impl Change<'_> {
     /// How often the change did each of [`WHAT`].
     fn counts(&self) -> [u64; WHAT.len()] {
         let mut counts = [0; WHAT.len()];
-        for tale in &self.told.tales {
-            let gives = tale.gives_from_left + tale.gives_from_right;
-            let joins = tale.merges_with_left + tale.merges_with_right;
+        for step in &self.recorded.steps {
+            let gives = step.gives_from_left + step.gives_from_right;
+            let joins = step.merges_with_left + step.merges_with_right;
             let mark = head(self.before, HIGH_MARK);
             // No page that a change gives back is taken by it: cuts come ahead of heals.
-            let at_mark = tale.taken.iter().filter(|page| **page >= mark).count() as u32;
+            let at_mark = step.taken.iter().filter(|page| **page >= mark).count() as u32;
             // The first page of a step to split, or to turn to a neighbour, is a leaf; a give is a step's last.
             let of_tale = [
-                tale.entries_cut,
-                tale.entries_healed,
-                tale.splits.min(1),
-                tale.splits.saturating_sub(1),
-                tale.gives_from_left,
-                tale.gives_from_right,
+                step.entries_cut,
+                step.entries_healed,
+                step.splits.min(1),
+                step.splits.saturating_sub(1),
+                step.gives_from_left,
+                step.gives_from_right,
                 if joins > 0 { gives } else { 0 },
-                tale.merges_with_left,
-                tale.merges_with_right,
+                step.merges_with_left,
+                step.merges_with_right,
                 joins.saturating_sub(1),
-                tale.roots_gained,
-                tale.roots_lost,
-                tale.taken.len() as u32 - at_mark,
+                step.roots_gained,
+                step.roots_lost,
+                step.taken.len() as u32 - at_mark,
                 at_mark,
-                tale.given_back.len() as u32,
+                step.given_back.len() as u32,
             ];
             for (count, one) in counts.iter_mut().zip(of_tale) {
                 *count += u64::from(one);
@@ -74,20 +74,20 @@ impl Change<'_> {
 
     /// A written page that no step names, or a number that the steps and the images tell differently.
     fn difference(&self, written: &[u32]) -> Option<String> {
-        let named = self.told.named_pages();
+        let named = self.recorded.named_pages();
         if let Some(page) = written.iter().find(|page| !named.contains(page)) {
             return Some(format!("write set: page {page} is written, the steps name {named:?}"));
         }
-        let told = self.counts().map(|count| count as i64);
-        let [cut, healed, .., raised, lowered, from_chain, at_mark, given_back] = told;
+        let recorded = self.counts().map(|count| count as i64);
+        let [cut, healed, .., raised, lowered, from_chain, at_mark, given_back] = recorded;
         let rises = [
             ("leaf entries", cut - healed, leaf_entries(self.after) - leaf_entries(self.before)),
             ("height", raised - lowered, self.rise(HEIGHT)),
             ("chain length", given_back - from_chain, self.rise(FREE_LENGTH)),
             ("high mark", at_mark, self.rise(HIGH_MARK)),
         ];
-        let differs = rises.iter().find(|(_, told, is)| told != is);
-        differs.map(|(what, told, is)| format!("{what}: rises by {is}, by the steps it would be {told}"))
+        let differs = rises.iter().find(|(_, recorded, is)| recorded != is);
+        differs.map(|(what, recorded, is)| format!("{what}: rises by {is}, by the steps it would be {recorded}"))
     }
 
     fn rise(&self, field: usize) -> i64 {
@@ -97,7 +97,7 @@ impl Change<'_> {
 
 fn leaf_entries(image: &[u8]) -> i64 {
     let leaves = (1..image.len() / 512).filter(|page| level(image, *page) == 0);
-    leaves.map(|page| i64::from(number(image, page, NUMBER_AT))).sum()
+    leaves.map(|page| i64::from(u32_at(image, page, ENTRY_COUNT_AT))).sum()
 }
 
 // ---------------------------------------------------------------- over many changes
@@ -118,7 +118,7 @@ impl Steps {
         let difference = change.difference(&written);
         self.changes += 1;
         self.written += written.len() as u64;
-        self.named += change.told.named_pages().len() as u64;
+        self.named += change.recorded.named_pages().len() as u64;
         let of_kind = &mut self.counts[head(change.before, KIND) as usize - 1];
         for (mine, one) in of_kind.iter_mut().zip(change.counts()) {
             *mine += one;

@@ -9,7 +9,7 @@ use std::collections::BTreeSet;
 use crate::fit::{child_place, fit_head, fit_page, root_place, Place};
 use crate::page::{number_of_pages, read_head, write_head, write_page, Entry, Head, Page, UNUSED};
 use crate::sound::is_sound;
-use crate::steps::{five_steps, Effect, StepTale};
+use crate::steps::{five_steps, Effect, StepRecord};
 use crate::value::{
     average_of, combine, kind_in_range, lengthened_end, value_in_range, window_in_range, Average, Pair, Span, END,
     MOST_CHANGES, NOTHING, TOTALS,
@@ -63,22 +63,22 @@ enum Change {
     Withdraw,
 }
 
-/// A change's status and, if it was accepted, the tales of its five steps.
+/// A change's status and, if it was accepted, what each of its five steps did.
 #[derive(Clone, PartialEq, Eq, Debug)]
-pub struct Told {
+pub struct RecordedChange {
     pub status: u32,
-    pub tales: Vec<StepTale>,
+    pub steps: Vec<StepRecord>,
 }
 
-impl Told {
-    fn refused(status: u32) -> Told {
-        Told { status, tales: Vec::new() }
+impl RecordedChange {
+    fn refused(status: u32) -> RecordedChange {
+        RecordedChange { status, steps: Vec::new() }
     }
 
     /// The pages that the change's five steps name; none for a refused one. The count of changes is in the head, which
     /// every step names.
     pub fn named_pages(&self) -> BTreeSet<u32> {
-        self.tales.iter().flat_map(StepTale::named_pages).collect()
+        self.steps.iter().flat_map(StepRecord::named_pages).collect()
     }
 }
 
@@ -90,26 +90,26 @@ pub fn withdraw(image: &mut [u8], scratch: &mut [u8], v: i64, s: u32, e: u32) ->
     change(image, scratch, Change::Withdraw, v, s, e).status
 }
 
-pub fn enter_told(image: &mut [u8], scratch: &mut [u8], v: i64, s: u32, e: u32) -> Told {
+pub fn enter_recorded(image: &mut [u8], scratch: &mut [u8], v: i64, s: u32, e: u32) -> RecordedChange {
     change(image, scratch, Change::Enter, v, s, e)
 }
 
-pub fn withdraw_told(image: &mut [u8], scratch: &mut [u8], v: i64, s: u32, e: u32) -> Told {
+pub fn withdraw_recorded(image: &mut [u8], scratch: &mut [u8], v: i64, s: u32, e: u32) -> RecordedChange {
     change(image, scratch, Change::Withdraw, v, s, e)
 }
 
 /// 16, 17, 11 and 13 leave the scratch untouched; then, whatever comes, "those n bytes are 0 afterwards, any beyond keep
 /// theirs".
-fn change(image: &mut [u8], scratch: &mut [u8], which: Change, v: i64, s: u32, e: u32) -> Told {
-    let Some(n) = number_of_pages(image) else { return Told::refused(BAD_LENGTH) };
+fn change(image: &mut [u8], scratch: &mut [u8], which: Change, v: i64, s: u32, e: u32) -> RecordedChange {
+    let Some(n) = number_of_pages(image) else { return RecordedChange::refused(BAD_LENGTH) };
     if scratch.len() < n as usize {
-        return Told::refused(SHORT_SCRATCH);
+        return RecordedChange::refused(SHORT_SCRATCH);
     }
     if s >= e {
-        return Told::refused(BAD_SPAN);
+        return RecordedChange::refused(BAD_SPAN);
     }
     if !value_in_range(v) {
-        return Told::refused(BAD_VALUE);
+        return RecordedChange::refused(BAD_VALUE);
     }
     scratch[..n as usize].fill(0);
     change_by_state(image, which, v, Span { start: s, end: e })
@@ -117,23 +117,23 @@ fn change(image: &mut [u8], scratch: &mut [u8], which: Change, v: i64, s: u32, e
 
 /// 21, 22, 23 and 24, else the change (R17). The steps run on a copy, so that a refused change leaves the image as it
 /// was.
-fn change_by_state(image: &mut [u8], which: Change, v: i64, booked: Span) -> Told {
+fn change_by_state(image: &mut [u8], which: Change, v: i64, booked: Span) -> RecordedChange {
     if !is_sound(image) {
-        return Told::refused(UNFIT);
+        return RecordedChange::refused(UNFIT);
     }
     let head = read_head(image);
     if which == Change::Withdraw && head.kind != TOTALS {
-        return Told::refused(NO_WITHDRAWAL);
+        return RecordedChange::refused(NO_WITHDRAWAL);
     }
     if head.changes == MOST_CHANGES {
-        return Told::refused(TOO_MANY_CHANGES);
+        return RecordedChange::refused(TOO_MANY_CHANGES);
     }
     let mut copy = image.to_vec();
     match five_steps(&mut copy, &effect_of(&head, which, v, booked)) {
-        Err(_) => Told::refused(PAGES_LACK),
-        Ok(tales) => {
+        Err(_) => RecordedChange::refused(PAGES_LACK),
+        Ok(steps) => {
             image.copy_from_slice(&copy);
-            Told { status: ACCEPTED, tales }
+            RecordedChange { status: ACCEPTED, steps }
         }
     }
 }

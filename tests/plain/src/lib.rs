@@ -26,7 +26,8 @@ pub mod value;
 
 pub use book::Book;
 pub use calls::{
-    audit, average, enter, enter_told, format, instant, listing, withdraw, withdraw_told, Instant, Listing, Told,
+    audit, average, enter, enter_recorded, format, instant, listing, withdraw, withdraw_recorded, Instant, Listing,
+    RecordedChange,
 };
 pub use program::run;
 pub use value::{average_of, Average, Pair, END};

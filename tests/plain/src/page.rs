@@ -17,7 +17,7 @@ pub const FEWEST_ENTRIES: usize = 12;
 /// "Tree page: level (u32, leaf 0), number of entries (u32), 24 bytes FF; then two parallel arrays of 24: starts (u32),
 /// and entries of 16 bytes: sum (i64), count (i32), child page (u32, 0 in a leaf)."
 const LEVEL_AT: usize = 0;
-const NUMBER_AT: usize = 4;
+const ENTRY_COUNT_AT: usize = 4;
 const GAP_AT: usize = 8;
 const STARTS_AT: usize = 32;
 const ENTRIES_AT: usize = 128;
@@ -173,11 +173,11 @@ impl Page {
 /// entries before comparing it with 24" is a fault we have seen made.
 pub fn read_page(image: &[u8], page: u32) -> Option<Page> {
     let bytes = page_bytes(image, page);
-    let number = get_u32(bytes, NUMBER_AT);
-    if number > MOST_ENTRIES as u32 {
+    let entry_count = get_u32(bytes, ENTRY_COUNT_AT);
+    if entry_count > MOST_ENTRIES as u32 {
         return None;
     }
-    let entries = (0..number as usize).map(|i| read_entry(bytes, i)).collect();
+    let entries = (0..entry_count as usize).map(|i| read_entry(bytes, i)).collect();
     Some(Page { level: get_u32(bytes, LEVEL_AT), entries })
 }
 
@@ -195,7 +195,7 @@ pub fn write_page(image: &mut [u8], page: u32, contents: &Page) {
     let bytes = page_bytes_mut(image, page);
     bytes.fill(UNUSED);
     put(bytes, LEVEL_AT, &contents.level.to_le_bytes());
-    put(bytes, NUMBER_AT, &(contents.entries.len() as u32).to_le_bytes());
+    put(bytes, ENTRY_COUNT_AT, &(contents.entries.len() as u32).to_le_bytes());
     for (i, entry) in contents.entries.iter().enumerate() {
         let at = ENTRIES_AT + i * ENTRY_BYTES;
         put(bytes, STARTS_AT + i * START_BYTES, &entry.start.to_le_bytes());
@@ -206,11 +206,11 @@ pub fn write_page(image: &mut [u8], page: u32, contents: &Page) {
 }
 
 /// "24 bytes FF"; "Places past the number are FF."
-pub fn page_rest_is_unused(image: &[u8], page: u32, number: usize) -> bool {
+pub fn page_rest_is_unused(image: &[u8], page: u32, entry_count: usize) -> bool {
     let bytes = page_bytes(image, page);
     all_unused(&bytes[GAP_AT..STARTS_AT])
-        && all_unused(&bytes[STARTS_AT + number * START_BYTES..ENTRIES_AT])
-        && all_unused(&bytes[ENTRIES_AT + number * ENTRY_BYTES..])
+        && all_unused(&bytes[STARTS_AT + entry_count * START_BYTES..ENTRIES_AT])
+        && all_unused(&bytes[ENTRIES_AT + entry_count * ENTRY_BYTES..])
 }
 
 // ---------------------------------------------------------------- free pages

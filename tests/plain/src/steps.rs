@@ -2,7 +2,7 @@
 //!
 //! "A. Cut at s. B. Cut at e′. C. Combine the effect into [s, e′). D. Heal at s. E. Heal at e′. Then changes rises by 1."
 //!
-//! The steps run on a sound image. Beside the new image each of them gives a [`StepTale`]: the pages that document 01's
+//! The steps run on a sound image. Beside the new image each of them gives a [`StepRecord`]: the pages that document 01's
 //! sentence on what a step may write names, and how often it split, merged and so on.
 
 use std::collections::BTreeSet;
@@ -42,7 +42,7 @@ pub struct PagesLack;
 
 /// What one step did.
 #[derive(Clone, PartialEq, Eq, Debug, Default)]
-pub struct StepTale {
+pub struct StepRecord {
     /// "pages on the way to its instant (C: to s and e′)", in the image as the step found it
     pub ways: Vec<Vec<u32>>,
     /// "the neighbour each turns to"
@@ -62,7 +62,7 @@ pub struct StepTale {
     pub roots_lost: u32,
 }
 
-impl StepTale {
+impl StepRecord {
     /// "Each step may write only the head, pages on the way to its instant (C: to s and e′), the neighbour each turns
     /// to, and pages taken or given back."
     pub fn named_pages(&self) -> BTreeSet<u32> {
@@ -77,13 +77,13 @@ impl StepTale {
 
 /// All five steps and the count of changes. Where pages lack, the image is left in the midst of its cuts: callers run
 /// this on a copy.
-pub fn five_steps(image: &mut [u8], effect: &Effect) -> Result<Vec<StepTale>, PagesLack> {
-    let mut tales = Vec::new();
+pub fn five_steps(image: &mut [u8], effect: &Effect) -> Result<Vec<StepRecord>, PagesLack> {
+    let mut steps = Vec::new();
     for step in FIVE_STEPS {
-        tales.push(one_step(image, step, effect)?);
+        steps.push(one_step(image, step, effect)?);
     }
     count_the_change(image);
-    Ok(tales)
+    Ok(steps)
 }
 
 /// "Then changes rises by 1."
@@ -94,7 +94,7 @@ pub fn count_the_change(image: &mut [u8]) {
 }
 
 /// One of the five steps; its ways are taken in the image as the step before it left it (R11).
-pub fn one_step(image: &mut [u8], step: Step, effect: &Effect) -> Result<StepTale, PagesLack> {
+pub fn one_step(image: &mut [u8], step: Step, effect: &Effect) -> Result<StepRecord, PagesLack> {
     let kind = read_head(image).kind;
     let Span { start, end } = effect.span;
     let ways = match step {
@@ -102,8 +102,8 @@ pub fn one_step(image: &mut [u8], step: Step, effect: &Effect) -> Result<StepTal
         Step::CutAtEnd | Step::HealAtEnd => vec![way_to(image, end)],
         Step::Combine => vec![way_to(image, start), way_to(image, end)],
     };
-    let tale = StepTale { ways, ..StepTale::default() };
-    let mut work = Work { image, kind, tale };
+    let record = StepRecord { ways, ..StepRecord::default() };
+    let mut work = Work { image, kind, record };
     match step {
         Step::CutAtStart => work.cut(start)?,
         Step::CutAtEnd => work.cut(end)?,
@@ -111,7 +111,7 @@ pub fn one_step(image: &mut [u8], step: Step, effect: &Effect) -> Result<StepTal
         Step::HealAtStart => work.heal(start),
         Step::HealAtEnd => work.heal(end),
     }
-    Ok(work.tale)
+    Ok(work.record)
 }
 
 /// "The way to t, in the image as the step finds it: the root, then each time the child of the last entry starting at t
@@ -134,11 +134,11 @@ fn tree_page(image: &[u8], page: u32) -> Page {
     read_page(image, page).expect("a tree page of a sound image has at most 24 entries")
 }
 
-/// The image that a step works on, with its tale.
+/// The image that a step works on, with the record of the step.
 struct Work<'a> {
     image: &'a mut [u8],
     kind: u32,
-    tale: StepTale,
+    record: StepRecord,
 }
 
 impl Work<'_> {
@@ -171,7 +171,7 @@ impl Work<'_> {
             return Err(PagesLack);
         }
         write_head(self.image, &head);
-        self.tale.taken.push(page);
+        self.record.taken.push(page);
         Ok(page)
     }
 
@@ -182,7 +182,7 @@ impl Work<'_> {
         head.first_free = page;
         head.free_length += 1;
         write_head(self.image, &head);
-        self.tale.given_back.push(page);
+        self.record.given_back.push(page);
     }
 
     // ------------------------------------------------------------ cut
@@ -201,7 +201,7 @@ impl Work<'_> {
         }
         let second = Entry { start: t, ..leaf.entries[i] };
         leaf.entries.insert(i + 1, second);
-        self.tale.entries_cut += 1;
+        self.record.entries_cut += 1;
         self.write_or_split(&way, leaf)
     }
 
@@ -221,7 +221,7 @@ impl Work<'_> {
         let right_page = self.take_page()?;
         self.write(left_page, &left);
         self.write(right_page, &right);
-        self.tale.splits += 1;
+        self.record.splits += 1;
 
         let way_to_parent = &way[..way.len() - 1];
         let Some(&parent_page) = way_to_parent.last() else {
@@ -244,7 +244,7 @@ impl Work<'_> {
         head.root = root_page;
         head.height += 1;
         write_head(self.image, &head);
-        self.tale.roots_gained += 1;
+        self.record.roots_gained += 1;
         Ok(())
     }
 
@@ -287,7 +287,7 @@ impl Work<'_> {
         }
         leaf.entries.remove(i);
         self.write(leaf_page, &leaf);
-        self.tale.entries_healed += 1;
+        self.record.entries_healed += 1;
         self.after_losing_an_entry(&way);
     }
 
@@ -314,7 +314,7 @@ impl Work<'_> {
         let sibling_is_left = i > 0;
         let (at_left, at_right) = if sibling_is_left { (i - 1, i) } else { (i, i + 1) };
         let (left_page, right_page) = (parent.entries[at_left].child, parent.entries[at_right].child);
-        self.tale.turned_to.push(if sibling_is_left { left_page } else { right_page });
+        self.record.turned_to.push(if sibling_is_left { left_page } else { right_page });
 
         let mut left = self.page(left_page);
         let mut right = self.page(right_page);
@@ -327,11 +327,11 @@ impl Work<'_> {
             if sibling_is_left {
                 let given = left.entries.remove(left.entries.len() - 1);
                 right.entries.insert(0, given);
-                self.tale.gives_from_left += 1;
+                self.record.gives_from_left += 1;
             } else {
                 let given = right.entries.remove(0);
                 left.entries.push(given);
-                self.tale.gives_from_right += 1;
+                self.record.gives_from_right += 1;
             }
             parent.entries[at_right].start = right.entries[0].start;
             self.write(left_page, &left);
@@ -346,9 +346,9 @@ impl Work<'_> {
             self.write(parent_page, &parent);
             self.give_back_page(right_page);
             if sibling_is_left {
-                self.tale.merges_with_left += 1;
+                self.record.merges_with_left += 1;
             } else {
-                self.tale.merges_with_right += 1;
+                self.record.merges_with_right += 1;
             }
             self.after_losing_an_entry(way_to_parent);
         }
@@ -376,6 +376,6 @@ impl Work<'_> {
         head.root = child_page;
         head.height -= 1;
         write_head(self.image, &head);
-        self.tale.roots_lost += 1;
+        self.record.roots_lost += 1;
     }
 }

@@ -3,13 +3,13 @@
 use plain::END;
 
 use crate::comparer::Comparer;
-use crate::images::{child_at, count_at, instant_of, level, number, start_at, sum_at, Pool, NUMBER_AT};
+use crate::images::{child_at, count_at, instant_of, level, start_at, sum_at, u32_at, Pool, ENTRY_COUNT_AT};
 use crate::random::Random;
 
 // ---------------------------------------------------------------- each byte
 
 /// Part i does the pool's small image i.
-pub fn bytes(comparer: &mut Comparer, pool: &Pool, part: usize) {
+pub fn damaged_bytes(comparer: &mut Comparer, pool: &Pool, part: usize) {
     let whole = &pool.small[part];
     comparer.lend(whole);
     for at in 0..whole.len() {
@@ -49,7 +49,7 @@ fn calls(comparer: &mut Comparer, page: usize) {
 // ---------------------------------------------------------------- each word
 
 /// Part i does the pool's small image i: each word at the ends of the ranges that its fields have, then each sum.
-pub fn words(comparer: &mut Comparer, pool: &Pool, part: usize) {
+pub fn damaged_words(comparer: &mut Comparer, pool: &Pool, part: usize) {
     let whole = &pool.small[part];
     let n = (whole.len() / 512) as u32;
     comparer.lend(whole);
@@ -92,7 +92,7 @@ fn sums() -> Vec<i64> {
 
 /// "Trusting a page's number of entries before comparing it with 24" is a fault that was seen made: pages whose places past
 /// their entries hold those of an older page, at any number of entries.
-pub fn stale(comparer: &mut Comparer, pool: &Pool, part: usize) {
+pub fn stale_entries(comparer: &mut Comparer, pool: &Pool, part: usize) {
     let whole = pool.image(part);
     comparer.lend(whole);
     let pages: Vec<usize> = (1..comparer.pages()).filter(|page| level(whole, *page) < 4).collect();
@@ -103,7 +103,7 @@ pub fn stale(comparer: &mut Comparer, pool: &Pool, part: usize) {
                 lay_old_entries(comparer, page);
             }
             for to in (0..=40).chain([255, 256, 280, 1 << 31, u32::MAX]) {
-                comparer.set(512 * page + NUMBER_AT, &u32::to_le_bytes(to));
+                comparer.set(512 * page + ENTRY_COUNT_AT, &u32::to_le_bytes(to));
                 calls(comparer, page);
             }
             comparer.set(512 * page, &whole[512 * page..512 * page + 512]);
@@ -114,8 +114,8 @@ pub fn stale(comparer: &mut Comparer, pool: &Pool, part: usize) {
 /// Entries as they might follow the last one.
 fn lay_old_entries(comparer: &mut Comparer, page: usize) {
     let image = comparer.image();
-    let entries = number(image, page, NUMBER_AT) as usize;
-    let (mut start, child) = (number(image, page, start_at(entries - 1)), number(image, page, child_at(entries - 1)));
+    let entries = u32_at(image, page, ENTRY_COUNT_AT) as usize;
+    let (mut start, child) = (u32_at(image, page, start_at(entries - 1)), u32_at(image, page, child_at(entries - 1)));
     for i in entries..24 {
         start = start.saturating_add(1 + comparer.random.below(3) as u32);
         comparer.set(512 * page + start_at(i), &start.to_le_bytes());
@@ -128,7 +128,7 @@ fn lay_old_entries(comparer: &mut Comparer, page: usize) {
 // ---------------------------------------------------------------- tall images
 
 /// Damage anywhere in a tall image, and calls that meet it.
-pub fn wear(comparer: &mut Comparer, pool: &Pool, part: usize) {
+pub fn damaged_fields(comparer: &mut Comparer, pool: &Pool, part: usize) {
     let whole = &pool.tall[part % pool.tall.len()];
     comparer.lend(whole);
     let rounds = if whole.len() > 100_000 { 400 } else { 1_200 };
@@ -176,7 +176,7 @@ fn drawn(comparer: &mut Comparer) -> Damage {
     let at = 512 * page
         + match random.below(9) {
             0 => 0,
-            1 => NUMBER_AT,
+            1 => ENTRY_COUNT_AT,
             2 => start_at(i),
             3 => sum_at(i),
             4 => count_at(i),

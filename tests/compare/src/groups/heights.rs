@@ -3,7 +3,7 @@
 use plain::END;
 
 use crate::comparer::Comparer;
-use crate::images::{number, pages_of_level, start_at, Pool, NUMBER_AT};
+use crate::images::{pages_of_level, start_at, u32_at, Pool, ENTRY_COUNT_AT};
 
 pub fn heights(comparer: &mut Comparer, pool: &Pool, part: usize) {
     let image = pool.image(part);
@@ -17,8 +17,8 @@ pub fn heights(comparer: &mut Comparer, pool: &Pool, part: usize) {
     let leaves = pages_of_level(image, 0);
     for _ in 0..2_500 {
         let page = leaves[comparer.random.below(leaves.len())];
-        let entries = number(image, page, NUMBER_AT) as usize;
-        let start = number(image, page, start_at(comparer.random.below(entries)));
+        let entries = u32_at(image, page, ENTRY_COUNT_AT) as usize;
+        let start = u32_at(image, page, start_at(comparer.random.below(entries)));
         let t = start.wrapping_add(comparer.random.between(-1, 1) as u32);
         comparer.instant(t);
         if comparer.random.one_in(4) {

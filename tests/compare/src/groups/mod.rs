@@ -1,17 +1,17 @@
 //! What is compared, in groups; each says which inputs it tries.
 
 mod averages;
-mod bounds;
-mod circles;
+mod buffer_lengths;
+mod cycles;
 mod damage;
-mod ebbs;
+mod documented;
 mod formats;
+mod grow_shrink;
 mod heights;
-mod lengths;
-mod loads;
-mod noise;
+mod pair_bounds;
+mod random_bookings;
+mod random_bytes;
 mod refusals;
-mod told;
 
 use crate::comparer::Comparer;
 use crate::images::{Pool, IMAGES, SMALL};
@@ -28,20 +28,26 @@ pub struct Group {
 
 /// The longest parts first, so that the threads end together.
 pub const GROUPS: &[Group] = &[
-    Group { name: "brims", what: "filled until 24 and emptied", parts: 48, random: true, run: ebbs::brims },
     Group {
-        name: "bytes",
+        name: "fill_empty",
+        what: "filled until 24 and emptied",
+        parts: 48,
+        random: true,
+        run: grow_shrink::fill_empty,
+    },
+    Group {
+        name: "damaged_bytes",
         what: "each byte of small images set to several values",
         parts: SMALL,
         random: false,
-        run: damage::bytes,
+        run: damage::damaged_bytes,
     },
     Group {
-        name: "words",
+        name: "damaged_words",
         what: "each word of small images at the ends of ranges",
         parts: SMALL,
         random: false,
-        run: damage::words,
+        run: damage::damaged_words,
     },
     Group {
         name: "heights",
@@ -50,65 +56,77 @@ pub const GROUPS: &[Group] = &[
         random: true,
         run: heights::heights,
     },
-    Group { name: "loads", what: "random bookings on 2 to 1,024 pages", parts: 80, random: true, run: loads::loads },
     Group {
-        name: "wear",
+        name: "random_bookings",
+        what: "random bookings on 2 to 1,024 pages",
+        parts: 80,
+        random: true,
+        run: random_bookings::random_bookings,
+    },
+    Group {
+        name: "damaged_fields",
         what: "damaged pages of images of heights 3 and 4",
         parts: 36,
         random: true,
-        run: damage::wear,
+        run: damage::damaged_fields,
     },
     Group {
-        name: "stale",
-        what: "numbers of entries with an older page's entries behind them",
+        name: "stale_entries",
+        what: "entry counts with an older page's entries behind them",
         parts: IMAGES,
         random: true,
-        run: damage::stale,
+        run: damage::stale_entries,
     },
     Group {
-        name: "ebbs",
-        what: "small ranges of time, where splits and joins alternate",
+        name: "split_merge",
+        what: "small ranges of time, where splits and merges alternate",
         parts: 36,
         random: true,
-        run: ebbs::ebbs,
+        run: grow_shrink::split_merge,
     },
-    Group { name: "tides", what: "up to heights 2 to 4 and back", parts: 9, random: true, run: ebbs::tides },
-    Group { name: "brink", what: "changes of full images", parts: 10, random: true, run: loads::brink },
     Group {
-        name: "links",
+        name: "grow_shrink",
+        what: "up to heights 2 to 4 and back",
+        parts: 9,
+        random: true,
+        run: grow_shrink::grow_shrink,
+    },
+    Group {
+        name: "full_images",
+        what: "changes of full images",
+        parts: 10,
+        random: true,
+        run: random_bookings::full_images,
+    },
+    Group {
+        name: "moved_pages",
         what: "pages copied, swapped, freed, marks moved: nearly sound images",
         parts: 16,
         random: true,
-        run: circles::links,
+        run: cycles::moved_pages,
     },
+    Group { name: "cycles", what: "images whose pages point in circles", parts: 8, random: true, run: cycles::cycles },
     Group {
-        name: "circles",
-        what: "images whose pages point in circles",
-        parts: 8,
-        random: true,
-        run: circles::circles,
-    },
-    Group {
-        name: "bounds",
+        name: "pair_bounds",
         what: "sums and counts along a way at what changes allow",
         parts: 12,
         random: true,
-        run: bounds::bounds,
+        run: pair_bounds::pair_bounds,
     },
     Group {
-        name: "noise",
+        name: "random_bytes",
         what: "random bytes, with a fit head or without",
         parts: 12,
         random: true,
-        run: noise::noise,
+        run: random_bytes::random_bytes,
     },
     Group { name: "formats", what: "every number of pages", parts: 4, random: false, run: formats::formats },
     Group {
-        name: "lengths",
+        name: "buffer_lengths",
         what: "lengths of buffers around their ends, null, and above 2^32",
         parts: 1,
         random: false,
-        run: lengths::lengths,
+        run: buffer_lengths::buffer_lengths,
     },
     Group {
         name: "refusals",
@@ -118,6 +136,18 @@ pub const GROUPS: &[Group] = &[
         run: refusals::refusals,
     },
     Group { name: "averages", what: "averages of pairs", parts: 2, random: true, run: averages::averages },
-    Group { name: "marks", what: "document 01's marks from the test rack", parts: 1, random: false, run: told::marks },
-    Group { name: "paper", what: "000's examples that can be trusted", parts: 1, random: false, run: told::paper },
+    Group {
+        name: "marks",
+        what: "document 01's marks from the test rack",
+        parts: 1,
+        random: false,
+        run: documented::marks,
+    },
+    Group {
+        name: "paper",
+        what: "000's examples that can be trusted",
+        parts: 1,
+        random: false,
+        run: documented::paper,
+    },
 ];

@@ -6,7 +6,7 @@ use plain::END;
 
 use crate::calls::{Answer, Call};
 use crate::comparer::Comparer;
-use crate::images::{fresh, one_by_one, Pool, KIND};
+use crate::images::{enter_in_order, fresh, Pool, KIND};
 
 const ORDER: [u32; 12] = [16, 17, 11, 12, 13, 14, 21, 22, 23, 24, 15, 0];
 
@@ -35,7 +35,7 @@ pub fn refusals(comparer: &mut Comparer, _: &Pool, _: usize) {
 /// A leaf of 23 entries in three pages: the next cuts lack pages.
 fn filled(kind: u32) -> Vec<u8> {
     let mut image = fresh(3, kind, 0);
-    one_by_one(&mut image, 11);
+    enter_in_order(&mut image, 11);
     image
 }
 

@@ -2,7 +2,7 @@
 //! back. The bytes are put together here from document 01's words, not by the crate.
 
 use crate::support::*;
-use plain::{enter_told, withdraw_told, Told, END};
+use plain::{enter_recorded, withdraw_recorded, RecordedChange, END};
 
 type HandEntry = (u32, i64, i32, u32);
 
@@ -48,24 +48,24 @@ fn assert_image(image: &[u8], pages: &[Vec<u8>]) {
     }
 }
 
-fn enter(image: &mut [u8], v: i64, s: u32, e: u32) -> Told {
-    let told = enter_told(image, &mut [0; 1_024], v, s, e);
-    assert_eq!(told.status, 0);
-    told
+fn enter(image: &mut [u8], v: i64, s: u32, e: u32) -> RecordedChange {
+    let recorded = enter_recorded(image, &mut [0; 1_024], v, s, e);
+    assert_eq!(recorded.status, 0);
+    recorded
 }
 
-fn withdraw(image: &mut [u8], v: i64, s: u32, e: u32) -> Told {
-    let told = withdraw_told(image, &mut [0; 1_024], v, s, e);
-    assert_eq!(told.status, 0);
-    told
+fn withdraw(image: &mut [u8], v: i64, s: u32, e: u32) -> RecordedChange {
+    let recorded = withdraw_recorded(image, &mut [0; 1_024], v, s, e);
+    assert_eq!(recorded.status, 0);
+    recorded
 }
 
-fn taken(told: &Told) -> Vec<u32> {
-    told.tales.iter().flat_map(|tale| tale.taken.clone()).collect()
+fn taken(recorded: &RecordedChange) -> Vec<u32> {
+    recorded.steps.iter().flat_map(|step| step.taken.clone()).collect()
 }
 
-fn given_back(told: &Told) -> Vec<u32> {
-    told.tales.iter().flat_map(|tale| tale.given_back.clone()).collect()
+fn given_back(recorded: &RecordedChange) -> Vec<u32> {
+    recorded.steps.iter().flat_map(|step| step.given_back.clone()).collect()
 }
 
 /// Value 1 on [10, 15), [20, 25) to [120, 125): page 1 keeps 12 entries, page 2 has 13, page 3 is the root.
@@ -124,10 +124,10 @@ fn split_of_the_root_leaf() {
 #[test]
 fn effect_up_to_the_end() {
     let mut image = twelve(5, 1);
-    let told = enter(&mut image, 1, 5, END);
-    let ways = told.tales.iter().map(|tale| tale.ways.concat());
+    let recorded = enter(&mut image, 1, 5, END);
+    let ways = recorded.steps.iter().map(|step| step.ways.concat());
     assert_eq!(ways.collect::<Vec<_>>(), [vec![3, 1], vec![], vec![3, 1], vec![3, 1], vec![]]);
-    assert_eq!(told.named_pages().into_iter().collect::<Vec<u32>>(), [0, 1, 3]);
+    assert_eq!(recorded.named_pages().into_iter().collect::<Vec<u32>>(), [0, 1, 3]);
     assert_eq!(image[2 * 512..3 * 512], tree_page(0, &leaf(&RIGHT, (0, 0))));
     assert_eq!(image[3 * 512..4 * 512], tree_page(1, &[(0, 0, 0, 1), (65, 1, 1, 2)]));
 }
@@ -137,17 +137,17 @@ fn effect_up_to_the_end() {
 #[test]
 fn give_then_merge_then_split_from_the_chain() {
     let mut image = twelve(4, 1);
-    let told = withdraw(&mut image, 1, 10, 15);
-    assert_eq!((told.tales[3].gives_from_right, told.tales[3].turned_to.clone()), (1, vec![2]));
-    assert_eq!((told.tales[4].merges_with_right, told.tales[4].turned_to.clone()), (1, vec![2]));
-    assert_eq!(given_back(&told), [2, 3]);
-    assert_eq!(told.named_pages().into_iter().collect::<Vec<u32>>(), [0, 1, 2, 3]);
+    let recorded = withdraw(&mut image, 1, 10, 15);
+    assert_eq!((recorded.steps[3].gives_from_right, recorded.steps[3].turned_to.clone()), (1, vec![2]));
+    assert_eq!((recorded.steps[4].merges_with_right, recorded.steps[4].turned_to.clone()), (1, vec![2]));
+    assert_eq!(given_back(&recorded), [2, 3]);
+    assert_eq!(recorded.named_pages().into_iter().collect::<Vec<u32>>(), [0, 1, 2, 3]);
     let starts: Vec<u32> = LEFT.iter().chain(&RIGHT).copied().filter(|start| *start != 10 && *start != 15).collect();
     let merged = [head([4, 1, 1, 3, 2, 4, 1, 0, 13]), tree_page(0, &leaf(&starts, (0, 0))), free_page(0), free_page(2)];
     assert_image(&image, &merged);
 
-    let told = enter(&mut image, 1, 10, 15);
-    assert_eq!(taken(&told), [3, 2]);
+    let recorded = enter(&mut image, 1, 10, 15);
+    assert_eq!(taken(&recorded), [3, 2]);
     let split = [
         head([4, 2, 2, 0, 0, 4, 1, 0, 14]),
         tree_page(0, &leaf(&LEFT, (0, 0))),
@@ -173,9 +173,9 @@ fn right_gives_with_parent_pairs() {
     assert_image(&image, &pairs_above);
 
     // 15 comes to (1, 1) like 10 and is healed; 20 comes to (2, 2).
-    let told = enter(&mut image, 1, 15, 25);
-    assert_eq!(told.tales[3].gives_from_right, 1);
-    assert_eq!(told.tales[4].entries_healed, 0);
+    let recorded = enter(&mut image, 1, 15, 25);
+    assert_eq!(recorded.steps[3].gives_from_right, 1);
+    assert_eq!(recorded.steps[4].entries_healed, 0);
     let mut left = leaf(&LEFT, (5, 1));
     left[3] = (20, 7, 3, 0);
     left.remove(2);
@@ -197,8 +197,8 @@ fn left_gives_with_parent_pairs() {
     enter(&mut image, 1, 75, 85);
     enter(&mut image, 5, 0, 65);
     enter(&mut image, 7, 65, END);
-    let told = enter(&mut image, 1, 95, 105);
-    assert_eq!((told.tales[3].gives_from_left, told.tales[3].turned_to.clone()), (1, vec![1]));
+    let recorded = enter(&mut image, 1, 95, 105);
+    assert_eq!((recorded.steps[3].gives_from_left, recorded.steps[3].turned_to.clone()), (1, vec![1]));
     let mut left = leaf(&LEFT, (5, 1));
     left.splice(1..1, [(2, 8, 2, 0), (4, 5, 1, 0)]);
     left.pop();
@@ -222,9 +222,9 @@ fn merge_with_left() {
     enter(&mut image, 1, 75, 85);
     enter(&mut image, 5, 0, 65);
     enter(&mut image, 7, 65, END);
-    let told = enter(&mut image, 1, 95, 105);
-    assert_eq!((told.tales[3].merges_with_left, told.tales[3].turned_to.clone()), (1, vec![1]));
-    assert_eq!(given_back(&told), [2, 3]);
+    let recorded = enter(&mut image, 1, 95, 105);
+    assert_eq!((recorded.steps[3].merges_with_left, recorded.steps[3].turned_to.clone()), (1, vec![1]));
+    assert_eq!(given_back(&recorded), [2, 3]);
     let mut merged = leaf(&LEFT, (5, 1));
     let mut right = leaf(&[65, 70, 80, 85, 90, 100, 105, 110, 115, 120, 125], (7, 1));
     right[2] = (80, 9, 3, 0);
@@ -257,9 +257,9 @@ fn the_left_neighbour_comes_first() {
     for i in 13..=18 {
         enter(&mut image, 1, 10 * i, 10 * i + 5);
     }
-    let told = enter(&mut image, 1, 75, 85);
-    assert_eq!((told.tales[3].merges_with_left, told.tales[3].turned_to.clone()), (1, vec![1]));
-    assert_eq!(given_back(&told), [2]);
+    let recorded = enter(&mut image, 1, 75, 85);
+    assert_eq!((recorded.steps[3].merges_with_left, recorded.steps[3].turned_to.clone()), (1, vec![1]));
+    assert_eq!(given_back(&recorded), [2]);
     let mut merged = leaf(&LEFT, (0, 0));
     merged.extend(leaf(&RIGHT[..12], (0, 0)));
     merged.retain(|(start, _, _, _)| *start != 75);
@@ -281,8 +281,8 @@ fn split_under_a_parent_with_pairs() {
     enter(&mut image, 5, 0, 65);
     enter(&mut image, 7, 65, END);
     for i in 13..=18 {
-        let told = enter(&mut image, 1, 10 * i, 10 * i + 5);
-        assert_eq!(taken(&told), if i == 18 { vec![4] } else { vec![] });
+        let recorded = enter(&mut image, 1, 10 * i, 10 * i + 5);
+        assert_eq!(taken(&recorded), if i == 18 { vec![4] } else { vec![] });
     }
     let pages = [
         head([5, 2, 3, 0, 0, 5, 1, 0, 20]),
@@ -322,8 +322,8 @@ fn greatest_and_least_merge_with_parent_pairs() {
         enter(&mut image, 0, 0, 65);
         enter(&mut image, 4, 65, END);
         // 15 comes to (1, 1) like 10 and is healed, 20 has it already and is healed too: give, then merge.
-        let told = enter(&mut image, 1, 15, 20);
-        assert_eq!((told.tales[3].gives_from_right, told.tales[4].merges_with_right), (1, 1));
+        let recorded = enter(&mut image, 1, 15, 20);
+        assert_eq!((recorded.steps[3].gives_from_right, recorded.steps[4].merges_with_right), (1, 1));
         let pushed = |start: &u32, v: i64| {
             let own = start.is_multiple_of(10) && *start > 0;
             (*start, if own { best(1, v) } else { v }, 1, 0)
@@ -342,9 +342,9 @@ fn a_change_without_effect() {
     for (kind, v) in [(2, 5), (3, -5)] {
         let mut image = fresh(2, kind, 0);
         enter(&mut image, v, 0, END);
-        let told = enter(&mut image, 0, 10, 20);
-        let cuts: u32 = told.tales.iter().map(|tale| tale.entries_cut).sum();
-        let heals: u32 = told.tales.iter().map(|tale| tale.entries_healed).sum();
+        let recorded = enter(&mut image, 0, 10, 20);
+        let cuts: u32 = recorded.steps.iter().map(|step| step.entries_cut).sum();
+        let heals: u32 = recorded.steps.iter().map(|step| step.entries_healed).sum();
         assert_eq!((cuts, heals), (2, 2));
         assert_image(&image, &[head([2, 1, 1, 0, 0, 2, kind, 0, 2]), tree_page(0, &[(0, v, 1, 0)])]);
     }
@@ -361,7 +361,7 @@ fn a_change_without_effect_lacks_pages() {
     enter(&mut image, 100, 500, END);
     assert_eq!(Node::of(&image).leaf_entries(), 23);
     let before = image.clone();
-    assert_eq!(enter_told(&mut image, &mut [0; 2], 1, 600, 700).status, 24);
+    assert_eq!(enter_recorded(&mut image, &mut [0; 2], 1, 600, 700).status, 24);
     assert!(image == before);
     // One cut is still possible; the entry that it makes is healed again.
     enter(&mut image, 1, 600, END);
@@ -373,25 +373,25 @@ fn a_change_without_effect_lacks_pages() {
 fn splits_up_to_a_new_root() {
     let mut image = fresh(64, 1, 0);
     let mut i = 0;
-    let (told, before) = loop {
+    let (recorded, before) = loop {
         i += 1;
         let before = image.clone();
-        let told = enter(&mut image, 1, 10 * i, 10 * i + 5);
+        let recorded = enter(&mut image, 1, 10 * i, 10 * i + 5);
         if height(&image) == 3 {
-            break (told, before);
+            break (recorded, before);
         }
     };
     let mark = word(&before, 0, HIGH_MARK);
-    assert_eq!(taken(&told), [mark, mark + 1, mark + 2]);
+    assert_eq!(taken(&recorded), [mark, mark + 1, mark + 2]);
     let old_root = word(&before, 0, ROOT);
-    assert_eq!(get_u32(&before, old_root, NUMBER_AT), 24);
+    assert_eq!(get_u32(&before, old_root, ENTRY_COUNT_AT), 24);
     assert_eq!(word(&image, 0, ROOT), mark + 2);
     assert_eq!(get_u32(&image, mark, LEVEL_AT), 0);
     assert_eq!(get_u32(&image, mark + 1, LEVEL_AT), 1);
     assert_eq!(get_u32(&image, mark + 2, LEVEL_AT), 2);
-    assert_eq!(get_u32(&image, old_root, NUMBER_AT), 12);
-    assert_eq!(get_u32(&image, mark, NUMBER_AT), 13);
-    assert_eq!(get_u32(&image, mark + 1, NUMBER_AT), 13);
+    assert_eq!(get_u32(&image, old_root, ENTRY_COUNT_AT), 12);
+    assert_eq!(get_u32(&image, mark, ENTRY_COUNT_AT), 13);
+    assert_eq!(get_u32(&image, mark + 1, ENTRY_COUNT_AT), 13);
     assert_eq!(get_u32(&image, mark + 1, child_at(12)), mark);
     let second = get_u32(&image, mark + 1, start_at(0));
     let root = tree_page(2, &[(0, 0, 0, old_root), (second, 0, 0, mark + 1)]);

@@ -356,7 +356,7 @@ fn swap_pages_with_links(image: &mut [u8], one: u32, other: u32) {
             let next = word(image, page, 1);
             set_word(image, page, 1, renamed(next));
         } else if (1..4).contains(&level) {
-            for i in 0..get_u32(image, page, NUMBER_AT).min(24) as usize {
+            for i in 0..get_u32(image, page, ENTRY_COUNT_AT).min(24) as usize {
                 let child = get_u32(image, page, child_at(i));
                 set(image, page, child_at(i), &renamed(child).to_le_bytes());
             }

@@ -151,12 +151,12 @@ fn level_and_number_of_entries() {
         check_root(&touched(1, |image| set(image, 3, LEVEL_AT, &u32::to_le_bytes(level))), UNFIT);
     }
     for entry_count in [0, 1, 11, 13, 24, 25, 26, 1 << 24, u32::MAX] {
-        check_left(&touched(1, |image| set(image, 1, NUMBER_AT, &u32::to_le_bytes(entry_count))), UNFIT);
-        check_root(&touched(1, |image| set(image, 3, NUMBER_AT, &u32::to_le_bytes(entry_count))), UNFIT);
+        check_left(&touched(1, |image| set(image, 1, ENTRY_COUNT_AT, &u32::to_le_bytes(entry_count))), UNFIT);
+        check_root(&touched(1, |image| set(image, 3, ENTRY_COUNT_AT, &u32::to_le_bytes(entry_count))), UNFIT);
     }
     // A page with 11 entries, otherwise in order.
     let eleven = touched(1, |image| {
-        set(image, 1, NUMBER_AT, &11u32.to_le_bytes());
+        set(image, 1, ENTRY_COUNT_AT, &11u32.to_le_bytes());
         set(image, 1, start_at(11), &[0xFF; 4]);
         set(image, 1, sum_at(11), &[0xFF; 16]);
     });
@@ -164,7 +164,7 @@ fn level_and_number_of_entries() {
     // With 24 in order, and with 13.
     for entry_count in [13, 24usize] {
         let more = touched(1, |image| {
-            set(image, 1, NUMBER_AT, &(entry_count as u32).to_le_bytes());
+            set(image, 1, ENTRY_COUNT_AT, &(entry_count as u32).to_le_bytes());
             for i in 11..entry_count {
                 set(image, 1, start_at(i), &(41 + i as u32).to_le_bytes());
                 set(image, 1, sum_at(i), &[0; 16]);
@@ -185,7 +185,7 @@ fn level_and_number_of_entries() {
     }
     // An inner root with one entry.
     let one = touched(1, |image| {
-        set(image, 3, NUMBER_AT, &1u32.to_le_bytes());
+        set(image, 3, ENTRY_COUNT_AT, &1u32.to_le_bytes());
         set(image, 3, start_at(1), &[0xFF; 4]);
         set(image, 3, sum_at(1), &[0xFF; 16]);
     });
@@ -193,7 +193,7 @@ fn level_and_number_of_entries() {
     // A root leaf with none, and with one.
     let mut leaf = fresh(2, 1, 0);
     assert_eq!(status_and_pages(&leaf, 0), (0, 1));
-    set(&mut leaf, 1, NUMBER_AT, &0u32.to_le_bytes());
+    set(&mut leaf, 1, ENTRY_COUNT_AT, &0u32.to_le_bytes());
     set(&mut leaf, 1, start_at(0), &[0xFF; 4]);
     set(&mut leaf, 1, sum_at(0), &[0xFF; 16]);
     assert_eq!(status_and_pages(&leaf, 0), (21, 1));
@@ -500,7 +500,7 @@ fn cycles() {
             }
             let entry_count = random.pick(&[2, 12, 24, 24]);
             set(&mut image, page, LEVEL_AT, &(random.below(4) as u32).to_le_bytes());
-            set(&mut image, page, NUMBER_AT, &(entry_count as u32).to_le_bytes());
+            set(&mut image, page, ENTRY_COUNT_AT, &(entry_count as u32).to_le_bytes());
             for i in 0..entry_count {
                 set(&mut image, page, start_at(i), &(i as u32).to_le_bytes());
                 set(&mut image, page, sum_at(i), &[0; 16]);

@@ -251,9 +251,9 @@ fn fill_until_24_then_empty() {
     assert!(total.greatest_height >= 3);
 }
 
-/// Images filled until 24 first, then random changes at the brim: many refused, many splits and merges, height 3.
+/// Images filled until 24 first, then random changes of full images: many refused, many splits and merges, height 3.
 #[test]
-fn loads_at_the_brim() {
+fn random_changes_of_full_images() {
     let mut total = Tally::default();
     for (n, kind, window) in
         [(64, 1, 0), (40, 1, 30), (29, 1, 0), (64, 2, 3), (33, 3, 0), (50, 1, 1), (12, 2, 0), (7, 3, 1)]
@@ -284,7 +284,7 @@ fn loads_at_the_brim() {
         }
         total.add(&load.rack.tally);
     }
-    total.report("loads, at the brim");
+    total.report("loads, full images");
     assert!(total.splits > 0 && total.merges() > 0 && total.gives() > 0 && total.chain_taken > 0);
     assert!(total.greatest_height >= 3 && total.refused_24 > 50);
 }

@@ -79,7 +79,7 @@ impl Model {
         if let Node::Inner { page, entries } = &mut self.tree {
             if entries.len() == 1 {
                 let (_, pair, mut child) = entries.remove(0);
-                pour(&mut child, self.kind, pair);
+                combine_all(&mut child, self.kind, pair);
                 self.pages.give_back(*page);
                 self.tree = child;
             }
@@ -94,7 +94,7 @@ fn depth(node: &Node) -> u32 {
     }
 }
 
-fn number(node: &Node) -> usize {
+fn entry_count(node: &Node) -> usize {
     match node {
         Node::Leaf { entries, .. } => entries.len(),
         Node::Inner { entries, .. } => entries.len(),
@@ -177,22 +177,22 @@ fn heal_below(node: &mut Node, t: u32, kind: u32, pages: &mut Pages) {
         Node::Inner { entries, .. } => {
             let at = entries.iter().take_while(|(start, _, _)| *start <= t).count() - 1;
             heal_below(&mut entries[at].2, t, kind, pages);
-            if number(&entries[at].2) == 11 {
+            if entry_count(&entries[at].2) == 11 {
                 let left = if at == 0 { 0 } else { at - 1 };
-                mend(entries, left, at, kind, pages);
+                rebalance(entries, left, at, kind, pages);
             }
         }
     }
 }
 
 /// The child `short` of 11 entries and its neighbour are `left` and `left + 1`.
-fn mend(entries: &mut Vec<(u32, Pair, Node)>, left: usize, short: usize, kind: u32, pages: &mut Pages) {
+fn rebalance(entries: &mut Vec<(u32, Pair, Node)>, left: usize, short: usize, kind: u32, pages: &mut Pages) {
     for (_, pair, below) in &mut entries[left..left + 2] {
-        pour(below, kind, *pair);
+        combine_all(below, kind, *pair);
         *pair = Pair { sum: 0, count: 0 };
     }
     let neighbour = if short == left { left + 1 } else { left };
-    if number(&entries[neighbour].2) >= 13 {
+    if entry_count(&entries[neighbour].2) >= 13 {
         let (first, second) = entries.split_at_mut(left + 1);
         let new_start = give(&mut first[left].2, &mut second[0].2, short != left);
         second[0].0 = new_start;
@@ -231,7 +231,7 @@ fn give(left: &mut Node, right: &mut Node, to_right: bool) -> u32 {
 }
 
 /// The parent's pair into a page's entries.
-fn pour(node: &mut Node, kind: u32, pair: Pair) {
+fn combine_all(node: &mut Node, kind: u32, pair: Pair) {
     match node {
         Node::Leaf { entries, .. } => entries.iter_mut().for_each(|(_, own)| *own = both(kind, *own, pair)),
         Node::Inner { entries, .. } => entries.iter_mut().for_each(|(_, own, _)| *own = both(kind, *own, pair)),

@@ -7,9 +7,9 @@ use std::io::Write;
 use crate::model::Model;
 use plain::calls::{run_bytes, Run};
 use plain::sound::{is_sound, is_sound_by_counting};
-use plain::steps::{count_the_change, one_step, Effect, Step, StepTale, FIVE_STEPS};
+use plain::steps::{count_the_change, one_step, Effect, Step, StepRecord, FIVE_STEPS};
 use plain::value::Span;
-use plain::{audit, enter_told, format, instant, listing, withdraw_told, Book, Pair, END};
+use plain::{audit, enter_recorded, format, instant, listing, withdraw_recorded, Book, Pair, END};
 
 // ---------------------------------------------------------------- counts on standard error
 
@@ -63,20 +63,20 @@ impl Tally {
         self.merges_with_left + self.merges_with_right
     }
 
-    pub fn add_tale(&mut self, tale: &StepTale) {
-        self.cuts += u64::from(tale.entries_cut);
-        self.heals += u64::from(tale.entries_healed);
-        self.splits += u64::from(tale.splits);
-        self.gives_from_left += u64::from(tale.gives_from_left);
-        self.gives_from_right += u64::from(tale.gives_from_right);
-        self.merges_with_left += u64::from(tale.merges_with_left);
-        self.merges_with_right += u64::from(tale.merges_with_right);
-        self.roots_gained += u64::from(tale.roots_gained);
-        self.roots_lost += u64::from(tale.roots_lost);
+    pub fn add_step(&mut self, step: &StepRecord) {
+        self.cuts += u64::from(step.entries_cut);
+        self.heals += u64::from(step.entries_healed);
+        self.splits += u64::from(step.splits);
+        self.gives_from_left += u64::from(step.gives_from_left);
+        self.gives_from_right += u64::from(step.gives_from_right);
+        self.merges_with_left += u64::from(step.merges_with_left);
+        self.merges_with_right += u64::from(step.merges_with_right);
+        self.roots_gained += u64::from(step.roots_gained);
+        self.roots_lost += u64::from(step.roots_lost);
         // The first split, give or merge of a step is that of a leaf; a give ends it.
-        let gives = tale.gives_from_left + tale.gives_from_right;
-        let merges = tale.merges_with_left + tale.merges_with_right;
-        self.inner_splits += u64::from(tale.splits.saturating_sub(1));
+        let gives = step.gives_from_left + step.gives_from_right;
+        let merges = step.merges_with_left + step.merges_with_right;
+        self.inner_splits += u64::from(step.splits.saturating_sub(1));
         self.inner_gives += u64::from(gives > 0 && merges > 0);
         self.inner_merges += u64::from(merges.saturating_sub(1));
     }
@@ -214,7 +214,7 @@ pub const CHANGES: usize = 8;
 
 /// Byte positions in a tree page.
 pub const LEVEL_AT: usize = 0;
-pub const NUMBER_AT: usize = 4;
+pub const ENTRY_COUNT_AT: usize = 4;
 pub fn start_at(i: usize) -> usize {
     32 + 4 * i
 }
@@ -255,7 +255,7 @@ impl Node {
     }
 
     fn at(image: &[u8], page: u32) -> Node {
-        let number = get_u32(image, page, NUMBER_AT) as usize;
+        let entry_count = get_u32(image, page, ENTRY_COUNT_AT) as usize;
         let start = |i: usize| get_u32(image, page, start_at(i));
         let pair = |i: usize| {
             let at = page as usize * 512 + sum_at(i);
@@ -265,10 +265,10 @@ impl Node {
             }
         };
         if get_u32(image, page, LEVEL_AT) == 0 {
-            Node::Leaf { page, entries: (0..number).map(|i| (start(i), pair(i))).collect() }
+            Node::Leaf { page, entries: (0..entry_count).map(|i| (start(i), pair(i))).collect() }
         } else {
             let child = |i: usize| Node::at(image, get_u32(image, page, child_at(i)));
-            Node::Inner { page, entries: (0..number).map(|i| (start(i), pair(i), child(i))).collect() }
+            Node::Inner { page, entries: (0..entry_count).map(|i| (start(i), pair(i), child(i))).collect() }
         }
     }
 
@@ -548,40 +548,40 @@ impl Rack {
         let length = n + self.random.below(3) as usize;
         let mut scratch = self.random.bytes(length);
         let beyond = scratch[n..].to_vec();
-        let told = if withdrawal {
-            withdraw_told(&mut self.image, &mut scratch, v, s, e)
+        let recorded = if withdrawal {
+            withdraw_recorded(&mut self.image, &mut scratch, v, s, e)
         } else {
-            enter_told(&mut self.image, &mut scratch, v, s, e)
+            enter_recorded(&mut self.image, &mut scratch, v, s, e)
         };
-        assert_eq!(told.status, expected);
+        assert_eq!(recorded.status, expected);
         assert!(scratch[..n].iter().all(|&byte| byte == 0));
         assert_eq!(scratch[n..], beyond[..]);
 
         let count = if withdrawal { -1 } else { 1 };
         let signed = if withdrawal { -v } else { v };
         if withdrawal {
-            self.book.withdraw(v, s, e, told.status);
+            self.book.withdraw(v, s, e, recorded.status);
         } else {
-            self.book.enter(v, s, e, told.status);
+            self.book.enter(v, s, e, recorded.status);
         }
-        if told.status != 0 {
+        if recorded.status != 0 {
             assert!(self.image == before, "a refused change keeps the image's bytes");
-            assert!(told.tales.is_empty());
+            assert!(recorded.steps.is_empty());
             self.tally.changes_refused += 1;
-            self.tally.refused_24 += u64::from(told.status == 24);
-            return told.status;
+            self.tally.refused_24 += u64::from(recorded.status == 24);
+            return recorded.status;
         }
         self.timeline.change(signed, count, s, e);
 
         // "no byte of a page that its five steps in document 01 don't name"
-        let named = told.named_pages();
+        let named = recorded.named_pages();
         for page in changed_pages(&before, &self.image) {
             assert!(named.contains(&page), "page {page} changed, named are {named:?}");
         }
         assert_eq!(word(&self.image, 0, CHANGES), word(&before, 0, CHANGES) + 1);
-        let taken: u64 = told.tales.iter().map(|tale| tale.taken.len() as u64).sum();
+        let taken: u64 = recorded.steps.iter().map(|step| step.taken.len() as u64).sum();
         assert_eq!(taken, wanted);
-        let given_back: u64 = told.tales.iter().map(|tale| tale.given_back.len() as u64).sum();
+        let given_back: u64 = recorded.steps.iter().map(|step| step.given_back.len() as u64).sum();
         assert_eq!(pages_at_hand(&self.image), pages_at_hand(&before) - taken + given_back);
         if self.audit_each {
             let mut model = Model::of(&before);
@@ -590,14 +590,14 @@ impl Rack {
         }
         if self.by_step {
             let effect = Effect { pair: Pair { sum: signed, count }, span: Span { start: s, end } };
-            check_by_step(&before, &effect, &told.tales, &self.image);
+            check_by_step(&before, &effect, &recorded.steps, &self.image);
         }
 
         let from_chain = taken - u64::from(word(&self.image, 0, HIGH_MARK) - word(&before, 0, HIGH_MARK));
         self.tally.chain_taken += from_chain;
         self.tally.changes_accepted += 1;
-        for tale in &told.tales {
-            self.tally.add_tale(tale);
+        for step in &recorded.steps {
+            self.tally.add_step(step);
         }
         self.tally.greatest_height = self.tally.greatest_height.max(height(&self.image));
         if self.audit_each {
@@ -688,15 +688,15 @@ pub fn changed_pages(before: &[u8], after: &[u8]) -> Vec<u32> {
 }
 
 /// The five steps one by one: each writes only pages that it names, and names are what document 01's sentence says.
-fn check_by_step(before: &[u8], effect: &Effect, tales: &[StepTale], after: &[u8]) {
+fn check_by_step(before: &[u8], effect: &Effect, records: &[StepRecord], after: &[u8]) {
     let Span { start: s, end } = effect.span;
     let kind = word(before, 0, KIND);
     let mut image = before.to_vec();
     let mut tree = Node::of(before);
-    for (step, tale) in FIVE_STEPS.iter().zip(tales) {
+    for (step, record) in FIVE_STEPS.iter().zip(records) {
         let found = image.clone();
-        assert_eq!(one_step(&mut image, *step, effect).as_ref(), Ok(tale));
-        let named = tale.named_pages();
+        assert_eq!(one_step(&mut image, *step, effect).as_ref(), Ok(record));
+        let named = record.named_pages();
         for page in changed_pages(&found, &image) {
             assert!(named.contains(&page), "{step:?} wrote page {page}, it names {named:?}");
         }
@@ -707,14 +707,14 @@ fn check_by_step(before: &[u8], effect: &Effect, tales: &[StepTale], after: &[u8
             Step::Combine => vec![s, end],
         };
         let ways: Vec<Vec<u32>> = instants.iter().map(|t| tree.way(*t)).collect();
-        assert_eq!(tale.ways, ways);
+        assert_eq!(record.ways, ways);
         // Taken: outside the tree before, in it after. Given back: the other way round.
         let tree_after = Node::of(&image);
         let (old, new) = (tree.pages(), tree_after.pages());
-        assert_eq!(tale.taken.iter().copied().collect::<BTreeSet<u32>>(), &new - &old);
-        assert_eq!(tale.given_back.iter().copied().collect::<BTreeSet<u32>>(), &old - &new);
+        assert_eq!(record.taken.iter().copied().collect::<BTreeSet<u32>>(), &new - &old);
+        assert_eq!(record.given_back.iter().copied().collect::<BTreeSet<u32>>(), &old - &new);
         // Neighbours turned to are those of the pages on the way, from the leaf up.
-        assert!(tree.siblings_of_way(instants[0]).starts_with(&tale.turned_to));
+        assert!(tree.siblings_of_way(instants[0]).starts_with(&record.turned_to));
         // No step but C alters what an instant gives.
         if *step != Step::Combine {
             for t in [s, s.saturating_sub(1), end - 1, end.min(END - 1)] {

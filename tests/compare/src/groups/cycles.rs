@@ -4,14 +4,14 @@ use plain::END;
 
 use crate::comparer::Comparer;
 use crate::images::{
-    child_at, fresh, head, inner_pages, instant_of, level, number, put, start_at, Pool, FIRST_FREE, FREE_LENGTH,
-    HEIGHT, HIGH_MARK, NUMBER_AT, ROOT,
+    child_at, fresh, head, inner_pages, instant_of, level, put, start_at, u32_at, Pool, ENTRY_COUNT_AT, FIRST_FREE,
+    FREE_LENGTH, HEIGHT, HIGH_MARK, ROOT,
 };
 use crate::random::Random;
 
 // ---------------------------------------------------------------- circles
 
-pub fn circles(comparer: &mut Comparer, pool: &Pool, part: usize) {
+pub fn cycles(comparer: &mut Comparer, pool: &Pool, part: usize) {
     if part == 0 {
         for height in 1..=4 {
             for pages in 2..=6 {
@@ -42,7 +42,7 @@ fn one_above_the_other(height: u32, pages: usize) -> Vec<u8> {
         let level = height.saturating_sub(page as u32);
         let next = if level == 0 { 0 } else { 1 + page % (pages - 1) };
         put(&mut image, page, 0, &level.to_le_bytes());
-        put(&mut image, page, NUMBER_AT, &24u32.to_le_bytes());
+        put(&mut image, page, ENTRY_COUNT_AT, &24u32.to_le_bytes());
         for i in 0..24u32 {
             // The first entry of each page spans the whole page below.
             let start = if i == 0 { 0 } else { (1 << 20 >> (4 * page)) + i };
@@ -58,13 +58,13 @@ fn one_above_the_other(height: u32, pages: usize) -> Vec<u8> {
 fn turn_back(image: &mut [u8], random: &mut Random) {
     let inner = inner_pages(image);
     let page = inner[random.below(inner.len())];
-    let entries = number(image, page, NUMBER_AT) as usize;
+    let entries = u32_at(image, page, ENTRY_COUNT_AT) as usize;
     let above = inner.iter().copied().find(|above| level(image, *above) == level(image, page) + 1);
     let to = match random.below(6) {
         0 => page as u32,
         1 => head(image, ROOT),
         2 => above.unwrap_or(page) as u32,
-        3 => number(image, page, child_at(random.below(entries))),
+        3 => u32_at(image, page, child_at(random.below(entries))),
         4 => head(image, FIRST_FREE),
         _ => random.below(image.len() / 512) as u32,
     };
@@ -114,7 +114,7 @@ fn calls(comparer: &mut Comparer) {
 // ---------------------------------------------------------------- links, pages and marks
 
 /// One to three changes to the links of an image, some of which leave it sound.
-pub fn links(comparer: &mut Comparer, pool: &Pool, _: usize) {
+pub fn moved_pages(comparer: &mut Comparer, pool: &Pool, _: usize) {
     let images: Vec<&Vec<u8>> = pool.all().filter(|image| image.len() < 100_000).collect();
     for _ in 0..1_500 {
         let mut image = images[comparer.random.below(images.len())].to_vec();
@@ -179,12 +179,14 @@ fn swap_pages(image: &mut [u8], one: u32, other: u32) {
     for page in 1..image.len() / 512 {
         match level(image, page) {
             255 => links.push((page, 4)),
-            1..=3 => links.extend((0..number(image, page, NUMBER_AT).min(24) as usize).map(|i| (page, child_at(i)))),
+            1..=3 => {
+                links.extend((0..u32_at(image, page, ENTRY_COUNT_AT).min(24) as usize).map(|i| (page, child_at(i))))
+            }
             _ => {}
         }
     }
     for (page, at) in links {
-        let to = renamed(number(image, page, at));
+        let to = renamed(u32_at(image, page, at));
         put(image, page, at, &to.to_le_bytes());
     }
 }

@@ -2,10 +2,12 @@
 //! counts to at most changes": ways whose sums and counts are just that, or one more.
 
 use crate::comparer::Comparer;
-use crate::images::{child_at, count_at, head, number, start_at, sum_at, Pool, CHANGES, HEIGHT, KIND, NUMBER_AT, ROOT};
+use crate::images::{
+    child_at, count_at, head, start_at, sum_at, u32_at, Pool, CHANGES, ENTRY_COUNT_AT, HEIGHT, KIND, ROOT,
+};
 use crate::random::Random;
 
-/// An entry on a way: its page, its place there, and the number of entries of the page.
+/// An entry on a way: its page, its index there, and the page's entry count.
 struct Step {
     page: usize,
     i: usize,
@@ -17,16 +19,16 @@ fn way(image: &[u8], t: u32) -> Vec<Step> {
     let mut page = head(image, ROOT) as usize;
     let mut way = Vec::new();
     for _ in 0..head(image, HEIGHT) {
-        let entries = number(image, page, NUMBER_AT) as usize;
+        let entries = u32_at(image, page, ENTRY_COUNT_AT) as usize;
         let i =
-            (0..entries).rfind(|i| number(image, page, start_at(*i)) <= t).expect("the first starts at t or before");
+            (0..entries).rfind(|i| u32_at(image, page, start_at(*i)) <= t).expect("the first starts at t or before");
         way.push(Step { page, i, entries });
-        page = number(image, page, child_at(i)) as usize;
+        page = u32_at(image, page, child_at(i)) as usize;
     }
     way
 }
 
-pub fn bounds(comparer: &mut Comparer, pool: &Pool, _: usize) {
+pub fn pair_bounds(comparer: &mut Comparer, pool: &Pool, _: usize) {
     let images: Vec<&Vec<u8>> = pool.all().filter(|image| head(image, KIND) == 1).collect();
     for whole in images {
         let rounds = if whole.len() > 100_000 { 60 } else { 250 };
@@ -66,11 +68,11 @@ fn lay_way(comparer: &mut Comparer, t: u32, changes: u32) {
 }
 
 /// So many numbers of any sign whose absolute values add to `total`.
-fn shares(total: i64, number: usize, random: &mut Random) -> Vec<i64> {
+fn shares(total: i64, parts: usize, random: &mut Random) -> Vec<i64> {
     let mut rest = total.max(0);
     let mut shares = Vec::new();
-    for i in 0..number {
-        let share = if i + 1 == number { rest } else { random.between(0, rest) };
+    for i in 0..parts {
+        let share = if i + 1 == parts { rest } else { random.between(0, rest) };
         rest -= share;
         shares.push(if random.one_in(2) { share } else { -share });
     }

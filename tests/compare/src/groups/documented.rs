@@ -4,7 +4,7 @@ use plain::END;
 
 use crate::calls::{Answer, Call};
 use crate::comparer::Comparer;
-use crate::images::{fresh, head, one_by_one, Pool, CHANGES, HEIGHT};
+use crate::images::{enter_in_order, fresh, head, Pool, CHANGES, HEIGHT};
 
 impl Comparer {
     fn expect_pair(&mut self, t: u32, sum: i64, count: i32) {
@@ -96,9 +96,9 @@ fn greatest_within_a_window(comparer: &mut Comparer, n: usize) {
 fn twelfth_booking(comparer: &mut Comparer) {
     for (n, status, pages) in [(3, 24, 1), (4, 0, 2)] {
         let mut image = fresh(n, 1, 0);
-        one_by_one(&mut image, 11);
+        enter_in_order(&mut image, 11);
         comparer.lend(&image);
-        assert_eq!(crate::images::number(&image, 1, 4), 23);
+        assert_eq!(crate::images::u32_at(&image, 1, 4), 23);
         comparer.expect_booked(status, 1, 120, 125);
         assert_eq!(head(comparer.image(), HEIGHT), pages);
         assert_eq!(head(comparer.image(), CHANGES), 11 + u32::from(status == 0));

@@ -9,7 +9,7 @@ use crate::calls::{Answer, Call};
 use crate::comparer::Comparer;
 use crate::images::{fresh, Pool};
 
-pub fn lengths(comparer: &mut Comparer, pool: &Pool, _: usize) {
+pub fn buffer_lengths(comparer: &mut Comparer, pool: &Pool, _: usize) {
     for null in [false, true] {
         comparer.lend_null(null);
         images(comparer);

@@ -5,7 +5,7 @@ use plain::END;
 use crate::comparer::Comparer;
 use crate::images::{fresh, put, Pool};
 
-pub fn noise(comparer: &mut Comparer, _: &Pool, _: usize) {
+pub fn random_bytes(comparer: &mut Comparer, _: &Pool, _: usize) {
     for round in 0..2_500 {
         let n = 2 + comparer.random.below(6);
         let mut image = match round % 3 {

@@ -17,7 +17,7 @@ const SIZES: [usize; 12] = [3, 4, 5, 6, 8, 11, 16, 24, 40, 64, 150, 1_024];
 const RANGES: [usize; 4] = [40, 100, 300, 1_500];
 
 /// Few instants and few values, so that spans meet.
-pub fn ebbs(comparer: &mut Comparer, _: &Pool, part: usize) {
+pub fn split_merge(comparer: &mut Comparer, _: &Pool, part: usize) {
     let n = SIZES[part / 3 % SIZES.len()];
     let kind = 1 + part as u32 % 3;
     let range = comparer.random.pick(&RANGES);
@@ -94,7 +94,7 @@ fn order<T>(comparer: &mut Comparer, list: &mut [T]) {
 // ---------------------------------------------------------------- heights
 
 /// Bookings one by one up to a height, and taken back again.
-pub fn tides(comparer: &mut Comparer, _: &Pool, part: usize) {
+pub fn grow_shrink(comparer: &mut Comparer, _: &Pool, part: usize) {
     let kind = 1 + part as u32 % 3;
     let height = 2 + part as u32 / 3 % 3;
     comparer.lend(&fresh(1_024, kind, 0));
@@ -115,7 +115,7 @@ pub fn tides(comparer: &mut Comparer, _: &Pool, part: usize) {
 const FILLED: [usize; 16] = [2, 3, 4, 5, 6, 7, 8, 10, 13, 18, 25, 36, 50, 64, 150, 300];
 
 /// Filled until 24, and further with what still fits; then taken back, and formatted.
-pub fn brims(comparer: &mut Comparer, _: &Pool, part: usize) {
+pub fn fill_empty(comparer: &mut Comparer, _: &Pool, part: usize) {
     let kind = 1 + part as u32 % 3;
     // The largest takes some seconds: once among the first parts, of another kind each further time.
     let n = if part % 97 == 0 { 1_024 } else { FILLED[part / 3 % FILLED.len()] };

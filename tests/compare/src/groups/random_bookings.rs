@@ -22,7 +22,7 @@ const TIMES: [Times; 5] = [
 const WINDOWS: [u32; 7] = [0, 0, 1, 7, 50, 1_000, 1_000_000_000];
 const SIZES: [usize; 20] = [2, 3, 4, 5, 6, 7, 8, 9, 11, 14, 17, 21, 25, 30, 36, 50, 64, 100, 300, 1_024];
 
-pub fn loads(comparer: &mut Comparer, _: &Pool, part: usize) {
+pub fn random_bookings(comparer: &mut Comparer, _: &Pool, part: usize) {
     let n = SIZES[part % SIZES.len()];
     let kind = 1 + (part / SIZES.len() + part) as u32 % 3;
     let (window, times) = (comparer.random.pick(&WINDOWS), comparer.random.pick(&TIMES));
@@ -104,10 +104,10 @@ fn value(comparer: &mut Comparer) -> i64 {
     }
 }
 
-// ---------------------------------------------------------------- at the brim
+// ---------------------------------------------------------------- full images
 
 /// Full images of the pool: some changes find pages, some don't.
-pub fn brink(comparer: &mut Comparer, pool: &Pool, _: usize) {
+pub fn full_images(comparer: &mut Comparer, pool: &Pool, _: usize) {
     use crate::images::{head, CHANGES};
     let full = pool.tall.iter().filter(|image| image.len() < 100_000 && head(image, CHANGES) > 250);
     for image in full {
