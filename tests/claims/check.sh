@@ -1,17 +1,15 @@
 #!/usr/bin/env bash
-# Every name that docs/CLAIMS.md gives behind a file (`crate/specs/File` `name`, `other`: `field`) is defined in that file, every edit
-# behind `crate/must-fail` is there, and every path of tests/ exists. Prints what is missing, then how many were looked up; fails if one
-# is missing or if there were fewer than asked for.
+# Every name that docs/CLAIMS.md and docs/ARCHITECTURE.md give behind a file (`crate/specs/File` `name`, `other`: `field`) is defined in that
+# file, every edit behind `crate/must-fail` is there, and every path of tests/ exists. The tables of crates in docs/ARCHITECTURE.md have each
+# crate of crates.txt once. Prints what is missing, then how many were looked up; fails if one is missing or if there were fewer than asked for.
 set -u
 cd "$(dirname "$0")/../.." || exit 1
-least=${1:-1000}
 missing=0
-looked=0
 
 lost() { missing=$((missing + 1)); printf 'claims: %s\n' "$1"; }
 
 # One line for each name: its file and the name; "-" for a file or path by itself. A row of a table begins anew, prose goes on.
-names() {
+names() { # DOCUMENT
     awk '/^\|/ || /^$/ { file = "" }
     {
         line = $0
@@ -22,10 +20,10 @@ names() {
             if (token ~ /^crate\//) file = ""
             else if (token ~ /^[a-z_]+\/(specs|src|proofs|must-fail)(\/[A-Za-z_\/]+)?$/) { file = token; print file, "-" }
             else if (token ~ /^tests\//) { file = ""; print token, "-" }
-            else if (file != "" && between ~ /^(:? ?|, ?| and | to )$/) print file, token
+            else if (file != "" && between ~ /^ *(:? ?|, ?| and | to )$/) print file, token
             else file = ""
         }
-    }' docs/CLAIMS.md
+    }' "$1"
 }
 
 # Whether a file defines a name: a definition, a field or a theorem of a specification or a proof; a function or a type of the code.
@@ -36,21 +34,38 @@ defines() { # FILE NAME
     esac
 }
 
-while read -r file name; do
-    looked=$((looked + 1))
-    case $file in
-    tests/*) [ -e "$file" ] || lost "no $file" ;;
-    */must-fail) [ "$name" = - ] || [ -f "crates/$file/$name.edit" ] || lost "no edit $name in $file" ;;
-    *)
-        path=crates/$file.antt
-        [ -f "$path" ] || path=crates/$file.rt
-        if [ ! -f "$path" ]; then
-            lost "no file $file"
-        elif [ "$name" != - ] && ! defines "$path" "$name"; then
-            lost "no $name in $file"
-        fi
-        ;;
-    esac
-done < <(names)
-printf 'claims: %s names and files looked up, %s missing\n' "$looked" "$missing"
-[ "$missing" -eq 0 ] && [ "$looked" -ge "$least" ]
+check() { # DOCUMENT LEAST
+    local file name path looked=0
+    while read -r file name; do
+        looked=$((looked + 1))
+        case $file in
+        tests/*) [ -e "$file" ] || lost "$1: no $file" ;;
+        */must-fail) [ "$name" = - ] || [ -f "crates/$file/$name.edit" ] || lost "$1: no edit $name in $file" ;;
+        *)
+            path=crates/$file.antt
+            [ -f "$path" ] || path=crates/$file.rt
+            if [ ! -f "$path" ]; then
+                lost "$1: no file $file"
+            elif [ "$name" != - ] && ! defines "$path" "$name"; then
+                lost "$1: no $name in $file"
+            fi
+            ;;
+        esac
+    done < <(names "$1")
+    printf 'claims: %s names and files of %s looked up\n' "$looked" "$1"
+    [ "$looked" -ge "$2" ] || lost "$1: fewer than $2"
+}
+
+# A row of a table of crates is one crate's name in its first column, alone.
+crates() {
+    local here there
+    here=$(sed -n 's/^| `\([a-z_]*\)` |.*/\1/p' docs/ARCHITECTURE.md | sort)
+    there=$(sed -e 's/#.*//' -e '/^[[:space:]]*$/d' -e 's/:.*//' crates.txt | sort)
+    [ "$here" = "$there" ] || lost "docs/ARCHITECTURE.md and crates.txt differ: $(diff <(echo "$here") <(echo "$there") | grep '^[<>]' | tr '\n' ' ')"
+}
+
+check docs/CLAIMS.md 1000
+check docs/ARCHITECTURE.md 140
+crates
+printf 'claims: %s missing\n' "$missing"
+[ "$missing" -eq 0 ]
