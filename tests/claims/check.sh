@@ -1,7 +1,7 @@
 #!/usr/bin/env bash
 # Every name that docs/CLAIMS.md and docs/ARCHITECTURE.md give behind a file (`crate/specs/File` `name`, `other`: `field`) is defined in that
-# file, every edit behind `crate/must-fail` is there, and every path of tests/ exists. The tables of crates in docs/ARCHITECTURE.md have each
-# crate of crates.txt once. Prints what is missing, then how many were looked up; fails if one is missing or if there were fewer than asked for.
+# file, every edit behind `crate/must-fail` is there, and every path of tests/ exists. The picture and the tables in docs/ARCHITECTURE.md
+# have each crate of crates.txt once. Prints what is missing, then how many were looked up; fails if one is missing or if there were fewer than asked for.
 set -u
 cd "$(dirname "$0")/../.." || exit 1
 missing=0
@@ -56,12 +56,19 @@ check() { # DOCUMENT LEAST
     [ "$looked" -ge "$2" ] || lost "$1: fewer than $2"
 }
 
-# A row of a table of crates is one crate's name in its first column, alone.
-crates() {
-    local here there
-    here=$(sed -n 's/^| `\([a-z_]*\)` |.*/\1/p' docs/ARCHITECTURE.md | sort)
+# The crates of a list that crates.txt doesn't have (<), and the other way round (>).
+same_crates() { # WHERE LIST
+    local there differ
     there=$(sed -e 's/#.*//' -e '/^[[:space:]]*$/d' -e 's/:.*//' crates.txt | sort)
-    [ "$here" = "$there" ] || lost "docs/ARCHITECTURE.md and crates.txt differ: $(diff <(echo "$here") <(echo "$there") | grep '^[<>]' | tr '\n' ' ')"
+    differ=$(diff <(sort <<<"$2") <(echo "$there") | grep '^[<>]' | tr '\n' ' ')
+    [ -z "$differ" ] || lost "$1 and crates.txt differ: $differ"
+}
+
+# In docs/ARCHITECTURE.md each crate stands once in the picture and has one row in the tables.
+crates() {
+    local other='boundary|code|theory|definitions|include|rust'
+    same_crates 'the picture' "$(sed -n '/^## Layers/,/^What stands/p' docs/ARCHITECTURE.md | grep '^    ' | grep -oE '[a-z_]+' | grep -vxE "$other")"
+    same_crates 'the tables' "$(sed -n 's/^| `\([a-z_]*\)` |.*/\1/p' docs/ARCHITECTURE.md)"
 }
 
 check docs/CLAIMS.md 1000
