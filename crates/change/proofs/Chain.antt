@@ -13,7 +13,7 @@ use Rattle.store.specs.Holding.{Holds, Some, Each}
 use Rattle.store.specs.Supplying.{Countable}
 use Rattle.cut.specs.Ready.{Cuttable}
 use Rattle.spread.specs.Ready.{Spreadable}
-use Rattle.heal.specs.Ready.{Healable}
+use Rattle.heal.specs.Healable.{Healable}
 use Rattle.change.specs.Ready.{task, after-A, after-B, after-C, after-D, after-E, Changeable}
 
 module _ (kind s e : ℕ) (effect : Pair) where

@@ -10,7 +10,7 @@ use Rattle.store.specs.Supplying.{Countable}
 use Rattle.cut.specs.Ready.{Cuttable}
 use Rattle.spread.specs.declared.Task.{Task}
 use Rattle.spread.specs.Ready.{Spreadable}
-use Rattle.heal.specs.Ready.{Healable}
+use Rattle.heal.specs.Healable.{Healable}
 
 module _ (kind s e : ℕ) (effect : Pair) where
   abbrev pub task : Task

@@ -18,7 +18,7 @@ use Rattle.steps.specs.Supply.{entries, put}
 use Rattle.steps.specs.Heal.{heals}
 use Rattle.store.specs.Holding.{Loaded}
 use Rattle.store.specs.Places.{Sought}
-use Rattle.heal.specs.Ready.{Parent, healed-leaf}
+use Rattle.heal.specs.Healable.{Parent, healed-leaf}
 
 -- ---- the place
 

@@ -16,7 +16,7 @@ use Rattle.image.specs.Images.{Image, tree}
 use Rattle.edit.specs.Shows.{Shows}
 use Rattle.steps.specs.Supply.{entries, put, given-back, with-root}
 use Rattle.steps.specs.Heal.{pushed, lowered, shrunk, heal-page, heal}
-use Rattle.siblings.specs.Ready.{Treed}
+use Rattle.heal.specs.Siblings.{Treed}
 
 -- the head that was read leads to the root
 module _ (X : Image) {h : Head} (e : h ≡ X .head) where

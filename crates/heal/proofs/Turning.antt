@@ -11,8 +11,8 @@ use Rattle.page.specs.Entries.{at}
 use Rattle.image.specs.Images.{Image}
 use Rattle.steps.specs.Supply.{entries}
 use Rattle.steps.specs.Heal.{neighbour, left-of, give, merge, turn}
-use Rattle.siblings.specs.Ready.{Treed, Sharable, Mergeable}
-use Rattle.heal.specs.Ready.{Parent, Turnable}
+use Rattle.heal.specs.Siblings.{Treed, Sharable, Mergeable}
+use Rattle.heal.specs.Healable.{Parent, Turnable}
 
 -- ---- the two places, and how many entries the left one has
 

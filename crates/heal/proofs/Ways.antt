@@ -11,7 +11,7 @@ use Rattle.image.specs.Images.{Image}
 use Rattle.steps.specs.Supply.{entries}
 use Rattle.steps.specs.Heal.{short, turn, heal-page}
 use Rattle.store.specs.Places.{Sought}
-use Rattle.heal.specs.Ready.{Parent, Leaf-healable, healed-leaf, child-on, Turnable, Settles, settled, Inner-healable, Page-healable}
+use Rattle.heal.specs.Healable.{Parent, Leaf-healable, healed-leaf, child-on, Turnable, Settles, settled, Inner-healable, Page-healable}
 use Rattle.heal.proofs.Leaves.{sought-parent}
 
 -- ---- a child page that was healed

@@ -1,1 +1,3 @@
-pub mod Ready
+pub mod Siblings
+pub mod Opened
+pub mod Healable

@@ -9,7 +9,7 @@ use store::places::place_of;
 ghost use Rattle.rule.specs.Pairs.{combine};
 ghost use Rattle.steps.specs.Heal.{heal-page, heal};
 ghost use Rattle.store.specs.Holding.{Holds, Some, Each};
-ghost use Rattle.heal.specs.Ready.{Settles, settled, Page-healable, Healable};
+ghost use Rattle.heal.specs.Healable.{Settles, settled, Page-healable, Healable};
 
 // The page q under the i-th entry of page p was healed: if that left it short, it turns to its neighbour.
 fn settle(img: &mut [u8], kind: u32, level: u32, p: u32, i: usize, q: u32)

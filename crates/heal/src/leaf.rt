@@ -13,7 +13,7 @@ ghost use Rattle.rule.specs.Pairs.{same-pair};
 ghost use Rattle.page.specs.Decoded.{shown};
 ghost use Rattle.steps.specs.Heal.{heals};
 ghost use Rattle.store.specs.Holding.{Holds, Some, Each};
-ghost use Rattle.heal.specs.Ready.{Leaf-healable, healed-leaf};
+ghost use Rattle.heal.specs.Healable.{Leaf-healable, healed-leaf};
 
 // Whether two entries have the same pair.
 fn alike(e: Entry, before: Entry) -> bool

@@ -7,8 +7,8 @@ ghost use lib.ListN.{length};
 ghost use Rattle.page.specs.Entries.{at};
 ghost use Rattle.steps.specs.Supply.{entries};
 ghost use Rattle.store.specs.Holding.{Some, Each};
-ghost use Rattle.siblings.specs.Ready.{Treed, Leveled};
-ghost use Rattle.heal.specs.Ready.{Parent};
+ghost use Rattle.heal.specs.Siblings.{Treed, Leveled};
+ghost use Rattle.heal.specs.Healable.{Parent};
 
 // How many entries page p has.
 pub fn number_in(img: &[u8], p: u32) -> usize

@@ -1,7 +1,7 @@
 // "An inner root with one entry combines its pair into its child's entries, is given back, and the child becomes root."
+use crate::both::pushed;
 use crate::reading::number_in;
 use edit::entry::entry_at;
-use siblings::both::pushed;
 use store::heads::head_of;
 use store::pages::load;
 use store::pages::save;
@@ -10,7 +10,7 @@ use store::supply::give_back;
 ghost use Rattle.rule.specs.Pairs.{combine};
 ghost use Rattle.steps.specs.Heal.{lowered, shrunk};
 ghost use Rattle.store.specs.Holding.{Holds, Some, Each};
-ghost use Rattle.heal.specs.Ready.{Lowers, Shrinkable};
+ghost use Rattle.heal.specs.Healable.{Lowers, Shrinkable};
 
 // The root has one entry, whose page becomes root.
 fn lower(img: &mut [u8], kind: u32)

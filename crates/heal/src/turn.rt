@@ -1,8 +1,8 @@
 // "A page other than the root left with 11 turns to its left neighbour under the same parent, else the right."
+use crate::give::give;
+use crate::merge::merge;
 use crate::reading::child_at;
 use crate::reading::number_in;
-use siblings::give::give;
-use siblings::merge::merge;
 ghost use mathlib.Core.Path.{_≡_};
 ghost use mathlib.Core.Bool.{cond};
 ghost use lib.Dec.{eqb, ltb};
@@ -10,7 +10,7 @@ ghost use Prim.Native.Nat.{_-_, _≤_};
 ghost use Rattle.rule.specs.Pairs.{combine};
 ghost use Rattle.steps.specs.Heal.{neighbour, left-of, turn};
 ghost use Rattle.store.specs.Holding.{Holds, Some, Each};
-ghost use Rattle.heal.specs.Ready.{Turnable};
+ghost use Rattle.heal.specs.Healable.{Turnable};
 
 // Whether the page under the i-th entry has a left neighbour: that one is asked.
 fn has_left(i: usize) -> bool

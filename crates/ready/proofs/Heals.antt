@@ -21,8 +21,8 @@ use Rattle.image.specs.Images.{Image}
 use Rattle.steps.specs.Supply.{entries, counted, with-supply}
 use Rattle.steps.specs.Heal.{short, neighbour, left-of, heal-page}
 use Rattle.store.specs.Holding.{Within}
-use Rattle.siblings.specs.Ready.{Treed, Sinkable}
-use Rattle.heal.specs.Ready.{Turnable, Settles, Inner-healable, Page-healable, child-on, Lowerable, Shrinkable, Healable}
+use Rattle.heal.specs.Siblings.{Treed, Sinkable}
+use Rattle.heal.specs.Healable.{Turnable, Settles, Inner-healable, Page-healable, child-on, Lowerable, Shrinkable, Healable}
 use Rattle.tree.specs.Tree.{Ent, Kid, Ents, no-ent, bare}
 use Rattle.tree.specs.Supply.{Supply, with-page}
 use Rattle.tree.specs.Cut.{State, root-ent}

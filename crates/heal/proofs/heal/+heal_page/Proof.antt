@@ -6,7 +6,7 @@ use borrow.Fn.Kinds.{In}
 use borrow.Fn.PlainCycle.{Measures, is, falls, and}
 use native.Mathlib.Omega.{arith}
 use Rattle.store.specs.Holding.{Holds}
-use Rattle.siblings.proofs.Families.{from}
+use Rattle.heal.proofs.Families.{from}
 use Rattle.heal.proofs.Ways.{leaf-ready, leaf-done, inner-sought, inner-parent, inner-went, inner-below, inner-settles, inner-done}
 use Rattle.heal.proofs.heal.heal_page.Reads as heal-page
 use Rattle.heal.proofs.heal.heal_page.Kinds as heal-page-kinds

@@ -11,9 +11,9 @@ use Rattle.image.specs.Images.{Image}
 use Rattle.edit.proofs.Edits.{shows-number}
 use Rattle.steps.specs.Supply.{entries}
 use Rattle.store.specs.Holding.{Holds, Loaded}
-use Rattle.siblings.proofs.Parts.{length-splice}
-use Rattle.siblings.proofs.Families.{loaded-number}
-use Rattle.heal.specs.Ready.{Leaf-healable}
+use Rattle.heal.proofs.Parts.{length-splice}
+use Rattle.heal.proofs.Families.{loaded-number}
+use Rattle.heal.specs.Healable.{Leaf-healable}
 use Rattle.heal.proofs.Leaves.{sought-parent, leaf-kept, leaf-healed}
 use Rattle.heal.proofs.leaf.heal_leaf.Statement.{statement}
 use Rattle.heal.proofs.leaf.heal_leaf.Tie as tie

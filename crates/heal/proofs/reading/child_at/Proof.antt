@@ -2,7 +2,7 @@
 use mathlib.Core.Path.{ap}
 use native.Mathlib.Omega.{arith}
 use Rattle.page.specs.declared.Entry.{Entry}
-use Rattle.siblings.proofs.Families.{loaded-number, loaded-at}
+use Rattle.heal.proofs.Families.{loaded-number, loaded-at}
 use Rattle.heal.proofs.reading.child_at.Statement.{statement}
 use Rattle.heal.proofs.reading.child_at.Tie as tie
 

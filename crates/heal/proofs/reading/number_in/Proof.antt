@@ -1,5 +1,5 @@
 -- `heal::reading::number_in` meets its contract: the number of the page that is read. Assumes nothing.
-use Rattle.siblings.proofs.Families.{loaded-number}
+use Rattle.heal.proofs.Families.{loaded-number}
 use Rattle.heal.proofs.reading.number_in.Statement.{statement}
 use Rattle.heal.proofs.reading.number_in.Tie as tie
 

@@ -11,10 +11,10 @@ use Rattle.steps.specs.Supply.{entries}
 use Rattle.steps.specs.Heal.{pushed}
 use Rattle.store.specs.Holding.{Holds, Loaded}
 use Rattle.store.specs.Supplying.{Givable}
-use Rattle.siblings.specs.Ready.{Sinkable}
-use Rattle.siblings.proofs.Families.{from, loaded-number, loaded-at, pushed-read}
-use Rattle.siblings.proofs.Outcomes.{givable-put}
-use Rattle.heal.specs.Ready.{Lowers}
+use Rattle.heal.specs.Siblings.{Sinkable}
+use Rattle.heal.proofs.Families.{from, loaded-number, loaded-at, pushed-read}
+use Rattle.heal.proofs.Outcomes.{givable-put}
+use Rattle.heal.specs.Healable.{Lowers}
 use Rattle.heal.proofs.Roots.{read-root, read-number, read-entry, lowered-is}
 use Rattle.heal.proofs.shrink.lower.Statement.{statement}
 use Rattle.heal.proofs.shrink.lower.Tie as tie

@@ -8,8 +8,8 @@ use Rattle.page.specs.declared.Head.{Head}
 use Rattle.image.specs.Images.{Image}
 use Rattle.steps.specs.Supply.{entries}
 use Rattle.store.specs.Holding.{Holds}
-use Rattle.siblings.specs.Ready.{Treed, Leveled}
-use Rattle.heal.specs.Ready.{Lowers, Shrinkable}
+use Rattle.heal.specs.Siblings.{Treed, Leveled}
+use Rattle.heal.specs.Healable.{Lowers, Shrinkable}
 use Rattle.heal.proofs.Roots.{read-root, read-number, shrunk-low, shrunk-wide, shrunk-lowered}
 use Rattle.heal.proofs.shrink.shrink.Statement.{statement}
 use Rattle.heal.proofs.shrink.shrink.Tie as tie

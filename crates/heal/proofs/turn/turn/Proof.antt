@@ -9,9 +9,9 @@ use Rattle.image.specs.Images.{Image}
 use Rattle.steps.specs.Supply.{entries}
 use Rattle.steps.specs.Heal.{neighbour}
 use Rattle.store.specs.Holding.{Holds}
-use Rattle.siblings.specs.Ready.{Treed, Leveled}
-use Rattle.siblings.proofs.Families.{from}
-use Rattle.heal.specs.Ready.{Turnable}
+use Rattle.heal.specs.Siblings.{Treed, Leveled}
+use Rattle.heal.proofs.Families.{from}
+use Rattle.heal.specs.Healable.{Turnable}
 use Rattle.heal.proofs.Turning.{turn-neighbour, turn-parent, turn-sharable, turn-mergeable, turn-gave, turn-merged}
 use Rattle.heal.proofs.turn.turn.Statement.{statement}
 use Rattle.heal.proofs.turn.turn.Tie as tie
