@@ -10,7 +10,7 @@ ghost use Rattle.page.specs.Entries.{entry};
 ghost use Rattle.steps.specs.Cut.{raised};
 ghost use Rattle.edit.specs.Shows.{Shows};
 ghost use Rattle.store.specs.Holding.{Holds, Some, Each};
-ghost use Rattle.cut.specs.Ready.{Raisable};
+ghost use Rattle.cut.specs.Cuttable.{Raisable};
 
 // The new root's entries: from 0 on the page that was root, from start on the page q.
 fn new_root(level: u32, root: u32, start: u32, q: u32) -> Page

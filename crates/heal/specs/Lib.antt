@@ -1,3 +1,2 @@
 pub mod Siblings
-pub mod Opened
 pub mod Healable

@@ -5,26 +5,25 @@ use edit::push::push;
 use page::Entry;
 use page::Page;
 use store::pages::load;
-ghost use Prim.Native.Nat.{ℕ};
 ghost use Rattle.rule.specs.Pairs.{combine};
 ghost use Rattle.steps.specs.Heal.{pushed};
-ghost use Rattle.store.specs.Holding.{Some, Each, Any, Loaded};
-ghost use Rattle.heal.specs.Siblings.{Sinkable, Leveled, Siblings};
-ghost use Rattle.heal.specs.Opened.{Opened};
+ghost use Rattle.store.specs.Holding.{Some-level, Each-level, Loaded};
+ghost use Rattle.store.specs.Ready.{Push-ready};
+ghost use Rattle.heal.specs.Siblings.{Siblings, Siblings-read};
 
 // The page under e, the pair of e combined into its entries.
 pub fn pushed(img: &[u8], kind: u32, e: Entry) -> Page
-    requires { ⌜ Some (now img) (Leveled (λ l. Sinkable l e)) ⌝ }
-    ensures { λ r. ⌜ Each (now (img .entry)) Any (λ X. (l : ℕ) → Sinkable l e X → Loaded l (pushed (combine kind) X e) r) ⌝ }
+    requires { ⌜ Some-level (now img) (λ v. Push-ready v e) ⌝ }
+    ensures { λ r. ⌜ Each-level (now (img .entry)) (λ v. Push-ready v e) (λ v X. Loaded v (pushed (combine kind) X e) r) ⌝ }
 {
     let pair = e.pair;
     push(kind, pair, load(img, e.child))
 }
 
 // The pages under the l-th entry of page p and under the next.
-pub fn both(img: &[u8], kind: u32, level: u32, p: u32, l: usize) -> Family
-    requires { ⌜ Some (now img) (Siblings level p l) ⌝ }
-    ensures { λ r. ⌜ Each (now (img .entry)) (Siblings level p l) (λ X. Opened kind level p l X r) ⌝ }
+pub fn both(img: &[u8], kind: u32, p: u32, l: usize) -> Family
+    requires { ⌜ Some-level (now img) (λ v. Siblings v p l) ⌝ }
+    ensures { λ r. ⌜ Each-level (now (img .entry)) (λ v. Siblings v p l) (λ v X. Siblings-read kind v p l X r) ⌝ }
 {
     let parent = load(img, p);
     let a = entry_at(parent, l);

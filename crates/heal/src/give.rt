@@ -7,15 +7,15 @@ use edit::entry::entry_at;
 use store::pages::save;
 ghost use Rattle.rule.specs.Pairs.{combine};
 ghost use Rattle.steps.specs.Heal.{give};
-ghost use Rattle.store.specs.Holding.{Holds, Some, Each};
+ghost use Rattle.store.specs.Holding.{Holds, Some-level, Each-level};
 ghost use Rattle.heal.specs.Siblings.{Sharable};
 
 // Of all entries of the pages under the l-th entry of page p and the next, the left page has k.
-pub fn give(img: &mut [u8], kind: u32, level: u32, p: u32, l: usize, k: usize)
-    requires { ⌜ Some (now img) (Sharable level p l k) ⌝ }
-    ensures { λ _. ⌜ Each (now (img .entry)) (Sharable level p l k) (λ X. Holds (now (img .exit)) (give (combine kind) level p l k X)) ⌝ }
+pub fn give(img: &mut [u8], kind: u32, p: u32, l: usize, k: usize)
+    requires { ⌜ Some-level (now img) (λ v. Sharable v p l k) ⌝ }
+    ensures { λ _. ⌜ Each-level (now (img .entry)) (λ v. Sharable v p l k) (λ v X. Holds (now (img .exit)) (give (combine kind) v p l k X)) ⌝ }
 {
-    let s = both(img, kind, level, p, l);
+    let s = both(img, kind, p, l);
     let a = s.a;
     let b = s.b;
     let left = first_part(s.left, s.right, k);

@@ -10,7 +10,6 @@ pub mod leaf;
 pub mod merge;
 pub mod parents;
 pub mod part;
-pub mod reading;
 pub mod shrink;
 pub mod turn;
 

@@ -6,15 +6,15 @@ use store::pages::save;
 use store::supply::give_back;
 ghost use Rattle.rule.specs.Pairs.{combine};
 ghost use Rattle.steps.specs.Heal.{merge};
-ghost use Rattle.store.specs.Holding.{Holds, Some, Each};
+ghost use Rattle.store.specs.Holding.{Holds, Some-level, Each-level};
 ghost use Rattle.heal.specs.Siblings.{Mergeable};
 
 // The pages under the l-th entry of page p and the next become one.
-pub fn merge(img: &mut [u8], kind: u32, level: u32, p: u32, l: usize)
-    requires { ⌜ Some (now img) (Mergeable level p l) ⌝ }
-    ensures { λ _. ⌜ Each (now (img .entry)) (Mergeable level p l) (λ X. Holds (now (img .exit)) (merge (combine kind) level p l X)) ⌝ }
+pub fn merge(img: &mut [u8], kind: u32, p: u32, l: usize)
+    requires { ⌜ Some-level (now img) (λ v. Mergeable v p l) ⌝ }
+    ensures { λ _. ⌜ Each-level (now (img .entry)) (λ v. Mergeable v p l) (λ v X. Holds (now (img .exit)) (merge (combine kind) v p l X)) ⌝ }
 {
-    let s = both(img, kind, level, p, l);
+    let s = both(img, kind, p, l);
     let a = s.a;
     let b = s.b;
     let all = append(s.left, s.right);

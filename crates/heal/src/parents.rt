@@ -5,43 +5,45 @@ use edit::remove::remove;
 use page::Entry;
 use page::Page;
 use rule::Pair;
-ghost use mathlib.Core.Path.{_≡_};
+ghost use mathlib.Core.List.{[], _∷_};
 ghost use Prim.Native.Nat.{suc, _<_, _≤_};
-ghost use Rattle.rule.specs.Pairs.{none};
-ghost use Rattle.page.specs.Entries.{entry};
+ghost use Rattle.page.specs.Entries.{at, splice};
 ghost use Rattle.page.specs.Decoded.{shown};
 ghost use Rattle.edit.specs.Shows.{Shows};
-ghost use Rattle.heal.specs.Opened.{shared, united};
+ghost use Rattle.heal.specs.Siblings.{emptied, above};
 
-// e with the pair (0, 0), from `start` on.
-fn emptied(e: Entry, start: u32) -> Entry
-    ensures { λ r. ⌜ r ≡ entry start none (e .child) ⌝ }
+// The page with the pair (0, 0) in its i-th entry, from `start` on.
+fn emptied(page: Page, i: usize, start: u32) -> Page
+    requires { ⌜ (i < page .number) × (page .number ≤ 25) ⌝ }
+    ensures { λ r. ⌜ Shows (page .level) (splice i (emptied start (at (shown page) i) ∷ []) (shown page)) r ⌝ }
 {
+    let e = entry_at(page, i);
     let pair = Pair { sum: 0, count: 0 };
-    Entry {
-        start,
-        pair,
-        child: e.child,
-    }
+    replace(
+        page,
+        i,
+        Entry {
+            start,
+            pair,
+            child: e.child,
+        },
+    )
 }
 
 // The page above two siblings that share their entries anew: the right page starts at `start`.
 pub fn shared(parent: Page, l: usize, start: u32) -> Page
     requires { ⌜ (suc l < parent .number) × (parent .number ≤ 25) ⌝ }
-    ensures { λ r. ⌜ Shows (parent .level) (shared l start (shown parent)) r ⌝ }
+    ensures { λ r. ⌜ Shows (parent .level) (above l (emptied start (at (shown parent) (suc l)) ∷ []) (shown parent)) r ⌝ }
 {
     let a = entry_at(parent, l);
-    let b = entry_at(parent, l + 1);
-    let followed = replace(parent, l + 1, emptied(b, start));
-    replace(followed, l, emptied(a, a.start))
+    emptied(emptied(parent, l + 1, start), l, a.start)
 }
 
 // The page above two siblings that are one page now.
 pub fn united(parent: Page, l: usize) -> Page
     requires { ⌜ (suc l < parent .number) × (parent .number ≤ 25) ⌝ }
-    ensures { λ r. ⌜ Shows (parent .level) (united l (shown parent)) r ⌝ }
+    ensures { λ r. ⌜ Shows (parent .level) (above l [] (shown parent)) r ⌝ }
 {
     let a = entry_at(parent, l);
-    let without = remove(parent, l + 1);
-    replace(without, l, emptied(a, a.start))
+    emptied(remove(parent, l + 1), l, a.start)
 }

@@ -9,7 +9,7 @@ ghost use Prim.Native.Nat.{min};
 ghost use lib.ListN.{take, drop};
 ghost use Rattle.page.specs.Decoded.{shown};
 ghost use Rattle.edit.specs.Shows.{Shows};
-ghost use Rattle.heal.specs.Opened.{Parted};
+ghost use Rattle.heal.specs.Siblings.{Parted};
 
 // The smaller of two numbers.
 fn lesser(k: usize, n: usize) -> usize

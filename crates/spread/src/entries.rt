@@ -10,7 +10,7 @@ ghost use Prim.Native.Nat.{suc, _<_, _≤_};
 ghost use lib.ListN.{drop};
 ghost use Rattle.page.specs.Decoded.{shown};
 ghost use Rattle.steps.specs.Spread.{inside, meets, start-of};
-ghost use Rattle.spread.specs.Ready.{took-by, Takes};
+ghost use Rattle.spread.specs.Spreadable.{took-by, Takes};
 
 // Whether [lo, hi) lies wholly inside [s, e).
 pub fn inside(s: u32, e: u32, lo: u32, hi: u32) -> bool

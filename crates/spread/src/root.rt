@@ -3,7 +3,7 @@ use crate::Task;
 use crate::pages::spread_page;
 use store::heads::head_of;
 ghost use Rattle.store.specs.Holding.{Holds, Some, Each};
-ghost use Rattle.spread.specs.Ready.{spread-by, Spreadable};
+ghost use Rattle.spread.specs.Spreadable.{spread-by, Spreadable};
 
 // The whole step: the root ends at END.
 pub fn spread(img: &mut [u8], q: Task)

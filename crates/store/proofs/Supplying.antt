@@ -10,8 +10,8 @@ use borrow.Author.Tests.{eq-eqb, ne-eqb}
 use Rattle.page.specs.declared.Head.{Head}
 use Rattle.image.specs.Images.{Image, Cell, free, next-in}
 use Rattle.steps.specs.Supply.{put, with-supply, spare, taken, given-back, with-root, counted}
-use Rattle.store.specs.Holding.{Holds, Some, Each, Any, Within, with-head}
-use Rattle.store.specs.Supplying.{Free, Takable}
+use Rattle.store.specs.Holding.{Holds, Some, Each, Any, with-head}
+use Rattle.store.specs.Ready.{In-image, Free, Takable}
 
 -- ---- a head that was read
 
@@ -61,29 +61,29 @@ module _ (X : Image) (e : X .head .chain ≡ 0 → ⊥) where
 pub marked-below : {X : Image} → X .head .chain ≡ 0 → Takable X → X .head .mark < X .head .pages
 marked-below {X} e t = omega (arith, spare-marked X e, t .within .below)
 
-pub chained-within : {X : Image} → (X .head .chain ≡ 0 → ⊥) → Takable X → Within (X .head .free) X
-chained-within {X} e t = subst (λ p. Within p X) (sym (spare-chained X e)) (t .within)
+pub chained-within : {X : Image} → (X .head .chain ≡ 0 → ⊥) → Takable X → In-image (X .head .free) X
+chained-within {X} e t = subst (λ p. In-image p X) (sym (spare-chained X e)) (t .within)
 
 -- ---- the image keeps its pages' number
 
-module _ {q : ℕ} {X : Image} (w : Within q X) where
-  pub within-put : (p : ℕ) (c : Cell) → Within q (put p c X)
+module _ {q : ℕ} {X : Image} (w : In-image q X) where
+  pub within-put : (p : ℕ) (c : Cell) → In-image q (put p c X)
   unfolding put
   within-put p c = record { least = w .least; below = w .below }
 
-  pub within-taken : Within q (taken X)
+  pub within-taken : In-image q (taken X)
   unfolding taken with-supply
   within-taken = pick (eqb (X .head .chain) 0)
     where
-      pick : (b : Bool) → Within q (with-head (cond b (with-supply (X .head .free) (X .head .chain) (suc (X .head .mark)) (X .head)) (with-supply (next-in (X .page (X .head .free))) (X .head .chain - 1) (X .head .mark) (X .head))) X)
+      pick : (b : Bool) → In-image q (with-head (cond b (with-supply (X .head .free) (X .head .chain) (suc (X .head .mark)) (X .head)) (with-supply (next-in (X .page (X .head .free))) (X .head .chain - 1) (X .head .mark) (X .head))) X)
       pick true = record { least = w .least; below = w .below }
       pick false = record { least = w .least; below = w .below }
 
-  pub within-given : (p : ℕ) → Within q (given-back p X)
+  pub within-given : (p : ℕ) → In-image q (given-back p X)
   unfolding given-back put with-supply
   within-given p = record { least = w .least; below = w .below }
 
-  pub within-rooted : (height p : ℕ) → Within q (with-root height p X)
+  pub within-rooted : (height p : ℕ) → In-image q (with-root height p X)
   unfolding with-root
   within-rooted height p = record { least = w .least; below = w .below }
 

@@ -1,5 +1,5 @@
 -- `heal::both::both` meets its contract: the page above is read, then the pages under its two entries. Assumes nothing.
-use mathlib.Core.Path.{_≡_, sym, ap, _∙_, subst}
+use mathlib.Core.Path.{_≡_, ap, _∙_, subst⁻¹}
 use Prim.Native.Nat.{ℕ, suc, _<_, _≤_}
 use native.Mathlib.Numerals.{add-one}
 use native.Mathlib.Omega.{arith}
@@ -7,15 +7,16 @@ use Rattle.page.specs.Entries.{at}
 use Rattle.image.specs.Images.{Image}
 use Rattle.steps.specs.Supply.{entries}
 use Rattle.store.specs.Holding.{Holds, Loaded}
-use Rattle.heal.specs.Siblings.{Sinkable, Siblings}
-use Rattle.heal.proofs.Families.{from, loaded-number, loaded-at, pushed-read}
+use Rattle.store.specs.Ready.{Push-ready}
+use Rattle.store.proofs.Holding.{from}
+use Rattle.store.proofs.Reading.{loaded-number, loaded-at}
+use Rattle.heal.specs.Siblings.{Siblings}
+use Rattle.heal.proofs.Families.{pushed-read}
 use Rattle.heal.proofs.both.both.Statement.{statement}
 use Rattle.heal.proofs.both.both.Tie as tie
 
 load-requires : tie.Need-load-requires
-load-requires c κs =
-    let pre = c .before .pre in
-    record { image = pre .image; holds = pre .holds; ready = pre .ready .parent .within }
+load-requires c κs = from (c .before .pre) (λ X h s. record { image = X; holds = h; ready = s .1 .parent .treed .within })
 
 -- ---- the page above and its two entries, of every image that the bytes hold
 
@@ -23,22 +24,22 @@ abbrev start : tie.After-load → tie.Start
 start c = c .before .before
 
 module _ (c : tie.After-load) (X : Image) (h : Holds (start c .args .img .now) X)
-    (s : Siblings (start c .args .level) (start c .args .p) (start c .args .l) X) where
-  above : Loaded (suc (start c .args .level)) (entries X (start c .args .p)) (c .load .result)
-  above = c .load .ensures X h (s .parent .within) _ _ (s .parent .page)
+    {v : ℕ} (s : Siblings v (start c .args .p) (start c .args .l) X) where
+  above : Loaded (suc v) (entries X (start c .args .p)) (c .load .result)
+  above = c .load .ensures X h _ (s .parent .treed)
 
 known : (c : tie.After-load) → (suc (start c .args .l) < c .load .result .number) × (c .load .result .number ≤ 25)
 known c =
     from (start c .pre)
     (λ X h s.
-    let n = above c X h s in
-    (omega (arith, loaded-number n, s .both), omega (arith, n .few)))
+    let n = above c X h (s .1) in
+    (omega (arith, loaded-number n, s .1 .parent .inside), omega (arith, n .few)))
 
 abbrev load : tie.After-entry-at2 → tie.After-load
 load c = c .before .before
 
 module _ (c : tie.After-entry-at2) (X : Image) (h : Holds (start (load c) .args .img .now) X)
-    (s : Siblings (start (load c) .args .level) (start (load c) .args .p) (start (load c) .args .l) X) where
+    {v : ℕ} (s : Siblings v (start (load c) .args .p) (start (load c) .args .l) X) where
   first : c .before .entry-at .result ≡ at (entries X (start (load c) .args .p)) (start (load c) .args .l)
   first = loaded-at _ (above (load c) X h s) (c .before .entry-at .ensures)
 
@@ -51,33 +52,29 @@ module _ (c : tie.After-entry-at2) (X : Image) (h : Holds (start (load c) .args 
 
 pushed-requires : tie.Need-pushed-requires
 pushed-requires c κs =
-    let level : ℕ = start (load c) .args .level in
     from (start (load c) .pre)
     (λ X h s.
-    let sinks = subst (λ a. Sinkable level a X) (sym (first c X h s)) (s .left) in
-    record { image = X; holds = h; ready = record { level = level; ready = sinks } })
+    let (v, k) = s in
+    record { image = X; holds = h; ready = (v, subst⁻¹ (λ a. Push-ready v a X) (first c X h k) (k .left)) })
 
 pushed-requires-2 : tie.Need-pushed-requires-2
 pushed-requires-2 c κs =
-    let read = c .before in
-    let level : ℕ = start (load read) .args .level in
-    from (start (load read) .pre)
+    from (start (load (c .before)) .pre)
     (λ X h s.
-    let sinks = subst (λ a. Sinkable level a X) (sym (second read X h s)) (s .right) in
-    record { image = X; holds = h; ready = record { level = level; ready = sinks } })
+    let (v, k) = s in
+    record { image = X; holds = h; ready = (v, subst⁻¹ (λ a. Push-ready v a X) (second (c .before) X h k) (k .right)) })
 
 returns : tie.Need-returns
-returns c X h s =
+returns c X h v s =
     let one = c .before in
     let read = one .before in
-    let level : ℕ = start (load read) .args .level in
     let kind : ℕ = start (load read) .args .kind in
     record {
       parent = above (load read) X h s;
       a = first read X h s;
       b = second read X h s;
-      left = pushed-read kind (first read X h s) (one .pushed .ensures X h tt level) (s .left);
-      right = pushed-read kind (second read X h s) (c .pushed2 .ensures X h tt level) (s .right);
+      left = pushed-read kind (first read X h s) (one .pushed .ensures X h v) (s .left);
+      right = pushed-read kind (second read X h s) (c .pushed2 .ensures X h v) (s .right);
     }
 
 pub both-spec : {M : Type 1} → statement M

@@ -8,7 +8,7 @@ use Rattle.page.specs.declared.Head.{Head}
 use Rattle.image.specs.Images.{Image}
 use Rattle.steps.specs.Heal.{heal-page}
 use Rattle.store.specs.Holding.{Holds}
-use Rattle.heal.proofs.Families.{from}
+use Rattle.store.proofs.Holding.{from}
 use Rattle.heal.specs.Healable.{Page-healable, Shrinkable, Healable}
 use Rattle.heal.proofs.Roots.{healed-is}
 use Rattle.heal.proofs.heal.heal.Statement.{statement}

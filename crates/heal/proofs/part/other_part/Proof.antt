@@ -1,39 +1,29 @@
 -- `heal::part::other_part` meets its contract: what is left of p, then of q. Assumes nothing.
-use mathlib.Core.Path.{_≡_, sym, ap, _∙_}
-use mathlib.Core.List.{List}
-use Prim.Native.Nat.{ℕ, _-_, min}
+use mathlib.Core.List.{_++_}
 use borrow.Author.Needs.{needs}
 use native.Mathlib.Omega.{arith}
-use lib.ListN.{length, length-drop}
-use Rattle.page.specs.declared.Entry.{Entry}
+use lib.ListN.{drop, length-append, length-drop}
 use Rattle.page.specs.Decoded.{shown}
 use Rattle.page.proofs.Laws.Decoded.{length-shown}
-use Rattle.edit.proofs.Edits.{shows-number}
 use Rattle.heal.proofs.Parts.{drop-part}
-use Rattle.heal.proofs.Families.{shows-joined}
+use Rattle.heal.proofs.Families.{part-number, part-joined}
 use Rattle.heal.proofs.part.other_part.Statement.{statement}
 use Rattle.heal.proofs.part.other_part.Tie as tie
 
 append-requires : tie.Need-append-requires
 append-requires c κs =
-    let args = c .before .before .before .args in
-    let m : ℕ = c .before .before .lesser .result in
-    let p : List Entry = shown (args .p) in
-    let q : List Entry = shown (args .q) in
-    let x = shows-number (c .before .rest-of .ensures) in
-    let y = shows-number (c .rest-of2 .ensures) in
-    omega (arith, length-drop m p, length-drop (args .k - m) q, length-shown (args .p), length-shown (args .q))
+    let least = c .before .before in
+    let args = least .before .args in
+    let n = part-number drop drop-part (args .p) (args .q) (args .k) (least .lesser .ensures) (c .before .rest-of .ensures) (c .rest-of2 .ensures) in
+    let all = length-drop (args .k) (shown (args .p) ++ shown (args .q)) in
+    omega (arith, n, length-append (shown (args .p)) (shown (args .q)), length-shown (args .p), length-shown (args .q))
 
 returns : tie.Need-returns
 returns c =
     let least = c .before .before .before in
     let args = least .before .args in
-    let p : List Entry = shown (args .p) in
-    let q : List Entry = shown (args .q) in
-    let e : least .lesser .result ≡ min (args .k) (length p) =
-    least .lesser .ensures ∙ ap (min (args .k)) (sym (length-shown (args .p))) in
-    shows-joined (c .before .before .rest-of .ensures) (c .before .rest-of2 .ensures) (c .append .ensures)
-    (sym (drop-part (args .k) p q _ e))
+    part-joined drop drop-part (args .p) (args .q) (args .k) (least .lesser .ensures) (c .before .before .rest-of .ensures) (c .before .rest-of2 .ensures)
+    (c .append .ensures)
 
 pub other-part-spec : {M : Type 1} → statement M
 other-part-spec =

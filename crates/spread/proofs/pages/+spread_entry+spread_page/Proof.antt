@@ -126,7 +126,7 @@ pub +spread-entry+spread-page-spec : {M : Type 1} → statement M
       save-reads.Learnt,
     ) (spread-page-at t) spread-page.Post Inv-loop μ-loop
     -- load-requires
-    (λ c κs. let s = c .before .before .pre .1 .1 in record { image = s .image; holds = s .holds; ready = s .ready .within })
+    (λ c κs. let s = c .before .before .pre .1 .1 in record { image = s .image; holds = s .holds; ready = s .ready .treed .within })
     -- loop-holds
     (λ c. turns.none _ _ _ _ (c .before .before .before .pre .1 .1) (c .load .ensures))
     -- entry-at-requires

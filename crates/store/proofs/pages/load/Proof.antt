@@ -4,5 +4,4 @@ use Rattle.store.proofs.pages.load.Statement.{statement}
 use Rattle.store.proofs.pages.load.Tie as tie
 
 pub load-spec : {M : Type 1} → statement M
-load-spec =
-    tie.close (tie.spec (λ c κs. some-long (c .before .pre)) (λ c X h w l es e. holds-tree h w e (c .read-page-at .ensures)))
+load-spec = tie.close (tie.spec (λ c κs. some-long (c .before .pre)) (λ c X h l t. holds-tree h t (c .read-page-at .ensures)))

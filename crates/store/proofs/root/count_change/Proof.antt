@@ -5,7 +5,7 @@ use native.Mathlib.Numerals.{add-one}
 use native.Mathlib.Omega.{arith}
 use Rattle.steps.specs.Supply.{counted}
 use Rattle.store.specs.Holding.{Holds}
-use Rattle.store.specs.Supplying.{Countable}
+use Rattle.store.specs.Ready.{Countable}
 use Rattle.store.proofs.Supplying.{by-head, Headed, some-headed, counted-is}
 use Rattle.store.proofs.root.count_change.Statement.{statement}
 use Rattle.store.proofs.root.count_change.Tie as tie

@@ -4,8 +4,8 @@ use borrow.Author.Needs.{needs}
 use native.Mathlib.Omega.{arith}
 use Rattle.steps.specs.Supply.{with-supply, given-back}
 use Rattle.image.specs.Images.{Image}
-use Rattle.store.specs.Holding.{Holds, Within}
-use Rattle.store.specs.Supplying.{Givable}
+use Rattle.store.specs.Holding.{Holds}
+use Rattle.store.specs.Ready.{Givable}
 use Rattle.store.proofs.Supplying.{by-head, Headed, some-headed, given-back-is}
 use Rattle.store.proofs.supply.give_back.Statement.{statement}
 use Rattle.store.proofs.supply.give_back.Tie as tie

@@ -4,8 +4,8 @@ use Prim.Native.Nat.{_≤_}
 use borrow.Author.Needs.{needs}
 use native.Mathlib.Omega.{arith}
 use Rattle.steps.specs.Supply.{with-supply, spare, taken}
-use Rattle.store.specs.Holding.{Holds, Within}
-use Rattle.store.specs.Supplying.{Takable}
+use Rattle.store.specs.Holding.{Holds}
+use Rattle.store.specs.Ready.{Takable}
 use Rattle.store.proofs.Supplying.{by-head, Headed, some-headed, spare-marked, taken-marked, spare-chained, taken-chained, marked-below, chained-within}
 use Rattle.store.proofs.supply.take.Statement.{statement}
 use Rattle.store.proofs.supply.take.Tie as tie

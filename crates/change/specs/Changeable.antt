@@ -6,10 +6,10 @@ use Rattle.image.specs.Images.{Image}
 use Rattle.steps.specs.Cut.{cut}
 use Rattle.steps.specs.Spread.{spread}
 use Rattle.steps.specs.Heal.{heal}
-use Rattle.store.specs.Supplying.{Countable}
-use Rattle.cut.specs.Ready.{Cuttable}
+use Rattle.store.specs.Ready.{Countable}
+use Rattle.cut.specs.Cuttable.{Cuttable}
 use Rattle.spread.specs.declared.Task.{Task}
-use Rattle.spread.specs.Ready.{Spreadable}
+use Rattle.spread.specs.Spreadable.{Spreadable}
 use Rattle.heal.specs.Healable.{Healable}
 
 module _ (kind s e : ℕ) (effect : Pair) where

@@ -8,10 +8,10 @@ use Rattle.rule.specs.Pairs.{combine}
 use Rattle.rule.specs.Bounds.{Combinable}
 use Rattle.rule.specs.Time.{END}
 use Rattle.page.specs.declared.Entry.{Entry}
-use Rattle.image.specs.Images.{Image, tree}
+use Rattle.image.specs.Images.{Image}
 use Rattle.steps.specs.Supply.{entries}
 use Rattle.steps.specs.Spread.{inside, meets, start-of, took, sent, spread-page, spread}
-use Rattle.store.specs.Holding.{Within}
+use Rattle.store.specs.Ready.{Tree-page}
 use Rattle.spread.specs.declared.Task.{Task}
 
 -- ---- the step's definitions at a task
@@ -50,31 +50,30 @@ pub record Sends (q : Task) (below : ℕ → ℕ → Image → Type 0) (hi : ℕ
   pub ready : inside-by q hi x ≡ false → meets-by q hi x ≡ true → below hi (x .child) X
 
 -- the entries of a page of that level, in turn, each in the image as those before it leave it
-unfoldable pub Entries-ready : Task → (ℕ → ℕ → Image → Type 0) → ℕ → ℕ → List Entry → Image → Type 0
-Entries-ready q below level hi [] X = Unit {0}
-Entries-ready q below level hi (x ∷ xs) X =
+unfoldable pub Entries-spreadable : Task → (ℕ → ℕ → Image → Type 0) → ℕ → ℕ → List Entry → Image → Type 0
+Entries-spreadable q below level hi [] X = Unit {0}
+Entries-spreadable q below level hi (x ∷ xs) X =
     let end = start-of hi xs in
-    Takes q end x × Sends q below end x X × Entries-ready q below level hi xs (sent-by q level end x X)
+    Takes q end x × Sends q below end x X × Entries-spreadable q below level hi xs (sent-by q level end x X)
 
 -- page p is a tree page of that level, and its entries are ready
-pub record Over-ready (q : Task) (below : ℕ → ℕ → Image → Type 0) (level hi p : ℕ) (X : Image) : Type 0 where
-  pub within : Within p X
-  pub is : X .page p ≡ tree level (entries X p)
-  pub each : Entries-ready q below level hi (entries X p) X
+pub record Page-over (q : Task) (below : ℕ → ℕ → Image → Type 0) (level hi p : ℕ) (X : Image) : Type 0 where
+  pub treed : Tree-page level p X
+  pub each : Entries-spreadable q below level hi (entries X p) X
 
 -- the page below an entry of a page of that level; a leaf has none
-unfoldable pub Below-ready : Task → ℕ → ℕ → ℕ → Image → Type 0
-Below-ready q zero hi p X = Unit {0}
-Below-ready q (suc l) hi p X = Over-ready q (λ end c Y. Below-ready q l end c Y) l hi p X
+unfoldable pub Below-spreadable : Task → ℕ → ℕ → ℕ → Image → Type 0
+Below-spreadable q zero hi p X = Unit {0}
+Below-spreadable q (suc l) hi p X = Page-over q (λ end c Y. Below-spreadable q l end c Y) l hi p X
 
-abbrev pub Page-ready : Task → ℕ → ℕ → ℕ → Image → Type 0
-Page-ready q level = Over-ready q (Below-ready q level) level
+abbrev pub Page-spreadable : Task → ℕ → ℕ → ℕ → Image → Type 0
+Page-spreadable q level = Page-over q (Below-spreadable q level) level
 
-abbrev pub Entry-ready : Task → ℕ → ℕ → Entry → Image → Type 0
-Entry-ready q level = Sends q (Below-ready q level)
+abbrev pub Entry-spreadable : Task → ℕ → ℕ → Entry → Image → Type 0
+Entry-spreadable q level = Sends q (Below-spreadable q level)
 
 -- "from the root"
 pub record Spreadable (q : Task) (X : Image) : Type 0 where
   pub least : 1 ≤ X .head .height
   pub most : X .head .height ≤ 4
-  pub root : Page-ready q (X .head .height - 1) END (X .head .root) X
+  pub root : Page-spreadable q (X .head .height - 1) END (X .head .root) X
