@@ -28,11 +28,11 @@ pub fn together(a: Need, b: Need) -> Need
 }
 
 // "25 entries split: the page keeps 12, a taken page gets 13, the parent gains an entry": a page of n entries that gains some.
-pub fn settle(n: u32, below: Need) -> Need
+pub fn settle(n: usize, below: Need) -> Need
     requires { ⌜ (n ≤ 24) × Small below ⌝ }
     ensures { λ r. ⌜ r ≡ settle 12 n below ⌝ }
 {
-    if n + below.adds <= 24 {
+    if n + below.adds as usize <= 24 {
         return Need {
             adds: 0,
             pages: below.pages,
