@@ -1,6 +1,8 @@
 // "it has 12 to 24 entries (root leaf 1 to 24, inner root 2 to 24)"
 use super::Place;
 use page::at::number_of;
+use page::layout::FEWEST_ENTRIES;
+use page::layout::MOST_ENTRIES;
 ghost use mathlib.Core.Path.{_≡_};
 ghost use lib.ListN.{length};
 ghost use Rattle.page.specs.Fit.{fewest, number-ok};
@@ -11,7 +13,7 @@ fn fewest(at: Place) -> u32
     ensures { λ r. ⌜ r ≡ fewest 12 (place-of at) ⌝ }
 {
     if !at.is_root {
-        return 12;
+        return FEWEST_ENTRIES;
     }
     if at.level == 0 { 1 } else { 2 }
 }
@@ -22,5 +24,5 @@ pub fn number_ok(s: &[u8], at: Place) -> bool
     ensures { λ r. ⌜ r ≡ number-ok 12 (place-of at) (now (s .entry)) ⌝ }
 {
     let number = number_of(s);
-    (fewest(at) <= number) & (number <= 24)
+    (fewest(at) <= number) & (number <= MOST_ENTRIES)
 }

@@ -7,6 +7,8 @@ use page::Head;
 use page::at::pair_at;
 use rule::Pair;
 use rule::combine::is_none;
+use rule::limits::MOST_VALUE;
+use rule::limits::TOTALS;
 use rule::time::in_range;
 ghost use mathlib.Core.Path.{_≡_};
 ghost use Rattle.page.specs.Fit.{pair-ok, pairs-ok};
@@ -17,11 +19,11 @@ fn pair_ok(h: Head, at: Place, p: Pair) -> bool
     requires { ⌜ Bounded (place-of at) ⌝ }
     ensures { λ r. ⌜ r ≡ pair-ok h (place-of at) p ⌝ }
 {
-    if h.kind == 1 {
+    if h.kind == TOTALS {
         let changes = h.changes as u64;
         let sums = at.sums + magnitude(p.sum);
         let counts = at.counts + magnitude32(p.count);
-        return (sums <= 1000000 * changes) & (counts <= changes);
+        return (sums <= MOST_VALUE * changes) & (counts <= changes);
     }
     is_none(p) | (in_range(p.sum) & (p.count == 1))
 }

@@ -6,6 +6,7 @@ use page::Head;
 use page::at::number_of;
 use page::at::pair_at;
 use page::at::start_at;
+use rule::limits::END;
 ghost use mathlib.Core.Path.{_≡_};
 ghost use Prim.Native.Nat.{_≤_, _<_};
 ghost use lib.ListN.{length};
@@ -22,7 +23,7 @@ pub fn root_place(h: Head) -> Place
         level: h.height - 1,
         is_root: true,
         lo: 0,
-        hi: 4294967295,
+        hi: END,
         sums: 0,
         counts: 0,
     }

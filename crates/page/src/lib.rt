@@ -6,11 +6,13 @@
 //     32   24 × 4  starts (u32)
 //     128  24 × 16 entries: sum (i64), count (i32), child (u32, 0 in a leaf)
 // A free page has 255 as its level and its next page at 4; the head has nine u32. All other bytes are FF.
+use layout::SLOTS;
 use rule::Pair;
 
 pub mod at;
 pub mod blank;
 pub mod heads;
+pub mod layout;
 pub mod read;
 pub mod write;
 
@@ -39,8 +41,8 @@ pub struct Head {
 pub struct Page {
     pub level: u32,
     pub number: usize,
-    pub starts: [u32; 25],
-    pub sums: [i64; 25],
-    pub counts: [i32; 25],
-    pub children: [u32; 25],
+    pub starts: [u32; SLOTS],
+    pub sums: [i64; SLOTS],
+    pub counts: [i32; SLOTS],
+    pub children: [u32; SLOTS],
 }
