@@ -3,11 +3,11 @@ use fields::fill::UNUSED_BYTE;
 use fields::fill::fill;
 use page::Head;
 use page::Page;
-use page::heads::write_head;
 use page::layout::LEAST_MARK;
 use page::layout::PAGE_BYTES;
 use page::layout::SLOTS;
-use page::write::write_page_at;
+use page::pages::write_head_at;
+use page::pages::write_page_at;
 ghost use mathlib.Core.Path.{_≡_};
 ghost use mathlib.Core.Bool.{true};
 ghost use mathlib.Core.List.{[], _∷_};
@@ -38,7 +38,7 @@ fn write_fresh_head(img: &mut [u8], pages: u32, kind: u32, window: u32)
         window,
         changes: 0,
     };
-    write_head(&mut img[0..PAGE_BYTES], h)
+    write_head_at(img, h)
 }
 
 // Writes the root on page 1: "a leaf with entry 0, (0, 0)".

@@ -13,6 +13,7 @@ pub mod at;
 pub mod blank;
 pub mod heads;
 pub mod layout;
+pub mod pages;
 pub mod read;
 pub mod write;
 
@@ -45,4 +46,15 @@ pub struct Page {
     pub sums: [i64; SLOTS],
     pub counts: [i32; SLOTS],
     pub children: [u32; SLOTS],
+}
+
+// A page's place in the tree: the level expected there, whether it is the root's, the span of the entry that leads to it,
+// and what the absolute sums and counts of the entries above it add to.
+pub struct Place {
+    pub level: u32,
+    pub is_root: bool,
+    pub lo: u32,
+    pub hi: u32,
+    pub sums: u64,
+    pub counts: u64,
 }

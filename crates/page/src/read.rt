@@ -7,12 +7,9 @@ use super::at::number_of;
 use super::at::start_at;
 use super::at::sum_at;
 use super::layout::CAPACITY;
-use super::layout::PAGE_BYTES;
 use super::layout::SLOTS;
 ghost use mathlib.Core.Path.{_≡_};
-ghost use Prim.Native.Nat.{_+_, _*_, _≤_};
 ghost use lib.ListN.{length};
-ghost use Rattle.fields.specs.Bytes.{part};
 ghost use Rattle.page.specs.Decoded.{Read};
 
 // The page as a struct: all 24 places are read, whatever the number is.
@@ -40,14 +37,4 @@ pub fn read_page(s: &[u8]) -> Page
         counts,
         children,
     }
-}
-
-// The n-th page of an image as a struct.
-pub fn read_page_at(img: &[u8], n: usize) -> Page
-    requires { ⌜ 512 * n + 512 ≤ length (now img) ⌝ }
-    ensures { λ r. ⌜ Read r (part (now (img .entry)) (512 * n) 512) ⌝ }
-{
-    let a = PAGE_BYTES * n;
-    let e = a + PAGE_BYTES;
-    read_page(&img[a..e])
 }

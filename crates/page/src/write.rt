@@ -5,16 +5,14 @@ use super::layout::CHILD_IN_ENTRY;
 use super::layout::COUNT_IN_ENTRY;
 use super::layout::ENTRIES_OFFSET;
 use super::layout::ENTRY_BYTES;
-use super::layout::PAGE_BYTES;
 use super::layout::START_BYTES;
 use super::layout::STARTS_OFFSET;
 use fields::write::put_i32;
 use fields::write::put_i64;
 use fields::write::put_u32;
 ghost use mathlib.Core.Path.{_≡_};
-ghost use Prim.Native.Nat.{_+_, _*_, _≤_, _<_};
+ghost use Prim.Native.Nat.{_≤_, _<_};
 ghost use lib.ListN.{length};
-ghost use Rattle.fields.specs.Bytes.{patch};
 ghost use Rattle.page.specs.Entries.{entry};
 ghost use Rattle.page.specs.Layout.{with-entry, tree-bytes};
 ghost use Rattle.page.specs.Decoded.{shown};
@@ -42,14 +40,4 @@ pub fn write_page(s: &mut [u8], p: Page)
         write_entry(s, i, p.starts[i], p.sums[i], p.counts[i], p.children[i]);
         i += 1;
     }
-}
-
-// Writes a tree page as the n-th page of an image.
-pub fn write_page_at(img: &mut [u8], n: usize, p: Page)
-    requires { ⌜ (512 * n + 512 ≤ length (now img)) × (p .number ≤ 24) ⌝ }
-    ensures { λ _. ⌜ now (img .exit) ≡ patch (now (img .entry)) (512 * n) (tree-bytes 12 (p .level) (shown p)) ⌝ }
-{
-    let a = PAGE_BYTES * n;
-    let e = a + PAGE_BYTES;
-    write_page(&mut img[a..e], p)
 }

@@ -1,4 +1,4 @@
-// Instants, values, kinds and windows. Document 01, "Time and value".
+// Instants, spans, values, kinds and windows. Document 01, "Time and value".
 use crate::limits::END;
 use crate::limits::END_WIDE;
 use crate::limits::LEAST;
@@ -7,7 +7,7 @@ use crate::limits::MOST_WINDOW;
 use crate::limits::TOTALS;
 use crate::numbers::magnitude;
 ghost use mathlib.Core.Path.{_≡_};
-ghost use Rattle.rule.specs.Time.{value-ok, kind-ok, window-ok, lengthened};
+ghost use Rattle.rule.specs.Time.{value-ok, kind-ok, window-ok, lengthened, overlaps};
 
 // Whether a number is a value.
 pub fn in_range(v: i64) -> bool
@@ -36,4 +36,11 @@ pub fn lengthened(e: u32, w: u32) -> u32
 {
     let sum = e as u64 + w as u64;
     if sum < END_WIDE { sum as u32 } else { END }
+}
+
+// Whether the spans [a, b) and [lo, hi) have an instant in common.
+pub fn overlaps(a: u32, b: u32, lo: u32, hi: u32) -> bool
+    ensures { λ r. ⌜ r ≡ overlaps a b lo hi ⌝ }
+{
+    (lo < b) & (a < hi)
 }

@@ -9,7 +9,7 @@ ghost use mathlib.Core.Bool.{true};
 ghost use Prim.Native.Nat.{suc, _<_, _≤_};
 ghost use lib.ListN.{drop};
 ghost use Rattle.page.specs.Decoded.{shown};
-ghost use Rattle.steps.specs.Spread.{inside, meets, start-of};
+ghost use Rattle.steps.specs.Spread.{inside, start-of};
 ghost use Rattle.spread.specs.Ready.{took-by, Takes};
 
 // Whether [lo, hi) lies wholly inside [s, e).
@@ -17,13 +17,6 @@ pub fn inside(s: u32, e: u32, lo: u32, hi: u32) -> bool
     ensures { λ r. ⌜ r ≡ inside s e lo hi ⌝ }
 {
     (s <= lo) & (hi <= e)
-}
-
-// Whether [lo, hi) has an instant of [s, e).
-pub fn meets(s: u32, e: u32, lo: u32, hi: u32) -> bool
-    ensures { λ r. ⌜ r ≡ meets s e lo hi ⌝ }
-{
-    (lo < e) & (s < hi)
 }
 
 // Where the i-th entry ends: at the next one's start, the last at the page's own end.

@@ -2,11 +2,11 @@
 use crate::Task;
 use crate::entries::end_of;
 use crate::entries::inside;
-use crate::entries::meets;
 use crate::entries::took;
 use edit::entry::entry_at;
 use edit::entry::replace;
 use page::Entry;
+use rule::time::overlaps;
 use store::pages::load;
 use store::pages::save;
 ghost use Prim.Native.Nat.{_<_};
@@ -44,7 +44,7 @@ fn spread_entry(img: &mut [u8], q: Task, level: u32, hi: u32, x: Entry)
     if inside(q.s, q.e, x.start, hi) {
         return;
     }
-    if !meets(q.s, q.e, x.start, hi) {
+    if !overlaps(q.s, q.e, x.start, hi) {
         return;
     }
     spread_page(img, q, level - 1, hi, x.child)

@@ -4,7 +4,6 @@
 pub mod digits;
 pub mod feed;
 pub mod field;
-pub mod lines;
 pub mod parse;
 pub mod scan;
 

@@ -1,8 +1,21 @@
 -- `store::pages::load` meets its contract: the page's bytes are those of the tree page. Assumes nothing.
+use mathlib.Core.Path.{subst, ap, _∙_}
+use mathlib.Core.List.{List}
+use Prim.Native.Nat.{ℕ}
+use lib.ListN.{length}
+use Rattle.page.specs.Decoded.{Read}
+use Rattle.image.specs.Images.{page-at}
+use Rattle.lent.proofs.Laws.{page-length}
 use Rattle.store.proofs.Holding.{some-long, holds-tree}
 use Rattle.store.proofs.pages.load.Statement.{statement}
 use Rattle.store.proofs.pages.load.Tie as tie
 
+returns : tie.Need-returns
+unfolding page-at
+returns c X h w l es e =
+    holds-tree h w e (subst (λ (s : List ℕ). Read (c .read-page .result) s) (c .before .page-at .ensures) (c .read-page .ensures))
+
 pub load-spec : {M : Type 1} → statement M
 load-spec =
-    tie.close (tie.spec (λ c κs. some-long (c .before .pre)) (λ c X h w l es e. holds-tree h w e (c .read-page-at .ensures)))
+    tie.close
+    (tie.spec (λ c κs. some-long (c .before .pre)) (λ c κs. ap length (c .page-at .ensures) ∙ page-length _ _ (some-long (c .before .before .pre))) returns)
