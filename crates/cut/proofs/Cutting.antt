@@ -101,7 +101,8 @@ read {l = l} {p} {t} {X} {page} {f} r h loads finds =
       inside = omega (arith, loaded-number loaded, place-inside t (entries X p) (s .some));
     }
 
-module _ (e : Entry) {level t : ℕ} {X : Image} {page : Page} {f : Found} (d : level ≡ 0 → ⊥) (k : Read (level - 1) (e .child) t X page f) where
+module _ (e : Entry) {level t : ℕ} {X : Image} {page : Page} {f : Found} (d : level ≡ 0 → ⊥)
+    (k : Read (level - 1) (e .child) t X page f) where
   abbrev under : Cutting
   under = below (level - 1) (e .child) t X
 
@@ -141,7 +142,8 @@ module _ (e : Entry) {level t : ℕ} {X : Image} {page : Page} {f : Found} (d : 
     gained =
         let es = k .loaded .shows .entries in
         let x : at (shown page) (f .index) ≡ f .entry = (λ j. at (es j) (k .index j)) ∙ sym (k .entry) in
-        let both : became (at (shown page) (f .index)) (Split start q) ≡ under .became = ap (λ y. became y (Split start q)) x ∙ b .becomes in
+        let both : became (at (shown page) (f .index)) (Split start q) ≡ under .became =
+        ap (λ y. became y (Split start q)) x ∙ b .becomes in
         λ j. splice (k .index j) (both j) (es j)
 
     -- and e becomes what the cutting says

@@ -2,6 +2,7 @@
 use crate::Grown;
 use crate::entries::cut_entry;
 use crate::root::raise;
+use rule::limits::END;
 use store::heads::head_of;
 use store::root::root_entry;
 ghost use Rattle.steps.specs.Cut.{cut};
@@ -13,7 +14,7 @@ pub fn cut(img: &mut [u8], t: u32)
     requires { ⌜ Some (now img) (Cuttable t) ⌝ }
     ensures { λ _. ⌜ Each (now (img .entry)) (Cuttable t) (λ X. Holds (now (img .exit)) (cut 12 t X)) ⌝ }
 {
-    if t == 4294967295 {
+    if t == END {
         return;
     }
     let h = head_of(img);

@@ -21,7 +21,7 @@ fn cut_leaf_entry(e: Entry, t: u32) -> Grown
 }
 
 // "Lower pages take first": the page under e is written once the page below it is. Where that one was split, its entry becomes two.
-pub fn cut_entry(img: &mut [u8], level: u32, e: Entry, t: u32) -> Grown
+pub(crate) fn cut_entry(img: &mut [u8], level: u32, e: Entry, t: u32) -> Grown
     requires { ⌜ Some (now img) (Entry-cuttable level e t) ⌝ }
     ensures { λ r. ⌜ Each (now (img .entry)) (Entry-cuttable level e t) (λ X. Cut-as e (cut-entry 12 t level e X) r (now (img .exit))) ⌝ }
 {

@@ -6,6 +6,8 @@ use edit::split::first_of;
 use edit::split::rest_of;
 use page::Entry;
 use page::Page;
+use page::layout::CAPACITY;
+use page::layout::HALF;
 use store::pages::save;
 use store::supply::take;
 ghost use mathlib.Core.Path.{_≡_};
@@ -24,9 +26,9 @@ fn split(img: &mut [u8], e: Entry, page: Page) -> Grown
         (λ X. Cut-as e (split 12 (page .level) e (shown page) X) r (now (img .exit))) ⌝ }
 {
     let q = take(img);
-    let left = first_of(page, 12);
+    let left = first_of(page, HALF);
     save(img, e.child, left);
-    let right = rest_of(page, 12);
+    let right = rest_of(page, HALF);
     save(img, q, right);
     let first = entry_at(right, 0);
     Grown::Split(first.start, q)
@@ -39,7 +41,7 @@ fn settle(img: &mut [u8], e: Entry, page: Page) -> Grown
     ensures { λ r. ⌜ Each (now (img .entry)) (Settlable (e .child) (page .number))
         (λ X. Cut-as e (settled 12 (page .level) e (shown page) X) r (now (img .exit))) ⌝ }
 {
-    if page.number <= 24 {
+    if page.number <= CAPACITY {
         save(img, e.child, page);
         return Grown::Same;
     }
@@ -47,7 +49,7 @@ fn settle(img: &mut [u8], e: Entry, page: Page) -> Grown
 }
 
 // The i-th entry of the page under e becomes two with the same pair: behind it stands one with the start and the child named.
-pub fn double(img: &mut [u8], e: Entry, page: Page, i: usize, start: u32, child: u32) -> Grown
+pub(crate) fn double(img: &mut [u8], e: Entry, page: Page, i: usize, start: u32, child: u32) -> Grown
     requires { ⌜ Some (now img) (Settlable (e .child) (suc (page .number))) ⌝ }
     requires { ⌜ (page .level < 255) × (i < page .number) × (page .number ≤ 24) ⌝ }
     ensures { λ r. ⌜ Each (now (img .entry)) (Settlable (e .child) (suc (page .number)))

@@ -65,7 +65,8 @@ module _ {level : ℕ} (e : Entry) (X : Image) {page : Page} (n : Loaded level (
 
 -- what is known of the page under an entry that was read
 pub pushed-read : (kind : ℕ) {level : ℕ} {X : Image} {x e : Entry} {r : Page} → x ≡ e
-    → (Push-ready level x X → Loaded level (pushed (combine kind) X x) r) → Push-ready level e X → Loaded level (pushed (combine kind) X e) r
+    → (Push-ready level x X → Loaded level (pushed (combine kind) X x) r) → Push-ready level e X
+    → Loaded level (pushed (combine kind) X e) r
 pushed-read kind {level} {X} {r = r} same f s =
     subst (λ e. Push-ready level e X → Loaded level (pushed (combine kind) X e) r) same f s
 

@@ -57,9 +57,11 @@ module _ (kind t p : ℕ) (X : Image) {level : ℕ} (e : level ≡ 0 → ⊥) wh
 
     pub inner-settles : Page-healable kind t level p X → Settles (level - 1) p (f .index) (f .entry .child) (left (f .entry .child))
     unfolding found-in
-    inner-settles r = subst⁻¹ (λ (m : Found). Settles (level - 1) p (m .index) (m .entry .child) (left (m .entry .child))) g (inner r .settles)
+    inner-settles r = subst⁻¹ (λ (m : Found). Settles (level - 1) p (m .index) (m .entry .child) (left (m .entry .child))) g
+        (inner r .settles)
 
-    pub inner-done : settled kind (level - 1) p (f .index) (f .entry .child) (left (f .entry .child)) ≡ heal-page 12 (combine kind) t level p X
+    pub inner-done : settled kind (level - 1) p (f .index) (f .entry .child) (left (f .entry .child))
+        ≡ heal-page 12 (combine kind) t level p X
     unfolding heal-page settled found-in
     inner-done =
         let above : suc (level - 1) ≡ level = omega arith in

@@ -12,7 +12,7 @@ ghost use Rattle.store.specs.Ready.{Push-ready};
 ghost use Rattle.heal.specs.Siblings.{Siblings, Siblings-read};
 
 // The page under e, the pair of e combined into its entries.
-pub fn pushed(img: &[u8], kind: u32, e: Entry) -> Page
+pub(crate) fn pushed(img: &[u8], kind: u32, e: Entry) -> Page
     requires { ⌜ Some-level (now img) (λ v. Push-ready v e) ⌝ }
     ensures { λ r. ⌜ Each-level (now (img .entry)) (λ v. Push-ready v e) (λ v X. Loaded v (pushed (combine kind) X e) r) ⌝ }
 {
@@ -21,7 +21,7 @@ pub fn pushed(img: &[u8], kind: u32, e: Entry) -> Page
 }
 
 // The pages under the l-th entry of page p and under the next.
-pub fn both(img: &[u8], kind: u32, p: u32, l: usize) -> Family
+pub(crate) fn both(img: &[u8], kind: u32, p: u32, l: usize) -> Family
     requires { ⌜ Some-level (now img) (λ v. Siblings v p l) ⌝ }
     ensures { λ r. ⌜ Each-level (now (img .entry)) (λ v. Siblings v p l) (λ v X. Siblings-read kind v p l X r) ⌝ }
 {

@@ -11,9 +11,10 @@ ghost use Rattle.store.specs.Holding.{Holds, Some-level, Each-level};
 ghost use Rattle.heal.specs.Siblings.{Sharable};
 
 // Of all entries of the pages under the l-th entry of page p and the next, the left page has k.
-pub fn give(img: &mut [u8], kind: u32, p: u32, l: usize, k: usize)
+pub(crate) fn give(img: &mut [u8], kind: u32, p: u32, l: usize, k: usize)
     requires { ⌜ Some-level (now img) (λ v. Sharable v p l k) ⌝ }
-    ensures { λ _. ⌜ Each-level (now (img .entry)) (λ v. Sharable v p l k) (λ v X. Holds (now (img .exit)) (give (combine kind) v p l k X)) ⌝ }
+    ensures { λ _. ⌜ Each-level (now (img .entry)) (λ v. Sharable v p l k)
+        (λ v X. Holds (now (img .exit)) (give (combine kind) v p l k X)) ⌝ }
 {
     let s = both(img, kind, p, l);
     let a = s.a;

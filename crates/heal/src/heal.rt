@@ -2,6 +2,7 @@
 use crate::leaf::heal_leaf;
 use crate::shrink::shrink;
 use crate::turn::turn;
+use page::layout::HALF;
 use store::entries::entry_count;
 use store::entries::find_entry;
 use store::heads::head_of;
@@ -15,13 +16,13 @@ fn settle(img: &mut [u8], kind: u32, p: u32, i: usize, q: u32)
     requires { ⌜ Some-level (now img) (λ v. Settles v p i q) ⌝ }
     ensures { λ _. ⌜ Each-level (now (img .entry)) (λ v. Settles v p i q) (λ v X. Holds (now (img .exit)) (settled kind v p i q X)) ⌝ }
 {
-    if entry_count(img, q) < 12 {
+    if entry_count(img, q) < HALF {
         turn(img, kind, p, i);
     }
 }
 
 // Page p of that level: the leaf entry goes, and on the way back up each page that is left short turns.
-pub fn heal_page(img: &mut [u8], kind: u32, level: u32, p: u32, t: u32)
+fn heal_page(img: &mut [u8], kind: u32, level: u32, p: u32, t: u32)
     requires { ⌜ Some (now img) (Page-healable kind t level p) ⌝ }
     ensures { λ _. ⌜ Each (now (img .entry)) (Page-healable kind t level p)
         (λ X. Holds (now (img .exit)) (heal-page 12 (combine kind) t level p X)) ⌝ }

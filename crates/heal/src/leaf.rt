@@ -38,7 +38,7 @@ fn heals(page: Page, i: usize, t: u32) -> bool
 }
 
 // The leaf p. Nothing is written where no entry goes. The kind's rule has no part in it.
-pub fn heal_leaf(img: &mut [u8], p: u32, t: u32)
+pub(crate) fn heal_leaf(img: &mut [u8], p: u32, t: u32)
     requires { ⌜ Some (now img) (Searchable 0 p t) ⌝ }
     ensures { λ _. ⌜ Each (now (img .entry)) (Searchable 0 p t)
         (λ X. (kind : ℕ) → Holds (now (img .exit)) (heal-page 12 (combine kind) t 0 p X)) ⌝ }

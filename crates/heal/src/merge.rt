@@ -10,9 +10,10 @@ ghost use Rattle.store.specs.Holding.{Holds, Some-level, Each-level};
 ghost use Rattle.heal.specs.Siblings.{Mergeable};
 
 // The pages under the l-th entry of page p and the next become one.
-pub fn merge(img: &mut [u8], kind: u32, p: u32, l: usize)
+pub(crate) fn merge(img: &mut [u8], kind: u32, p: u32, l: usize)
     requires { ⌜ Some-level (now img) (λ v. Mergeable v p l) ⌝ }
-    ensures { λ _. ⌜ Each-level (now (img .entry)) (λ v. Mergeable v p l) (λ v X. Holds (now (img .exit)) (merge (combine kind) v p l X)) ⌝ }
+    ensures { λ _. ⌜ Each-level (now (img .entry)) (λ v. Mergeable v p l)
+        (λ v X. Holds (now (img .exit)) (merge (combine kind) v p l X)) ⌝ }
 {
     let s = both(img, kind, p, l);
     let a = s.a;

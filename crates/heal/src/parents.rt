@@ -31,7 +31,7 @@ fn emptied(page: Page, i: usize, start: u32) -> Page
 }
 
 // The page above two siblings that share their entries anew: the right page starts at `start`.
-pub fn shared(parent: Page, l: usize, start: u32) -> Page
+pub(crate) fn shared(parent: Page, l: usize, start: u32) -> Page
     requires { ⌜ (suc l < parent .number) × (parent .number ≤ 25) ⌝ }
     ensures { λ r. ⌜ Shows (parent .level) (above l (emptied start (at (shown parent) (suc l)) ∷ []) (shown parent)) r ⌝ }
 {
@@ -40,7 +40,7 @@ pub fn shared(parent: Page, l: usize, start: u32) -> Page
 }
 
 // The page above two siblings that are one page now.
-pub fn united(parent: Page, l: usize) -> Page
+pub(crate) fn united(parent: Page, l: usize) -> Page
     requires { ⌜ (suc l < parent .number) × (parent .number ≤ 25) ⌝ }
     ensures { λ r. ⌜ Shows (parent .level) (above l [] (shown parent)) r ⌝ }
 {

@@ -19,7 +19,7 @@ fn lesser(k: usize, n: usize) -> usize
 }
 
 // The first k of all entries of p and q.
-pub fn first_part(p: Page, q: Page, k: usize) -> Page
+pub(crate) fn first_part(p: Page, q: Page, k: usize) -> Page
     requires { ⌜ Parted k p q ⌝ }
     ensures { λ r. ⌜ Shows (p .level) (take k (shown p ++ shown q)) r ⌝ }
 {
@@ -28,7 +28,7 @@ pub fn first_part(p: Page, q: Page, k: usize) -> Page
 }
 
 // The others.
-pub fn other_part(p: Page, q: Page, k: usize) -> Page
+pub(crate) fn other_part(p: Page, q: Page, k: usize) -> Page
     requires { ⌜ Parted k p q ⌝ }
     ensures { λ r. ⌜ Shows (p .level) (drop k (shown p ++ shown q)) r ⌝ }
 {

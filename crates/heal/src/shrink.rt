@@ -24,7 +24,7 @@ fn lower(img: &mut [u8], kind: u32)
     set_root(img, h.height - 1, e.child);
 }
 
-pub fn shrink(img: &mut [u8], kind: u32)
+pub(crate) fn shrink(img: &mut [u8], kind: u32)
     requires { ⌜ Some (now img) Shrinkable ⌝ }
     ensures { λ _. ⌜ Each (now (img .entry)) Shrinkable (λ X. Holds (now (img .exit)) (shrunk (combine kind) X)) ⌝ }
 {

@@ -1,6 +1,7 @@
 // "A page other than the root left with 11 turns to its left neighbour under the same parent, else the right."
 use crate::give::give;
 use crate::merge::merge;
+use page::layout::HALF;
 use store::entries::entry_count;
 use store::entries::entry_of;
 ghost use mathlib.Core.Path.{_≡_};
@@ -31,17 +32,18 @@ fn left_share(i: usize, n: usize) -> usize
     requires { ⌜ 1 ≤ n ⌝ }
     ensures { λ r. ⌜ r ≡ cond (eqb i 0) 12 (n - 1) ⌝ }
 {
-    if i == 0 { 12 } else { n - 1 }
+    if i == 0 { HALF } else { n - 1 }
 }
 
 // The page under the i-th entry of page p turns to its neighbour.
-pub fn turn(img: &mut [u8], kind: u32, p: u32, i: usize)
+pub(crate) fn turn(img: &mut [u8], kind: u32, p: u32, i: usize)
     requires { ⌜ Some-level (now img) (λ v. Turnable v p i) ⌝ }
-    ensures { λ _. ⌜ Each-level (now (img .entry)) (λ v. Turnable v p i) (λ v X. Holds (now (img .exit)) (turn 12 (combine kind) v p i X)) ⌝ }
+    ensures { λ _. ⌜ Each-level (now (img .entry)) (λ v. Turnable v p i)
+        (λ v X. Holds (now (img .exit)) (turn 12 (combine kind) v p i X)) ⌝ }
 {
     let e = entry_of(img, p, neighbour(i));
     let n = entry_count(img, e.child);
-    if n > 12 {
+    if n > HALF {
         give(img, kind, p, left_of(i), left_share(i, n));
         return;
     }

@@ -61,7 +61,8 @@ module _ {img : List ℕ} {t l p : ℕ} (k : Fit-from img t l p) where
   start-read i n =
       let s : List ℕ = page-at 12 img p in
       let most : number-of s ≤ 24 = page-is-fit .most in
-      ap (λ (e : Entry). e .start) (sym (at-entries-of 12 s i (omega (arith, number-read)) (omega (arith, number-read))) ∙ ap (λ es. entry-in es i) (sym entries-read))
+      let here = at-entries-of 12 s i (omega (arith, number-read)) (omega (arith, number-read)) in
+      ap (λ (e : Entry). e .start) (sym here ∙ ap (λ es. entry-in es i) (sym entries-read))
 
   -- the page can be searched for t
   pub fit-searchable : Searchable l p t (image-of 12 img)

@@ -3,6 +3,7 @@ use super::Need;
 use super::walk::both;
 use super::walk::one;
 use page::Head;
+use rule::limits::END;
 use store::root::root_entry;
 ghost use mathlib.Core.Path.{_≡_};
 ghost use Prim.Native.Nat.{_<_};
@@ -18,7 +19,7 @@ fn asked(img: &[u8], h: Head, s: u32, e: u32) -> Need
     ensures { λ r. ⌜ r ≡ asked 12 s e (image-of 12 (now (img .entry))) ⌝ }
 {
     let root = root_entry(h);
-    if e == 4294967295 {
+    if e == END {
         return one(img, s, h.height, root);
     }
     both(img, s, e, h.height, root)

@@ -12,7 +12,7 @@ ghost use Rattle.needs.specs.Needs.{one, apart, both};
 ghost use Rattle.needs.specs.Leads.{Leads};
 
 // What the cut at t asks for from an entry down that only it meets.
-pub fn one(img: &[u8], t: u32, level: u32, e: Entry) -> Need
+pub(crate) fn one(img: &[u8], t: u32, level: u32, e: Entry) -> Need
     requires { ⌜ Leads (now img) t level e ⌝ }
     ensures { λ r. ⌜ r ≡ one 12 t level e (image-of 12 (now (img .entry))) ⌝ }
 {
@@ -33,7 +33,7 @@ fn apart(img: &[u8], s: u32, t: u32, level: u32, x: Entry, y: Entry) -> Need
 }
 
 // What the cuts at s and at t ask for from an entry down that both meet: they go on to the same entry of its page, or part there.
-pub fn both(img: &[u8], s: u32, t: u32, level: u32, e: Entry) -> Need
+pub(crate) fn both(img: &[u8], s: u32, t: u32, level: u32, e: Entry) -> Need
     requires { ⌜ Leads (now img) s level e ⌝ }
     requires { ⌜ s < t ⌝ }
     ensures { λ r. ⌜ r ≡ both 12 s t level e (image-of 12 (now (img .entry))) ⌝ }

@@ -14,7 +14,8 @@ use Rattle.image.specs.Images.{Image, tree}
 use Rattle.steps.specs.Supply.{entries, put}
 use Rattle.steps.specs.Spread.{Spreading, start-of, took, sent, spread-entries, spread-over, spread-page}
 use Rattle.spread.specs.declared.Task.{Task}
-use Rattle.spread.specs.Spreadable.{inside-by, meets-by, took-by, page-by, below-by, sent-by, Below-spreadable, Page-spreadable, Entry-spreadable}
+use Rattle.spread.specs.Spreadable.{inside-by, meets-by, took-by, page-by, below-by, sent-by, Below-spreadable, Page-spreadable}
+use Rattle.spread.specs.Spreadable.{Entry-spreadable}
 
 -- ---- where an entry ends
 

@@ -19,7 +19,8 @@ use Rattle.store.specs.Holding.{Holds, Some, Each, Each-level, Loaded}
 use Rattle.store.specs.Ready.{In-image, Tree-page}
 use Rattle.store.proofs.Holding.{holds-length}
 use Rattle.spread.specs.declared.Task.{Task}
-use Rattle.spread.specs.Spreadable.{took-by, page-by, sent-by, Takes, Entries-spreadable, Below-spreadable, Page-spreadable, Entry-spreadable}
+use Rattle.spread.specs.Spreadable.{took-by, page-by, sent-by, Takes, Entries-spreadable, Below-spreadable, Page-spreadable}
+use Rattle.spread.specs.Spreadable.{Entry-spreadable}
 use Rattle.spread.proofs.Laws.{spreading, written, page-whole}
 
 -- what the entries behind these became, with these in front
@@ -142,7 +143,8 @@ module _ (q : Task) (level hi p : ℕ) where
 -- ---- the loop
 
 -- bytes of the same length hold images of as many pages
-within-still : {p : ℕ} {img img′ : List ℕ} {X Y : Image} → Holds img X → Holds img′ Y → length img′ ≡ length img → In-image p X → In-image p Y
+within-still : {p : ℕ} {img img′ : List ℕ} {X Y : Image} → Holds img X → Holds img′ Y → length img′ ≡ length img → In-image p X
+    → In-image p Y
 within-still h k same w = record { least = w .least; below = omega (arith, holds-length h, holds-length k) }
 
 replaced-number : (page : Page) (y : Entry) {page′ : Page} {l i : ℕ} → i < page .number → Shows l (splice i (y ∷ []) (shown page)) page′
@@ -206,4 +208,5 @@ module _ (q : Task) (level hi p : ℕ) where
         → Each img₀ (Page-spreadable q level hi p) (λ X. Holds img′ (page-by q level hi p X))
     all l {img′} saved X h r =
         let u = t .each X h r in
-        subst (Holds img′) (turned-all q level hi p u l) (saved (u .image) (u .holds) (within-still h (u .holds) (t .same) (r .treed .within)))
+        subst (Holds img′) (turned-all q level hi p u l)
+        (saved (u .image) (u .holds) (within-still h (u .holds) (t .same) (r .treed .within)))

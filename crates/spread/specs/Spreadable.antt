@@ -6,11 +6,11 @@ use mathlib.Core.Bool.{Bool, true, false}
 use mathlib.Core.List.{List, [], _∷_}
 use Rattle.rule.specs.Pairs.{combine}
 use Rattle.rule.specs.Bounds.{Combinable}
-use Rattle.rule.specs.Time.{END}
+use Rattle.rule.specs.Time.{END, overlaps}
 use Rattle.page.specs.declared.Entry.{Entry}
 use Rattle.image.specs.Images.{Image}
 use Rattle.steps.specs.Supply.{entries}
-use Rattle.steps.specs.Spread.{inside, meets, start-of, took, sent, spread-page, spread}
+use Rattle.steps.specs.Spread.{inside, start-of, took, sent, spread-page, spread}
 use Rattle.store.specs.Ready.{Tree-page}
 use Rattle.spread.specs.declared.Task.{Task}
 
@@ -20,7 +20,7 @@ abbrev pub inside-by : Task → ℕ → Entry → Bool
 inside-by q hi x = inside (q .s) (q .e) (x .start) hi
 
 abbrev pub meets-by : Task → ℕ → Entry → Bool
-meets-by q hi x = meets (q .s) (q .e) (x .start) hi
+meets-by q hi x = overlaps (q .s) (q .e) (x .start) hi
 
 abbrev pub took-by : Task → ℕ → Entry → Entry
 took-by q = took (combine (q .kind)) (q .s) (q .e) (q .effect)

@@ -20,6 +20,7 @@ use Rattle.image.specs.Images.{Image, Cell, tree, free, page-at, cell-of, cell-
 use Rattle.image.proofs.Cells.{tree-cell, free-cell}
 use Rattle.image.proofs.Written.{length-of-written, head-written, page-of-written}
 use Rattle.image.proofs.Puts.{put-page, put-head as put-head-bytes}
+use Rattle.lent.proofs.Laws.{page-length}
 use Rattle.steps.specs.Supply.{put, entries}
 use Rattle.steps.proofs.Supply.{put-at, put-other, put-head}
 use Rattle.store.specs.Holding.{Holds, Some, Loaded, Same-pages, with-head}
@@ -84,6 +85,10 @@ module _ {img : List ℕ} {X : Image} (h : Holds img X) where
 pub some-long : {img : List ℕ} {p : ℕ} → Some img (In-image p) → 512 * p + 512 ≤ length img
 some-long s = omega (arith, holds-length (s .holds), s .ready .below)
 
+-- the page's bytes, lent as s
+pub some-size : {img s : List ℕ} {p : ℕ} → Some img (In-image p) → s ≡ page-at 12 img p → length s ≡ 512
+some-size {img} {p = p} k same = ap length same ∙ page-length img p (some-long k)
+
 -- what a function asks, taken apart: some image that the bytes hold and that is ready
 pub from : {img : List ℕ} {Ready : Image → Type 0} {A : Type 0} → Some img Ready → ((X : Image) → Holds img X → Ready X → A) → A
 from s f = f (s .image) (s .holds) (s .ready)
@@ -104,7 +109,8 @@ pub put-bytes : (half : ℕ) → 1 ≤ half → (X : Image) (p : ℕ) (c : Cell)
 put-bytes half some X p c kept sized l b =
     let here : put p c X .page p ≡ c = put-at p c X in
     ap (λ d. patch (image-bytes half X) (page-size half * p) (cell-bytes half d)) (sym here)
-    ∙ put-page half some X (put p c X) p (sym (put-head p c X)) (λ q d. sym (put-other p c X q d)) kept (ap (λ d. length (cell-bytes half d)) here ∙ sized) l b
+    ∙ put-page half some X (put p c X) p (sym (put-head p c X)) (λ q d. sym (put-other p c X q d)) kept
+    (ap (λ d. length (cell-bytes half d)) here ∙ sized) l b
 
 module _ {img : List ℕ} {X : Image} (h : Holds img X) where
   pub holds-put : {p : ℕ} {after : List ℕ} (c : Cell) → In-image p X → Kept 12 c → after ≡ patch img (512 * p) (cell-bytes 12 c)

@@ -85,7 +85,12 @@ module _ {img : List ℕ} {X : Image} {l p t : ℕ} (h : Holds img X) (k : Searc
       let r = lent-read h (k .treed) same in
       record {
         compared =
-            record { size = lent-size h (k .treed) same; number = e; some = omega (arith, r .number, k .some); most = omega (arith, r .number, r .few) };
+            record {
+              size = lent-size h (k .treed) same;
+              number = e;
+              some = omega (arith, r .number, k .some);
+              most = omega (arith, r .number, r .few);
+            };
         rising =
             λ i m.
             let j : suc i < length (entries X p) = omega (arith, r .number) in

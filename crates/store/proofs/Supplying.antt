@@ -29,7 +29,12 @@ pub some-headed : {img : List ℕ} {h : Head} {Ready : Image → Type 0} → Som
 some-headed {img} {h} {Ready} s e =
     let X : Image = s .image in
     let q : X .head ≡ h = sym (e X (s .holds) tt) in
-    record { image = X; holds = subst (λ k. Holds img (with-head k X)) q (s .holds); ready = subst (λ k. Ready (with-head k X)) q (s .ready) }
+    record {
+      image = X;
+      holds = subst (λ k. Holds img (with-head k X)) q (s .holds);
+      ready = subst (λ k. Ready (with-head k X)) q
+          (s .ready);
+    }
 
 -- ---- taking a page
 
@@ -42,7 +47,8 @@ module _ (X : Image) (e : X .head .chain ≡ 0) where
   unfolding taken
   taken-marked =
       let h : Head = X .head in
-      λ j. with-head (cond (sym (eq-eqb (h .chain) 0 e) j) (with-supply (h .free) (h .chain) (add-one (h .mark) j) h) (with-supply (next-in (X .page (h .free))) (h .chain - 1) (h .mark) h)) X
+      λ j. with-head (cond (sym (eq-eqb (h .chain) 0 e) j) (with-supply (h .free) (h .chain) (add-one (h .mark) j) h)
+      (with-supply (next-in (X .page (h .free))) (h .chain - 1) (h .mark) h)) X
 
 module _ (X : Image) (e : X .head .chain ≡ 0 → ⊥) where
   pub spare-chained : X .head .free ≡ spare X
@@ -55,7 +61,8 @@ module _ (X : Image) (e : X .head .chain ≡ 0 → ⊥) where
   taken-chained {next} f n =
       let h : Head = X .head in
       let q : next ≡ next-in (X .page (h .free)) = n ∙ ap next-in (sym (f .is)) in
-      λ j. with-head (cond (sym (ne-eqb (h .chain) 0 e) j) (with-supply (h .free) (h .chain) (suc (h .mark)) h) (with-supply (q j) (h .chain - 1) (h .mark) h)) X
+      λ j. with-head (cond (sym (ne-eqb (h .chain) 0 e) j) (with-supply (h .free) (h .chain) (suc (h .mark)) h)
+      (with-supply (q j) (h .chain - 1) (h .mark) h)) X
 
 -- the page taken is one of the image's
 pub marked-below : {X : Image} → X .head .chain ≡ 0 → Takable X → X .head .mark < X .head .pages
@@ -75,7 +82,9 @@ module _ {q : ℕ} {X : Image} (w : In-image q X) where
   unfolding taken with-supply
   within-taken = pick (eqb (X .head .chain) 0)
     where
-      pick : (b : Bool) → In-image q (with-head (cond b (with-supply (X .head .free) (X .head .chain) (suc (X .head .mark)) (X .head)) (with-supply (next-in (X .page (X .head .free))) (X .head .chain - 1) (X .head .mark) (X .head))) X)
+      pick : (b : Bool) → In-image q (with-head
+          (cond b (with-supply (X .head .free) (X .head .chain) (suc (X .head .mark)) (X .head))
+          (with-supply (next-in (X .page (X .head .free))) (X .head .chain - 1) (X .head .mark) (X .head))) X)
       pick true = record { least = w .least; below = w .below }
       pick false = record { least = w .least; below = w .below }
 
@@ -89,9 +98,11 @@ module _ {q : ℕ} {X : Image} (w : In-image q X) where
 
 -- ---- giving one back, and counting
 
-pub given-back-is : (p : ℕ) (X : Image) → put p (free (X .head .free)) (with-head (with-supply p (X .head .chain + 1) (X .head .mark) (X .head)) X) ≡ given-back p X
+pub given-back-is : (p : ℕ) (X : Image)
+    → put p (free (X .head .free)) (with-head (with-supply p (X .head .chain + 1) (X .head .mark) (X .head)) X) ≡ given-back p X
 unfolding given-back
-given-back-is p X = ap (λ k. put p (free (X .head .free)) (with-head (with-supply p k (X .head .mark) (X .head)) X)) (add-one (X .head .chain))
+given-back-is p X = ap (λ k. put p (free (X .head .free)) (with-head (with-supply p k (X .head .mark) (X .head)) X))
+    (add-one (X .head .chain))
 
 -- the head with that many changes
 abbrev with-changes : ℕ → Head → Head

@@ -1,10 +1,10 @@
-// A page of the image: its bytes are lent on.
+// A page of the image.
 use lent::pages::page_at;
 use page::Page;
 use page::at::next_of;
-use page::blank::write_free;
-use page::read::read_page_at;
-use page::write::write_page_at;
+use page::pages::write_free_at;
+use page::pages::write_page_at;
+use page::read::read_page;
 ghost use mathlib.Core.Path.{_≡_};
 ghost use Prim.Native.Nat.{ℕ, _≤_, _<_};
 ghost use Rattle.page.specs.Decoded.{shown};
@@ -18,11 +18,11 @@ pub fn load(img: &[u8], p: u32) -> Page
     requires { ⌜ Some (now img) (In-image p) ⌝ }
     ensures { λ r. ⌜ Each-level (now (img .entry)) (λ l. Tree-page l p) (λ l X. Loaded l (entries X p) r) ⌝ }
 {
-    read_page_at(img, p as usize)
+    read_page(page_at(img, p))
 }
 
 // The page behind the free page p in the chain, 0 at its end.
-pub fn next_free(img: &[u8], p: u32) -> u32
+pub(crate) fn next_free(img: &[u8], p: u32) -> u32
     requires { ⌜ Some (now img) (In-image p) ⌝ }
     ensures { λ r. ⌜ Each (now (img .entry)) (In-image p) (λ X. (next : ℕ) → X .page p ≡ free next → r ≡ next) ⌝ }
 {
@@ -35,15 +35,13 @@ pub fn save(img: &mut [u8], p: u32, page: Page)
     requires { ⌜ (page .level < 255) × (page .number ≤ 24) ⌝ }
     ensures { λ _. ⌜ Each (now (img .entry)) (In-image p) (λ X. Holds (now (img .exit)) (put p (tree (page .level) (shown page)) X)) ⌝ }
 {
-    write_page_at(img, p as usize, page)
+    write_page_at(img, p, page)
 }
 
 // Page p becomes a free page.
-pub fn set_free(img: &mut [u8], p: u32, next: u32)
+pub(crate) fn set_free(img: &mut [u8], p: u32, next: u32)
     requires { ⌜ Some (now img) (In-image p) ⌝ }
     ensures { λ _. ⌜ Each (now (img .entry)) (In-image p) (λ X. Holds (now (img .exit)) (put p (free next) X)) ⌝ }
 {
-    let a = 512 * p as usize;
-    let e = a + 512;
-    write_free(&mut img[a..e], next)
+    write_free_at(img, p, next)
 }

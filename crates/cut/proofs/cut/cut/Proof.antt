@@ -70,7 +70,8 @@ returns-3 c X h r =
     let call = known .before .before .before .before in
     let g = told (known .start .given .1) (grew call X h r) in
     let head = read (call .before) .head-of .ensures X h tt in
-    root-two _ X head g (inside (call .before)) (raising .raise .ensures _ (g .holds) (root-raisable _ X head g (root (call .before) X h r)))
+    root-two _ X head g (inside (call .before))
+    (raising .raise .ensures _ (g .holds) (root-raisable _ X head g (root (call .before) X h r)))
 
 pub cut-spec : {M : Type 1} → statement M
 cut-spec =

@@ -45,13 +45,19 @@ pub +cut-entry-spec : {M : Type 1} → statement M
     -- cut-leaf-entry-requires
     (λ c κs. search needs)
     -- returns
-    (λ c X h r. let args = c .before .before .before .args in leaf-as (args .e) (args .t) (c .before .if1 .taken) (c .cut-leaf-entry .ensures) h)
+    (λ c X h r. let args = c .before .before .before .args in leaf-as (args .e) (args .t) (c .before .if1 .taken)
+    (c .cut-leaf-entry .ensures) h)
     -- load-requires
     (λ c κs.
     let else = c .before in
     let start = else .before .before in
     let s = start .pre .1 in
-    record { image = _; holds = s .holds; ready = page-cuttable (start .args .e) (else .if1 .left) (s .ready) .0 .searchable .treed .within })
+    record {
+      image = _;
+      holds = s .holds;
+      ready = page-cuttable (start .args .e) (else .if1 .left)
+          (s .ready) .0 .searchable .treed .within;
+    })
     -- find-entry-requires
     (λ c κs.
     let else = c .before .before .before in

@@ -158,7 +158,8 @@ returns c X h v s =
     let at = made (saved second) in
     let f = family (read at) X h (v, s) in
     subst (Holds _) (give-is (gave at X h (v, s)) (f .a) (f .b))
-    (then (two second) (λ X h s. within-put (within-put (s .1 .siblings .parent .treed .within) _ _) _ _) (three .save3 .ensures) X h (v, s))
+    (then (two second) (λ X h s. within-put (within-put (s .1 .siblings .parent .treed .within) _ _) _ _) (three .save3 .ensures) X h
+    (v, s))
 
 pub give-spec : {M : Type 1} → statement M
 give-spec =

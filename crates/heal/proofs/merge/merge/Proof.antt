@@ -120,7 +120,8 @@ returns c X h v s =
     let at = made (saved second) in
     let f = family (read at) X h (v, s) in
     subst (Holds _) (merge-is (joint at X h (v, s)) (f .a) (f .b))
-    (then (two second) (λ X h s. within-given (within-put (s .1 .siblings .parent .treed .within) _ _) _) (three .save2 .ensures) X h (v, s))
+    (then (two second) (λ X h s. within-given (within-put (s .1 .siblings .parent .treed .within) _ _) _) (three .save2 .ensures) X h
+    (v, s))
 
 pub merge-spec : {M : Type 1} → statement M
 merge-spec =

@@ -12,7 +12,8 @@ use Rattle.heal.proofs.parents.emptied.Tie as tie
 returns : tie.Need-returns
 returns c =
     let args = c .before .before .args in
-    shows-as (c .replace .ensures) (ap (λ e. splice (args .i) (emptied (args .start) e ∷ []) (shown (args .page))) (c .before .entry-at .ensures))
+    shows-as (c .replace .ensures) (ap (λ e. splice (args .i) (emptied (args .start) e ∷ []) (shown (args .page)))
+    (c .before .entry-at .ensures))
 
 pub emptied-spec : {M : Type 1} → statement M
 emptied-spec = tie.close (tie.spec (λ c κs. search needs) (λ c κs. search needs) returns)

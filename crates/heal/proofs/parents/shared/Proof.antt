@@ -22,7 +22,8 @@ start c = c .before .before
 
 -- the page with its right entry
 right : (c : tie.After-emptied) → Shows (start c .args .parent .level)
-    (splice (suc (start c .args .l)) (emptied (start c .args .start) (at (shown (start c .args .parent)) (suc (start c .args .l))) ∷ []) (shown (start c .args .parent)))
+    (splice (suc (start c .args .l)) (emptied (start c .args .start) (at (shown (start c .args .parent)) (suc (start c .args .l))) ∷ [])
+    (shown (start c .args .parent)))
     (c .emptied .result)
 right c =
     let args = start c .args in

@@ -13,14 +13,16 @@ append-requires : tie.Need-append-requires
 append-requires c κs =
     let least = c .before .before in
     let args = least .before .args in
-    let n = part-number take take-part (args .p) (args .q) (args .k) (least .lesser .ensures) (c .before .first-of .ensures) (c .first-of2 .ensures) in
+    let n = part-number take take-part (args .p) (args .q) (args .k) (least .lesser .ensures) (c .before .first-of .ensures)
+    (c .first-of2 .ensures) in
     omega (arith, n, length-take (args .k) (shown (args .p) ++ shown (args .q)))
 
 returns : tie.Need-returns
 returns c =
     let least = c .before .before .before in
     let args = least .before .args in
-    part-joined take take-part (args .p) (args .q) (args .k) (least .lesser .ensures) (c .before .before .first-of .ensures) (c .before .first-of2 .ensures)
+    part-joined take take-part (args .p) (args .q) (args .k) (least .lesser .ensures) (c .before .before .first-of .ensures)
+    (c .before .first-of2 .ensures)
     (c .append .ensures)
 
 pub first-part-spec : {M : Type 1} → statement M

@@ -14,7 +14,8 @@ append-requires : tie.Need-append-requires
 append-requires c κs =
     let least = c .before .before in
     let args = least .before .args in
-    let n = part-number drop drop-part (args .p) (args .q) (args .k) (least .lesser .ensures) (c .before .rest-of .ensures) (c .rest-of2 .ensures) in
+    let n = part-number drop drop-part (args .p) (args .q) (args .k) (least .lesser .ensures) (c .before .rest-of .ensures)
+    (c .rest-of2 .ensures) in
     let all = length-drop (args .k) (shown (args .p) ++ shown (args .q)) in
     omega (arith, n, length-append (shown (args .p)) (shown (args .q)), length-shown (args .p), length-shown (args .q))
 
@@ -22,7 +23,8 @@ returns : tie.Need-returns
 returns c =
     let least = c .before .before .before in
     let args = least .before .args in
-    part-joined drop drop-part (args .p) (args .q) (args .k) (least .lesser .ensures) (c .before .before .rest-of .ensures) (c .before .rest-of2 .ensures)
+    part-joined drop drop-part (args .p) (args .q) (args .k) (least .lesser .ensures) (c .before .before .rest-of .ensures)
+    (c .before .rest-of2 .ensures)
     (c .append .ensures)
 
 pub other-part-spec : {M : Type 1} → statement M

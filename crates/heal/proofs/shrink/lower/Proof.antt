@@ -78,7 +78,8 @@ made c = c .before .before
 abbrev written : tie.After-pushed → Image → Image
 written c X = put (entry c .entry-of .result .child) (page-cell (c .pushed .result)) X
 
-one : (c : tie.After-save) → Each (start (read (entry (made c))) .args .img .now) Lowerable (λ X. Holds (c .save .last .0) (written (made c) X))
+one : (c : tie.After-save) → Each (start (read (entry (made c))) .args .img .now) Lowerable
+    (λ X. Holds (c .save .last .0) (written (made c) X))
 one c = then (λ X h s. h) (λ X h s. child (entry (made c)) X h s .treed .within) (c .save .ensures)
 
 give-back-requires : tie.Need-give-back-requires

@@ -7,4 +7,5 @@ use Rattle.heal.proofs.turn.left_of.Tie as tie
 pub left-of-spec : {M : Type 1} → statement M
 left-of-spec =
     tie.close
-    (tie.spec (λ c. search needs) (λ c. left-itself (c .before .args .i) (c .if1 .taken)) (λ c. left-before (c .before .args .i) (c .if1 .left)))
+    (tie.spec (λ c. search needs) (λ c. left-itself (c .before .args .i) (c .if1 .taken))
+    (λ c. left-before (c .before .args .i) (c .if1 .left)))

@@ -7,4 +7,5 @@ use Rattle.heal.proofs.turn.neighbour.Tie as tie
 pub neighbour-spec : {M : Type 1} → statement M
 neighbour-spec =
     tie.close
-    (tie.spec (λ c. search needs) (λ c. neighbour-right (c .before .args .i) (c .if1 .taken)) (λ c. neighbour-left (c .before .args .i) (c .if1 .left)))
+    (tie.spec (λ c. search needs) (λ c. neighbour-right (c .before .args .i) (c .if1 .taken))
+    (λ c. neighbour-left (c .before .args .i) (c .if1 .left)))

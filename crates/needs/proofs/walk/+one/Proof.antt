@@ -77,5 +77,6 @@ pub +one-spec : {M : Type 1} → statement M
     let start = else .before .before in
     let args = start .args in
     let k = leads-on (args .img .now) (args .t) (args .level) (args .e) (start .pre .1) (else .if1 .left) in
-    one-inner 12 (args .t) (image-of 12 (args .img .now)) (args .level) (args .e) (else .if1 .left) (fit-found k (found .find-entry .ensures))
+    one-inner 12 (args .t) (image-of 12 (args .img .now)) (args .level) (args .e) (else .if1 .left)
+    (fit-found k (found .find-entry .ensures))
     (c .before .one .ensures) (c .settle .ensures)))

@@ -1,19 +1,15 @@
 -- `store::pages::next_free` meets its contract: the part lent is the free page. Assumes nothing.
 use mathlib.Core.Path.{ap, _∙_}
-use lib.ListN.{length}
 use Rattle.page.specs.Layout.{next-of}
 use Rattle.image.specs.Images.{page-at}
-use Rattle.lent.proofs.Laws.{page-length}
-use Rattle.store.proofs.Holding.{some-long, holds-next}
+use Rattle.store.proofs.Holding.{some-long, some-size, holds-next}
 use Rattle.store.proofs.pages.next_free.Statement.{statement}
 use Rattle.store.proofs.pages.next_free.Tie as tie
-
-next-of-requires : tie.Need-next-of-requires
-next-of-requires c κs = ap length (c .page-at .ensures) ∙ page-length _ _ (some-long (c .before .before .pre))
 
 returns : tie.Need-returns
 unfolding page-at
 returns c X h w next e = c .next-of .ensures ∙ ap next-of (c .before .page-at .ensures) ∙ holds-next h w e
 
 pub next-free-spec : {M : Type 1} → statement M
-next-free-spec = tie.close (tie.spec (λ c κs. some-long (c .before .pre)) next-of-requires returns)
+next-free-spec =
+    tie.close (tie.spec (λ c κs. some-long (c .before .pre)) (λ c κs. some-size (c .before .before .pre) (c .page-at .ensures)) returns)
