@@ -11,12 +11,12 @@ use lib.Dec.{eqb}
 use borrow.Author.Tests.{le-ltb}
 use Rattle.rule.specs.declared.Pair.{Pair}
 use Rattle.rule.specs.Pairs.{same-pair, combine}
-use Rattle.rule.specs.Time.{span-ok}
+use Rattle.rule.specs.Time.{span-ok, overlaps}
 use Rattle.page.specs.declared.Head.{Head}
 use Rattle.page.specs.Layout.{capacity, number-of, start-at, pair-at, child-at}
 use Rattle.page.specs.Fit.{Place, root-place, place-below, end-at, page-fit}
 use Rattle.image.specs.Images.{page-at, pages-in, length-ok}
-use Rattle.image.specs.Listing.{Run, Walked, nothing, stopped, then, in-turn, under, leaf-run, overlaps, walk-page, walk, walk-over, join-after, join}
+use Rattle.image.specs.Listing.{Run, Walked, nothing, stopped, then, in-turn, under, leaf-run, walk-page, walk, walk-over, join-after, join}
 use Rattle.image.specs.Trail.{Visit, each-in-turn, finds-fit, visits, entries-over}
 use Rattle.image.specs.Looks.{found-fit}
 use Rattle.calls.specs.Refusals.{first}

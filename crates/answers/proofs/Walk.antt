@@ -8,6 +8,7 @@ use native.Mathlib.Decide.{decLt}
 use borrow.Author.Tests.{ltb-true, lt-ltb}
 use Rattle.rule.specs.declared.Pair.{Pair}
 use Rattle.rule.specs.Pairs.{combine}
+use Rattle.rule.specs.Time.{overlaps}
 use Rattle.page.specs.declared.Head.{Head}
 use Rattle.page.specs.Layout.{number-of, start-at, pair-at, child-at}
 use Rattle.page.specs.Fit.{Place, place-below, end-at, page-fit}
@@ -15,7 +16,7 @@ use Rattle.fit.proofs.Laws.Parts.{fewest-pos}
 use Rattle.image.specs.Images.{page-at}
 use Rattle.image.specs.Sound.{tree-fit}
 use Rattle.image.specs.Instant.{look}
-use Rattle.image.specs.Listing.{Walked, nothing, stopped, then, in-turn, under, leaf-run, overlaps, walk-page, walk}
+use Rattle.image.specs.Listing.{Walked, nothing, stopped, then, in-turn, under, leaf-run, walk-page, walk}
 use Rattle.audit.proofs.Fitness.{Fit-facts, fit-facts}
 use Rattle.audit.proofs.Spans.{bound, bound-next, bound-in, bound-past, bound-rises}
 use Rattle.audit.proofs.Tree.{tree-parts}

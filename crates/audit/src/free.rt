@@ -3,6 +3,9 @@ use fields::fill::all_ff;
 use lent::pages::page_at;
 use page::at::level_of;
 use page::at::next_of;
+use page::layout::BODY_BYTES;
+use page::layout::FREE_LEVEL;
+use page::layout::GAP_OFFSET;
 ghost use mathlib.Core.Path.{_≡_};
 ghost use Prim.Native.Nat.{_*_};
 ghost use lib.ListN.{length};
@@ -15,7 +18,7 @@ fn free_ok(s: &[u8]) -> bool
     requires { ⌜ length (now s) ≡ 512 ⌝ }
     ensures { λ r. ⌜ r ≡ free-ok 12 (now (s .entry)) ⌝ }
 {
-    (level_of(s) == 255) & all_ff(s, 8, 504)
+    (level_of(s) == FREE_LEVEL) & all_ff(s, GAP_OFFSET, BODY_BYTES)
 }
 
 // Whether a page number leads to a free page of the image: compared with n before it is used.

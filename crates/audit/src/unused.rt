@@ -1,5 +1,6 @@
 // "From the high mark on, pages are all FF."
 use fields::fill::all_ff;
+use page::layout::PAGE_BYTES;
 ghost use mathlib.Core.Path.{_≡_};
 ghost use Prim.Native.Nat.{_+_, _*_, _-_, _≤_};
 ghost use lib.ListN.{length};
@@ -12,5 +13,9 @@ pub fn never_used(img: &[u8], n: u32, mark: u32) -> bool
     requires { ⌜ (length (now img) ≡ 512 * n) × (mark ≤ n) ⌝ }
     ensures { λ r. ⌜ r ≡ every (n - mark) (λ i. never-used-ok (page-at 12 (now (img .entry)) (mark + i))) ⌝ }
 {
-    all_ff(img, 512 * mark as usize, 512 * (n - mark) as usize)
+    all_ff(
+        img,
+        PAGE_BYTES * mark as usize,
+        PAGE_BYTES * (n - mark) as usize,
+    )
 }

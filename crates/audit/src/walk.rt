@@ -1,21 +1,20 @@
 // "Audit goes by page and entry in turn: a page is checked by its entries, and an inner entry by its page below."
 use super::Counted;
-use fit::Place;
 use fit::places::place_below;
 use fit::tree_page::page_fit;
 use lent::pages::page_at;
 use page::Head;
+use page::Place;
 use page::at::child_at;
 use page::at::number_of;
 ghost use mathlib.Core.Path.{_≡_};
-ghost use Rattle.fit.specs.Places.{place-of};
 ghost use Rattle.audit.specs.Walks.{Standing, Inner, counted, counted-below};
 
 // The tree pages from page p at its place down, if all are fit: it ends at the first that is not. A page is fit at no two places, so
 // none is found fit twice; only the last look, at an unfit page, may be at one that was met before.
 pub fn audit_page(img: &[u8], h: Head, at: Place, p: u32) -> Counted
-    requires { ⌜ Standing (now img) h (place-of at) p ⌝ }
-    ensures { λ r. ⌜ r ≡ counted 12 h (now (img .entry)) (place-of at) p ⌝ }
+    requires { ⌜ Standing (now img) h at p ⌝ }
+    ensures { λ r. ⌜ r ≡ counted 12 h (now (img .entry)) at p ⌝ }
 {
     let s = page_at(img, p);
     if !page_fit(s, h, at) {
@@ -40,9 +39,9 @@ pub fn audit_page(img: &[u8], h: Head, at: Place, p: u32) -> Counted
 
 // The same from the page below the i-th entry of a fit inner page: the level falls.
 fn audit_entry(img: &[u8], h: Head, at: Place, p: u32, i: usize) -> Counted
-    requires { ⌜ Standing (now img) h (place-of at) p ⌝ }
-    requires { ⌜ Inner (now img) h (place-of at) p i ⌝ }
-    ensures { λ r. ⌜ r ≡ counted-below 12 h (now (img .entry)) (place-of at) p i ⌝ }
+    requires { ⌜ Standing (now img) h at p ⌝ }
+    requires { ⌜ Inner (now img) h at p i ⌝ }
+    ensures { λ r. ⌜ r ≡ counted-below 12 h (now (img .entry)) at p i ⌝ }
 {
     let s = page_at(img, p);
     let below = place_below(s, at, i);

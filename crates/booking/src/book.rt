@@ -3,7 +3,9 @@ use crate::Judged;
 use crate::changes::make_change;
 use crate::early::early;
 use crate::judging::judge;
+use calls::refusals::ACCEPTED;
 use fields::fill::fill;
+use page::layout::PAGE_BYTES;
 ghost use mathlib.Core.Path.{_≡_};
 ghost use Rattle.calls.specs.Calls.{book};
 ghost use Rattle.booking.specs.Sides.{side-of};
@@ -15,15 +17,15 @@ pub fn book(img: &mut [u8], scratch: &mut [u8], withdraws: bool, v: i64, s: u32,
         ≡ book 12 (side-of withdraws) v s e (now (img .entry)) (now (scratch .entry)) ⌝ }
 {
     let number = early(img, scratch, v, s, e);
-    if number != 0 {
+    if number != ACCEPTED {
         return number;
     }
-    fill(scratch, 0, img.len() / 512, 0);
+    fill(scratch, 0, img.len() / PAGE_BYTES, 0);
     match judge(img, withdraws, s, e) {
         Judged::Refused(row) => row,
         Judged::Accepted(h) => {
             make_change(img, h, withdraws, v, s, e);
-            0
+            ACCEPTED
         }
     }
 }

@@ -1,5 +1,11 @@
 // The rows before a booking goes to work on its image: the scratch is untouched at each.
+use calls::refusals::ACCEPTED;
+use calls::refusals::IMAGE_LENGTH;
+use calls::refusals::SCRATCH_SHORT;
+use calls::refusals::SPAN_EMPTY;
+use calls::refusals::VALUE_RANGE;
 use lent::lengths::length_fits;
+use page::layout::PAGE_BYTES;
 use rule::time::in_range;
 ghost use mathlib.Core.Path.{_≡_};
 ghost use Rattle.calls.specs.Refusals.{first};
@@ -10,20 +16,20 @@ pub fn early(img: &[u8], scratch: &[u8], v: i64, s: u32, e: u32) -> u32
     ensures { λ r. ⌜ r ≡ first (book-early 12 v s e (now (img .entry)) (now (scratch .entry))) ⌝ }
 {
     let whole = length_fits(img);
-    let room = img.len() / 512 <= scratch.len();
+    let room = img.len() / PAGE_BYTES <= scratch.len();
     let span = s < e;
     let fits = in_range(v);
     if !whole {
-        return 16;
+        return IMAGE_LENGTH;
     }
     if !room {
-        return 17;
+        return SCRATCH_SHORT;
     }
     if !span {
-        return 11;
+        return SPAN_EMPTY;
     }
     if !fits {
-        return 13;
+        return VALUE_RANGE;
     }
-    0
+    ACCEPTED
 }

@@ -1,9 +1,15 @@
 // "Turned back by the state": the rows that need the whole image.
 use crate::Judged;
 use audit::verdict::sound;
+use calls::refusals::CHANGES_FULL;
+use calls::refusals::PAGES_LACKING;
+use calls::refusals::UNSOUND;
+use calls::refusals::WITHDRAWAL_KIND;
 use lent::pages::page_at;
 use needs::verdict::lacks_pages;
 use page::heads::read_head;
+use rule::limits::MOST_CHANGES;
+use rule::limits::TOTALS;
 use rule::time::lengthened;
 ghost use mathlib.Core.Path.{_≡_};
 ghost use mathlib.Core.Bool.{true};
@@ -19,17 +25,17 @@ pub fn judge(img: &[u8], withdraws: bool, s: u32, e: u32) -> Judged
     ensures { λ r. ⌜ r ≡ judged (side-of withdraws) s e (now (img .entry)) ⌝ }
 {
     if !sound(img) {
-        return Judged::Refused(21);
+        return Judged::Refused(UNSOUND);
     }
     let h = read_head(page_at(img, 0));
-    if withdraws & (h.kind != 1) {
-        return Judged::Refused(22);
+    if withdraws & (h.kind != TOTALS) {
+        return Judged::Refused(WITHDRAWAL_KIND);
     }
-    if h.changes == 1000000000 {
-        return Judged::Refused(23);
+    if h.changes == MOST_CHANGES {
+        return Judged::Refused(CHANGES_FULL);
     }
     if lacks_pages(img, h, s, lengthened(e, h.window)) {
-        return Judged::Refused(24);
+        return Judged::Refused(PAGES_LACKING);
     }
     Judged::Accepted(h)
 }

@@ -9,7 +9,7 @@ use store::root::count_change;
 ghost use Rattle.rule.specs.Pairs.{combine};
 ghost use Rattle.steps.specs.Change.{change};
 ghost use Rattle.store.specs.Holding.{Holds, Some, Each};
-ghost use Rattle.change.specs.Ready.{Changeable};
+ghost use Rattle.change.specs.Changeable.{Changeable};
 
 // Each step finds the image as the one before left it.
 pub fn apply(img: &mut [u8], kind: u32, s: u32, e: u32, effect: Pair)

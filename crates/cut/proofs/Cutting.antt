@@ -1,6 +1,6 @@
--- A page on the way to an instant: what was read of it, and what it becomes. Assumes nothing.
-use Prim.Native.Nat.{ℕ, zero, suc, _+_, _-_, _≤_, _<_}
-use mathlib.Core.Path.{_≡_, refl, sym, ap, _∙_, subst}
+-- An entry whose page is on the way to an instant: what was read of the page, and what the entry becomes. Assumes nothing.
+use Prim.Native.Nat.{ℕ, zero, suc, _-_, _≤_, _<_}
+use mathlib.Core.Path.{_≡_, refl, sym, ap, _∙_, subst, subst⁻¹}
 use mathlib.Core.Bool.{cond}
 use mathlib.Core.List.{List, [], _∷_}
 use native.Mathlib.Omega.{arith}
@@ -9,22 +9,22 @@ use lib.Dec.{leb, eqb}
 use borrow.Author.Tests.{eq-eqb, ne-eqb}
 use Rattle.page.specs.declared.Entry.{Entry}
 use Rattle.page.specs.declared.Page.{Page}
-use Rattle.page.specs.Entries.{at, last-from, place, splice}
+use Rattle.page.specs.Entries.{at, place, splice}
 use Rattle.page.specs.Layout.{capacity}
 use Rattle.page.specs.Decoded.{shown}
-use Rattle.page.proofs.Laws.Decoded.{length-shown}
-use Rattle.image.specs.Images.{Image, Cell, tree}
+use Rattle.image.specs.Images.{Image, Cell}
 use Rattle.steps.specs.Supply.{entries, put, taken}
 use Rattle.steps.specs.Cut.{Cutting, cut-leaf-entry, kept, split, settled, cut-entry}
-use Rattle.edit.specs.Shows.{Shows}
-use Rattle.store.specs.Holding.{Holds, Each, Within, Loaded}
-use Rattle.store.specs.Places.{Sought}
+use Rattle.store.specs.declared.Found.{Found}
+use Rattle.store.specs.Holding.{Holds, Each-level, Loaded}
+use Rattle.store.specs.Ready.{In-image, Tree-page, Searchable, found-in, entry-for}
+use Rattle.store.proofs.Reading.{place-inside, loaded-number}
 use Rattle.store.proofs.Supplying.{within-put, within-taken}
 use Rattle.cut.specs.declared.Grown.{Grown}
 use Rattle.cut.specs.declared.Grown.the-variants.{Same, Split}
-use Rattle.cut.specs.Answers.{became, doubled, Cut-as, Makes}
-use Rattle.cut.specs.Ready.{Settlable, entry-for, below, Page-ready, Page-cuttable}
-use Rattle.cut.proofs.Settling.{either, makes-as}
+use Rattle.cut.specs.Answers.{became, doubled, Cut-as}
+use Rattle.cut.specs.Cuttable.{Settlable, below, Page-cuttable, Entry-cuttable}
+use Rattle.cut.proofs.Settling.{either, cut-as}
 
 -- ---- what a cutting leaves as it is: all that putting a page and taking one do
 
@@ -46,144 +46,112 @@ module _ (P : Image → Type 0) (puts : (p : ℕ) (c : Cell) (X : Image) → P X
       either (λ (c : Cutting). P (c .image)) (eqb (length (r .became)) 1) _ _ k
       (settled-keeps half l e (splice i (r .became) es) (r .image) k)
 
-pub cut-within : {q : ℕ} (half t l : ℕ) (e : Entry) (X : Image) → Within q X → Within q (cut-entry half t l e X .image)
-cut-within {q} half t l e X w = cut-keeps (Within q) (λ p c Y v. within-put v p c) (λ Y v. within-taken v) half t l e X w
+-- ---- a leaf's entry
 
--- ---- what a page becomes: it goes by what the entry that has t becomes, and by the page's own entry only where that is named
+module _ (e : Entry) (t : ℕ) where
+  pub leaf-same : e .start ≡ t → became e Same ≡ cut-leaf-entry t e
+  unfolding became cut-leaf-entry
+  leaf-same s = sym (rw (eq-eqb (e .start) t s))
 
--- the entries of page p then
-abbrev gained : ℕ → ℕ → ℕ → Image → List Entry
-gained l p t X = splice (place t (entries X p)) (below l p t X .became) (entries X p)
+  pub leaf-two : (e .start ≡ t → ⊥) → became e (Split t (e .child)) ≡ cut-leaf-entry t e
+  unfolding became cut-leaf-entry
+  leaf-two s = sym (rw (ne-eqb (e .start) t s))
 
-abbrev unchanged : Entry → Image → Cutting
-unchanged e X = record { became = e ∷ []; image = X }
-
-abbrev around : ℕ → ℕ → ℕ → Image → Entry → Cutting
-around l p t X e =
-    let r = below l p t X in
-    cond (eqb (length (r .became)) 1) (unchanged e (r .image)) (settled 12 l e (gained l p t X) (r .image))
-
-module _ (l p t : ℕ) (X : Image) (e : Entry) (c : e .child ≡ p) where
-  by-child : cut-entry 12 t (suc l) e X ≡ around l p t X e
+  pub leaf-as : {level : ℕ} {X : Image} {g : Grown} {after : List ℕ} → level ≡ 0 → became e g ≡ cut-leaf-entry t e → Holds after X
+      → Cut-as e (cut-entry 12 t level e X) g after
   unfolding cut-entry
-  by-child = ap (λ q. around l q t X e) c
+  leaf-as {level} {X} {g} {after} z b h =
+      subst⁻¹ (λ l. Cut-as e (cut-entry 12 t l e X) g after) z (record { becomes = b; holds = h })
 
-  cut-one : length (below l p t X .became) ≡ 1 → cut-entry 12 t (suc l) e X ≡ unchanged e (below l p t X .image)
-  cut-one n = by-child ∙ rw (eq-eqb (length (below l p t X .became)) 1 n)
+-- ---- an inner one: it goes by what the entry of its page that has t becomes
 
-  cut-two : length (below l p t X .became) ≡ 2 → cut-entry 12 t (suc l) e X ≡ settled 12 l e (gained l p t X) (below l p t X .image)
-  cut-two n = by-child ∙ rw (ne-eqb (length (below l p t X .became)) 1 (λ one. omega arith))
+-- the level of its page
+inner : (P : ℕ → Type 0) {level : ℕ} → (level ≡ 0 → ⊥) → P (suc (level - 1)) → P level
+inner P {level} d p =
+    let n : suc (level - 1) ≡ level = omega arith in
+    subst P n p
 
--- ---- the place of an instant
+pub page-cuttable : {level : ℕ} (e : Entry) {t : ℕ} {X : Image} → (level ≡ 0 → ⊥) → Entry-cuttable level e t X
+    → Page-cuttable (level - 1) (e .child) t X × Entry-cuttable (level - 1) (entry-for t (e .child) X) t X
+unfolding Entry-cuttable
+page-cuttable {level} e {t} {X} d r =
+    let n : level ≡ suc (level - 1) = omega arith in
+    subst (λ l. Entry-cuttable l e t X) n r
 
-last-below : (t i k n : ℕ) (es : List Entry) → k < n → i + length es ≤ n → last-from t i k es < n
-unfolding last-from
-last-below t i k n [] h m = h
-last-below t i k n (e ∷ es) h m =
-    last-below t (suc i) (cond (leb (e .start) t) i k) n es (either (λ m. m < n) (leb (e .start) t) i k (omega arith) h) (omega arith)
+-- what was read of the page: its entries, and the one that has t
+pub record Read (l p t : ℕ) (X : Image) (page : Page) (f : Found) : Type 0 where
+  pub loaded : Loaded l (entries X p) page
+  pub index : f .index ≡ place t (entries X p)
+  pub entry : f .entry ≡ entry-for t p X
+  pub inside : f .index < page .number
 
-place-below : (t : ℕ) (es : List Entry) → 1 ≤ length es → place t es < length es
-unfolding place
-place-below t es h = last-below t 0 0 (length es) es h (omega arith)
-
--- ---- what was read of page p: its entries, and the place of the one that has t
-
-pub record Found (l p t : ℕ) (X : Image) (page : Page) (i : ℕ) : Type 0 where
-  pub shows : Shows l (entries X p) page
-  pub few : page .number ≤ 24
-  pub number : length (entries X p) ≡ page .number
-  pub placed : i ≡ place t (entries X p)
-  pub inside : i < page .number
-
-pub found : {img : List ℕ} {l p t : ℕ} {X : Image} {page : Page} {i : ℕ} → Page-ready l p t X → Holds img X
-    → Each img (Within p) (λ Y. (k : ℕ) (es : List Entry) → Y .page p ≡ tree k es → Loaded k es page)
-    → Each img (Sought p t) (λ Y. i ≡ place t (entries Y p)) → Found l p t X page i
-found {l = l} {p} {t} {X} {page} {i} ready h loads finds =
-    let sought : Sought p t X = ready .sought in
-    let es : List Entry = entries X p in
-    let loaded : Loaded l es page = loads X h (sought .within) l es (sought .page ∙ ap (λ k. tree k es) (ready .level)) in
-    let n : length es ≡ page .number = ap length (sym (loaded .shows .entries)) ∙ length-shown page in
-    let at-place : i ≡ place t es = finds X h sought in
+pub read : {img : List ℕ} {l p t : ℕ} {X : Image} {page : Page} {f : Found} → Page-cuttable l p t X → Holds img X
+    → Each-level img (λ k. Tree-page k p) (λ k Y. Loaded k (entries Y p) page)
+    → Each-level img (λ k. Searchable k p t) (λ k Y. f ≡ found-in t (entries Y p)) → Read l p t X page f
+unfolding found-in
+read {l = l} {p} {t} {X} {page} {f} r h loads finds =
+    let s : Searchable l p t X = r .searchable in
+    let loaded : Loaded l (entries X p) page = loads X h l (s .treed) in
+    let e = finds X h l s in
+    let i : f .index ≡ place t (entries X p) = ap (λ (g : Found). g .index) e in
     record {
-      shows = loaded .shows;
-      few = loaded .few;
-      number = n;
-      placed = at-place;
-      inside = omega (arith, place-below t es (sought .some));
+      loaded = loaded;
+      index = i;
+      entry = ap (λ (g : Found). g .entry) e;
+      inside = omega (arith, loaded-number loaded, place-inside t (entries X p) (s .some));
     }
 
-pub cuttable-ready : {l p t : ℕ} {X : Image} → Page-cuttable l p t X → Page-ready l p t X
-unfolding Page-cuttable
-cuttable-ready {l} {p} {t} {X} h = go l h
-  where
-    go : (k : ℕ) → Page-cuttable k p t X → Page-ready k p t X
-    go zero k = k
-    go (suc n) k = k .0
+module _ (e : Entry) {level t : ℕ} {X : Image} {page : Page} {f : Found} (d : level ≡ 0 → ⊥)
+    (k : Read (level - 1) (e .child) t X page f) where
+  abbrev under : Cutting
+  under = below (level - 1) (e .child) t X
 
-module _ {l p t : ℕ} {X : Image} {page : Page} {i : ℕ} (f : Found l p t X page i) {a : Entry} (e : a ≡ at (shown page) i) where
-  pub found-entry : a ≡ entry-for t p X
-  found-entry = e ∙ (λ j. at (f .shows .entries j) (f .placed j))
+  -- the entry of the page, in the words of what was read
+  pub read-cuttable : Entry-cuttable level e t X → Entry-cuttable (level - 1) (f .entry) t X
+  read-cuttable r = subst⁻¹ (λ x. Entry-cuttable (level - 1) x t X) (k .entry) (page-cuttable e d r .1)
 
-  -- the page below is ready, and once it is cut the entry became what it became
-  pub found-cuttable : (l ≡ 0 → ⊥) → Page-cuttable l p t X → Page-cuttable (l - 1) (a .child) t X
-  unfolding Page-cuttable
-  found-cuttable d h = subst (λ x. Page-cuttable (l - 1) (x .child) t X) (sym found-entry) (go l d h)
-    where
-      go : (k : ℕ) → (k ≡ 0 → ⊥) → Page-cuttable k p t X → Page-cuttable (k - 1) (entry-for t p X .child) t X
-      go zero d h = absurd (d refl)
-      go (suc k) d h =
-          let n : k ≡ suc k - 1 = omega arith in
-          subst (λ m. Page-cuttable m (entry-for t p X .child) t X) n (h .1)
+  pub read-below : {g : Grown} {after : List ℕ} → Cut-as (f .entry) (cut-entry 12 t (level - 1) (f .entry) X) g after
+      → Cut-as (f .entry) under g after
+  read-below b = cut-as (ap (λ x. cut-entry 12 t (level - 1) x X) (k .entry)) b
 
-  pub found-below : {g : Grown} {after : List ℕ} → (l ≡ 0 → ⊥) → Makes (a .child) (λ x. cut-entry 12 t (suc (l - 1)) x X) g after
-      → Cut-as a (below l p t X) g after
-  found-below {g} {after} d m =
-      let level : suc (l - 1) ≡ l = omega arith in
-      subst (λ c. Cut-as a c g after) (λ j. cut-entry 12 t (level j) (found-entry j) X) (m .each a refl)
+  -- the entry stayed one, and so does e
+  pub read-same : {after : List ℕ} → Cut-as (f .entry) under Same after → Cut-as e (cut-entry 12 t level e X) Same after
+  unfolding became cut-entry
+  read-same {after} b =
+      inner (λ n. Cut-as e (cut-entry 12 t n e X) Same after) d
+      (rw (eq-eqb (length (under .became)) 1 (ap length (sym (b .becomes)))) (record { becomes = refl; holds = b .holds }))
 
-  -- the entry stayed one, and so does the page
-  pub found-same : {after : List ℕ} → Cut-as a (below l p t X) Same after → Makes p (λ x. cut-entry 12 t (suc l) x X) Same after
-  unfolding became
-  found-same b =
-      makes-as (λ x c. sym (cut-one l p t X x c (ap length (sym (b .becomes)))))
-      (record { each = λ x c. record { becomes = refl; holds = b .holds } })
-
-  module _ {start q : ℕ} {after : List ℕ} (b : Cut-as a (below l p t X) (Split start q) after) where
-    two : length (below l p t X .became) ≡ 2
+  module _ {start q : ℕ} {after : List ℕ} (b : Cut-as (f .entry) under (Split start q) after) where
+    two : length (under .became) ≡ 2
     unfolding became
     two = ap length (sym (b .becomes))
 
     -- it became two: the page can be written
-    pub found-settlable : Page-ready l p t X → Settlable p (suc (page .number)) (below l p t X .image)
-    found-settlable ready =
+    pub read-settlable : Page-cuttable (level - 1) (e .child) t X → Settlable (e .child) (suc (page .number)) (under .image)
+    read-settlable r =
+        let p = e .child in
         record {
-          within = cut-within 12 t l (entry-for t p X) X (ready .sought .within);
-          room = λ n. ready .room (omega (arith, two)) (omega (arith, f .number));
+          within =
+              cut-keeps (In-image p) (λ q c Y v. within-put v q c) (λ Y v. within-taken v) 12 t (level - 1) (entry-for t p X) X
+              (r .searchable .treed .within);
+          room = λ n. r .room (omega (arith, two)) (omega (arith, loaded-number (k .loaded)));
         }
 
-    found-gained : doubled i start q (shown page) ≡ gained l p t X
+    gained : doubled (f .index) start q (shown page) ≡ splice (place t (entries X (e .child))) (under .became) (entries X (e .child))
     unfolding doubled
-    found-gained =
-        let x : Entry = at (shown page) i in
-        let both : became x (Split start q) ≡ below l p t X .became = ap (λ y. became y (Split start q)) (sym e) ∙ b .becomes in
-        λ j. splice (f .placed j) (both j) (f .shows .entries j)
+    gained =
+        let es = k .loaded .shows .entries in
+        let x : at (shown page) (f .index) ≡ f .entry = (λ j. at (es j) (k .index j)) ∙ sym (k .entry) in
+        let both : became (at (shown page) (f .index)) (Split start q) ≡ under .became =
+        ap (λ y. became y (Split start q)) x ∙ b .becomes in
+        λ j. splice (k .index j) (both j) (es j)
 
-    -- and becomes what the cutting says
-    pub found-makes : {r : Grown} {then : List ℕ}
-        → Makes p (λ x. settled 12 (page .level) x (doubled i start q (shown page)) (below l p t X .image)) r then
-        → Makes p (λ x. cut-entry 12 t (suc l) x X) r then
-    found-makes m =
-        makes-as
-        (λ x c. (λ j. settled 12 (f .shows .level j) x (found-gained j) (below l p t X .image)) ∙ sym (cut-two l p t X x c two)) m
-
--- ---- a leaf's entry
-
-module _ {p t : ℕ} {X : Image} {page : Page} {i : ℕ} (f : Found 0 p t X page i) {a : Entry} (e : a ≡ at (shown page) i) {img : List ℕ}
-    (h : Holds img X) where
-  pub leaf-same : a .start ≡ t → Cut-as a (below 0 p t X) Same img
-  unfolding became cut-entry cut-leaf-entry
-  leaf-same s = record { becomes = sym (rw (eq-eqb (a .start) t s)) ∙ ap (cut-leaf-entry t) (found-entry f e); holds = h }
-
-  pub leaf-two : (a .start ≡ t → ⊥) → Cut-as a (below 0 p t X) (Split t (a .child)) img
-  unfolding became cut-entry cut-leaf-entry
-  leaf-two s = record { becomes = sym (rw (ne-eqb (a .start) t s)) ∙ ap (cut-leaf-entry t) (found-entry f e); holds = h }
+    -- and e becomes what the cutting says
+    pub read-two : {r : Grown} {then : List ℕ}
+        → Cut-as e (settled 12 (page .level) e (doubled (f .index) start q (shown page)) (under .image)) r then
+        → Cut-as e (cut-entry 12 t level e X) r then
+    unfolding cut-entry
+    read-two {r} {then} m =
+        inner (λ n. Cut-as e (cut-entry 12 t n e X) r then) d
+        (rw (ne-eqb (length (under .became)) 1 (λ one. omega (arith, two)))
+        (cut-as (λ j. settled 12 (k .loaded .shows .level j) e (gained j) (under .image)) m))

@@ -1,6 +1,6 @@
 -- The root: it is cut as an entry, and where it becomes two it gets a new root. Assumes nothing.
 use Prim.Native.Nat.{ℕ, suc, _+_, _-_, _≤_, _<_}
-use mathlib.Core.Path.{_≡_, refl, sym, ap, _∙_, subst}
+use mathlib.Core.Path.{_≡_, refl, sym, ap, _∙_, subst, subst₂}
 use mathlib.Core.Bool.{cond}
 use mathlib.Core.List.{List, [], _∷_}
 use native.Mathlib.Numerals.{add-one}
@@ -22,8 +22,8 @@ use Rattle.edit.specs.Shows.{Shows}
 use Rattle.store.specs.Holding.{Holds}
 use Rattle.cut.specs.declared.Grown.{Grown}
 use Rattle.cut.specs.declared.Grown.the-variants.{Same, Split}
-use Rattle.cut.specs.Answers.{became, Cut-as, Makes}
-use Rattle.cut.specs.Ready.{Raisable, from-root, Root-cuttable}
+use Rattle.cut.specs.Answers.{became, Cut-as}
+use Rattle.cut.specs.Cuttable.{Entry-cuttable, Raisable, from-root, Root-cuttable}
 use Rattle.cut.proofs.Settling.{either, shows-tree}
 use Rattle.cut.proofs.Cutting.{cut-keeps}
 
@@ -63,18 +63,19 @@ raised-holds X es {after = after} n s h =
 
 -- ---- the root as an entry
 
-module _ (t : ℕ) (X : Image) where
-  pub root-cut : {g : Grown} {after : List ℕ} → 1 ≤ X .head .height
-      → Makes (X .head .root) (λ e. cut-entry 12 t (suc (X .head .height - 1)) e X) g after → Cut-as (root-entry X) (from-root t X) g after
-  unfolding root-entry
-  root-cut {g} {after} some m =
-      let level : suc (X .head .height - 1) ≡ X .head .height = omega arith in
-      subst (λ c. Cut-as (root-entry X) c g after) (ap (λ l. cut-entry 12 t l (root-entry X) X) level) (m .each (root-entry X) refl)
+module _ (t : ℕ) (X : Image) {h : Head} (read : h ≡ X .head) where
+  -- by the head that was read
+  module _ {e : Entry} (made : e ≡ entry 0 none (h .root)) where
+    root-is : e ≡ root-entry X
+    unfolding root-entry
+    root-is = made ∙ ap (λ (k : Head). entry 0 none (k .root)) read
 
-  pub root-same : {after : List ℕ} → t < END → Cut-as (root-entry X) (from-root t X) Same after → Holds after (cut 12 t X)
-  unfolding became
-  root-same {after} l r =
-      subst (Holds after) (sym (cut-inside t X l ∙ grown-one (from-root t X) (ap length (sym (r .becomes))))) (r .holds)
+    pub root-ready : Root-cuttable t X → Entry-cuttable (h .height) e t X
+    root-ready r = subst₂ (λ (k : Head) x. Entry-cuttable (k .height) x t X) (sym read) (sym root-is) (r .entry)
+
+    pub root-cut : {g : Grown} {after : List ℕ} → Cut-as e (cut-entry 12 t (h .height) e X) g after
+        → Cut-as (root-entry X) (from-root t X) g after
+    root-cut {g} {after} m = subst₂ (λ (k : Head) x. Cut-as x (cut-entry 12 t (k .height) x X) g after) read root-is m
 
   module _ {start q : ℕ} {after : List ℕ} (r : Cut-as (root-entry X) (from-root t X) (Split start q) after) where
     two : length (from-root t X .became) ≡ 2
@@ -89,10 +90,16 @@ module _ (t : ℕ) (X : Image) where
         }
 
     pub root-two : {then : List ℕ} → t < END
-        → Holds then (raised (entry 0 none (X .head .root) ∷ entry start none q ∷ []) (from-root t X .image)) → Holds then (cut 12 t X)
+        → Holds then (raised (entry 0 none (h .root) ∷ entry start none q ∷ []) (from-root t X .image)) → Holds then (cut 12 t X)
     unfolding became root-entry
-    root-two {then} l h =
+    root-two {then} l m =
         subst (Holds then)
-        (ap (λ es. raised es (from-root t X .image)) (r .becomes)
+        (ap (λ (k : Head). raised (entry 0 none (k .root) ∷ entry start none q ∷ []) (from-root t X .image)) read
+        ∙ ap (λ es. raised es (from-root t X .image)) (r .becomes)
         ∙ sym (cut-inside t X l ∙ grown-two (from-root t X) (λ one. omega (arith, two))))
-        h
+        m
+
+pub root-same : (t : ℕ) (X : Image) {after : List ℕ} → t < END → Cut-as (root-entry X) (from-root t X) Same after → Holds after (cut 12 t X)
+unfolding became
+root-same t X {after} l r =
+    subst (Holds after) (sym (cut-inside t X l ∙ grown-one (from-root t X) (ap length (sym (r .becomes))))) (r .holds)

@@ -19,26 +19,24 @@ use Rattle.steps.specs.Cut.{Cutting, kept, split, settled}
 use Rattle.edit.specs.Shows.{Shows}
 use Rattle.edit.proofs.Edits.{shows-number, splice-inserted}
 use Rattle.page.proofs.Laws.Decoded.{length-shown}
-use Rattle.store.specs.Holding.{Holds, Within}
-use Rattle.store.specs.Supplying.{Takable}
+use Rattle.store.specs.Holding.{Holds}
+use Rattle.store.specs.Ready.{In-image, Takable}
 use Rattle.store.proofs.Supplying.{within-taken}
 use Rattle.cut.specs.declared.Grown.{Grown}
 use Rattle.cut.specs.declared.Grown.the-variants.{Same, Split}
-use Rattle.cut.specs.Answers.{became, doubled, Cut-as, Makes}
+use Rattle.cut.specs.Answers.{became, doubled, Cut-as}
 
 -- what holds of both holds of either
 pub either : {A : Type 0} (P : A → Type 0) (b : Bool) (x y : A) → P x → P y → P (cond b x y)
 either P true x y p q = p
 either P false x y p q = q
 
--- the same cutting of every entry that leads to the page
-pub makes-as : {p : ℕ} {f g : Entry → Cutting} {r : Grown} {after : List ℕ} → ((e : Entry) → e .child ≡ p → f e ≡ g e)
-    → Makes p f r after → Makes p g r after
-makes-as {r = r} {after} same m = record { each = λ e c. subst (λ k. Cut-as e k r after) (same e c) (m .each e c) }
-
--- the answer that a match has told
+-- the answer that a match has told, and the same cutting in other words
 pub told : {e : Entry} {c : Cutting} {g g′ : Grown} {after : List ℕ} → g ≡ g′ → Cut-as e c g after → Cut-as e c g′ after
 told {e} {c} {after = after} same m = subst (λ r. Cut-as e c r after) same m
+
+pub cut-as : {e : Entry} {c c′ : Cutting} {g : Grown} {after : List ℕ} → c ≡ c′ → Cut-as e c g after → Cut-as e c′ g after
+cut-as {e} {g = g} {after} same m = subst (λ c. Cut-as e c g after) same m
 
 pub shows-tree : {l : ℕ} {es : List Entry} {r : Page} → Shows l es r → tree (r .level) (shown r) ≡ tree l es
 shows-tree s = λ j. tree (s .level j) (s .entries j)
@@ -57,50 +55,36 @@ module _ {l : ℕ} (page : Page) {half : Page} (n : page .number ≡ 25) where
       omega (arith, shows-number s, length-drop 12 (shown page))
 
 -- the taken page is one of the image's
-pub spare-within : {q : ℕ} {X : Image} → q ≡ spare X → Takable X → Within q (taken X)
-spare-within {X = X} n t = within-taken (subst (λ k. Within k X) (sym n) (t .within))
+pub spare-within : {q : ℕ} {X : Image} → q ≡ spare X → Takable X → In-image q (taken X)
+spare-within {X = X} n t = within-taken (subst (λ k. In-image k X) (sym n) (t .within))
 
 -- ---- one page or two
 
-module _ (half level : ℕ) (e : Entry) (es : List Entry) (X : Image) where
-  settled-kept : length es ≤ capacity half → settled half level e es X ≡ kept level e es X
-  unfolding settled
-  settled-kept few = ap (λ b. cond b (kept level e es X) (split half level e es X)) (le-leb (length es) (capacity half) few)
+abbrev decided : Entry → ℕ → List Entry → Image → Bool → Cutting
+decided e level es X b = cond b (kept level e es X) (split 12 level e es X)
 
-  settled-split : capacity half < length es → settled half level e es X ≡ split half level e es X
-  unfolding settled
-  settled-split many = ap (λ b. cond b (kept level e es X) (split half level e es X)) (lt-leb (length es) (capacity half) many)
-
-module _ (p level : ℕ) (es : List Entry) (X : Image) {after : List ℕ} where
+module _ (e : Entry) (level : ℕ) (es : List Entry) (X : Image) {after : List ℕ} where
   -- up to 24 entries are saved
-  pub saved-makes : length es ≤ 24 → Holds after (put p (tree level es) X) → Makes p (λ e. settled 12 level e es X) Same after
-  unfolding kept became
-  saved-makes few h = makes-as (λ e c. sym (settled-kept 12 level e es X few)) kept-makes
-    where
-      kept-makes : Makes p (λ e. kept level e es X) Same after
-      kept-makes =
-          record { each = λ e c. record { becomes = refl; holds = subst (λ q. Holds after (put q (tree level es) X)) (sym c) h } }
+  pub saved-as : length es ≤ 24 → Holds after (put (e .child) (tree level es) X) → Cut-as e (settled 12 level e es X) Same after
+  unfolding settled kept became
+  saved-as few h = cut-as (ap (decided e level es X) (sym (le-leb (length es) (capacity 12) few))) (record { becomes = refl; holds = h })
 
   -- "the page keeps 12, a taken page gets 13, the parent gains an entry with the same pair"
-  pub split-makes : {q start : ℕ} {left right : Page} → Shows level (take 12 es) left → Shows level (drop 12 es) right
+  pub split-as : {q start : ℕ} {left right : Page} → Shows level (take 12 es) left → Shows level (drop 12 es) right
       → q ≡ spare X → start ≡ at (shown right) 0 .start
-      → Holds after (put q (tree (right .level) (shown right)) (put p (tree (left .level) (shown left)) (taken X)))
-      → Makes p (λ e. split 12 level e es X) (Split start q) after
+      → Holds after (put q (tree (right .level) (shown right)) (put (e .child) (tree (left .level) (shown left)) (taken X)))
+      → Cut-as e (split 12 level e es X) (Split start q) after
   unfolding split became
-  split-makes {q} {start} l r n s h =
+  split-as {q} {start} l r n s h =
       let first : start ≡ at (drop 12 es) 0 .start = s ∙ ap (λ xs. at xs 0 .start) (r .entries) in
       record {
-        each =
-            λ e c.
-            record {
-              becomes = λ j. e ∷ entry (first j) (e .pair) (n j) ∷ [];
-              holds = subst (Holds after) (λ j. put (n j) (shows-tree r j) (put (sym c j) (shows-tree l j) (taken X))) h;
-            };
+        becomes = λ j. e ∷ entry (first j) (e .pair) (n j) ∷ [];
+        holds = subst (Holds after) (λ j. put (n j) (shows-tree r j) (put (e .child) (shows-tree l j) (taken X))) h;
       }
 
-  pub halved-makes : {r : Grown} → 24 < length es → Makes p (λ e. split 12 level e es X) r after
-      → Makes p (λ e. settled 12 level e es X) r after
-  halved-makes many m = makes-as (λ e c. sym (settled-split 12 level e es X many)) m
+  pub halved-as : {r : Grown} → 24 < length es → Cut-as e (split 12 level e es X) r after → Cut-as e (settled 12 level e es X) r after
+  unfolding settled
+  halved-as many m = cut-as (ap (decided e level es X) (sym (lt-leb (length es) (capacity 12) many))) m
 
 -- ---- an entry that becomes two
 
@@ -116,16 +100,11 @@ module _ (page : Page) (i : ℕ) (new : Entry) {r : Page} (s : Shows (page .leve
       shows-number s ∙ length-inserted (i + 1) new (shown page) (omega arith) ∙ ap suc n
 
   -- the new one stands behind its old one, with the same pair
-  doubled-entries : (start child : ℕ) → new ≡ entry start (at (shown page) i .pair) child → shown r ≡ doubled i start child (shown page)
+  pub doubled-entries : (start child : ℕ) → new ≡ entry start (at (shown page) i .pair) child
+      → shown r ≡ doubled i start child (shown page)
   unfolding doubled became
   doubled-entries start child same =
       let n : length (shown page) ≡ page .number = length-shown page in
       s .entries
       ∙ (λ j. inserted (add-one i j) (same j) (shown page))
       ∙ sym (splice-inserted i (at (shown page) i) (entry start (at (shown page) i .pair) child) (shown page) (omega arith) refl)
-
-  pub doubled-makes : (start child : ℕ) (X : Image) {p : ℕ} {g : Grown} {after : List ℕ} → new ≡ entry start (at (shown page) i .pair) child
-      → Makes p (λ e. settled 12 (r .level) e (shown r) X) g after
-      → Makes p (λ e. settled 12 (page .level) e (doubled i start child (shown page)) X) g after
-  doubled-makes start child X same m =
-      makes-as (λ e c. (λ j. settled 12 (s .level j) e (doubled-entries start child same j) X)) m

@@ -1,4 +1,4 @@
--- What a page that was cut became for its parent. Assumes nothing.
+-- What an entry that was cut became. Assumes nothing.
 use Prim.Native.Nat.{ℕ}
 use mathlib.Core.Path.{_≡_}
 use mathlib.Core.List.{List, [], _∷_}
@@ -9,7 +9,7 @@ use Rattle.store.specs.Holding.{Holds}
 use Rattle.cut.specs.declared.Grown.{Grown}
 use Rattle.cut.specs.declared.Grown.the-variants.{Same, Split}
 
--- the page's entry e; where the page was split, "the parent gains an entry with the same pair"
+-- the entry e; where its page was split, "the parent gains an entry with the same pair"
 unfoldable pub became : Entry → Grown → List Entry
 became e Same = e ∷ []
 became e (Split start q) = e ∷ entry start (e .pair) q ∷ []
@@ -18,11 +18,7 @@ became e (Split start q) = e ∷ entry start (e .pair) q ∷ []
 unfoldable pub doubled : ℕ → ℕ → ℕ → List Entry → List Entry
 doubled i start child es = splice i (became (at es i) (Split start child)) es
 
--- The page under e became r and the bytes then are `after`, as the cutting of e says.
+-- The entry e became r and the bytes then are `after`, as the cutting of e says.
 pub record Cut-as (e : Entry) (c : Cutting) (r : Grown) (after : List ℕ) : Type 0 where
   pub becomes : became e r ≡ c .became
   pub holds : Holds after (c .image)
-
--- So it is for every entry that leads to page p.
-pub record Makes (p : ℕ) (cutting : Entry → Cutting) (r : Grown) (after : List ℕ) : Type 0 where
-  pub each : (e : Entry) → e .child ≡ p → Cut-as e (cutting e) r after

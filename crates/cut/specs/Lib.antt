@@ -1,2 +1,2 @@
 pub mod Answers
-pub mod Ready
+pub mod Cuttable

@@ -1,22 +1,24 @@
 // Cut at an instant, from the root.
 use crate::Grown;
-use crate::pages::cut_page;
+use crate::entries::cut_entry;
 use crate::root::raise;
+use rule::limits::END;
 use store::heads::head_of;
+use store::root::root_entry;
 ghost use Rattle.steps.specs.Cut.{cut};
 ghost use Rattle.store.specs.Holding.{Holds, Some, Each};
-ghost use Rattle.cut.specs.Ready.{Cuttable};
+ghost use Rattle.cut.specs.Cuttable.{Cuttable};
 
 // "nothing if t is END or starts a leaf entry".
 pub fn cut(img: &mut [u8], t: u32)
     requires { ⌜ Some (now img) (Cuttable t) ⌝ }
     ensures { λ _. ⌜ Each (now (img .entry)) (Cuttable t) (λ X. Holds (now (img .exit)) (cut 12 t X)) ⌝ }
 {
-    if t == 4294967295 {
+    if t == END {
         return;
     }
     let h = head_of(img);
-    let Grown::Split(start, q) = cut_page(img, h.height - 1, h.root, t) else {
+    let Grown::Split(start, q) = cut_entry(img, h.height, root_entry(h), t) else {
         return;
     };
     raise(img, h.root, start, q)

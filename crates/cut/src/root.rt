@@ -1,5 +1,6 @@
 // "A split root gets a new root, two entries with pair (0, 0)."
 use page::Page;
+use page::layout::SLOTS;
 use store::heads::head_of;
 use store::pages::save;
 use store::root::set_root;
@@ -10,14 +11,14 @@ ghost use Rattle.page.specs.Entries.{entry};
 ghost use Rattle.steps.specs.Cut.{raised};
 ghost use Rattle.edit.specs.Shows.{Shows};
 ghost use Rattle.store.specs.Holding.{Holds, Some, Each};
-ghost use Rattle.cut.specs.Ready.{Raisable};
+ghost use Rattle.cut.specs.Cuttable.{Raisable};
 
 // The new root's entries: from 0 on the page that was root, from start on the page q.
 fn new_root(level: u32, root: u32, start: u32, q: u32) -> Page
     ensures { λ r. ⌜ Shows level (entry 0 none root ∷ entry start none q ∷ []) r ⌝ }
 {
-    let mut starts = [0u32; 25];
-    let mut children = [0u32; 25];
+    let mut starts = [0u32; SLOTS];
+    let mut children = [0u32; SLOTS];
     starts[1] = start;
     children[0] = root;
     children[1] = q;
@@ -25,14 +26,14 @@ fn new_root(level: u32, root: u32, start: u32, q: u32) -> Page
         level: level,
         number: 2,
         starts: starts,
-        sums: [0i64; 25],
-        counts: [0i32; 25],
+        sums: [0i64; SLOTS],
+        counts: [0i32; SLOTS],
         children: children,
     }
 }
 
 // The new root is the page that is taken last, a level above.
-pub fn raise(img: &mut [u8], root: u32, start: u32, q: u32)
+pub(crate) fn raise(img: &mut [u8], root: u32, start: u32, q: u32)
     requires { ⌜ Some (now img) Raisable ⌝ }
     ensures { λ _. ⌜ Each (now (img .entry)) Raisable
         (λ X. Holds (now (img .exit)) (raised (entry 0 none root ∷ entry start none q ∷ []) X)) ⌝ }

@@ -4,6 +4,9 @@ ghost use Prim.Native.Nat.{_+_, _≤_};
 ghost use lib.ListN.{length, replicate};
 ghost use Rattle.fields.specs.Bytes.{part, patch, all-are};
 
+// "Unused bytes are FF (hexadecimal)."
+pub const UNUSED_BYTE: u8 = 255;
+
 // Whether the n bytes from place a on are all FF: no exit in the loop, so that many bytes are tested at once.
 pub fn all_ff(s: &[u8], a: usize, n: usize) -> bool
     requires { ⌜ a + n ≤ length (now s) ⌝ }
@@ -12,7 +15,7 @@ pub fn all_ff(s: &[u8], a: usize, n: usize) -> bool
     let mut ok = true;
     let mut i = 0;
     while i < n {
-        ok = ok & (s[a + i] == 255);
+        ok = ok & (s[a + i] == UNUSED_BYTE);
         i += 1;
     }
     ok

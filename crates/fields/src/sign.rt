@@ -10,7 +10,7 @@ pub(crate) fn signed32(u: u32) -> i32
     if u < 2147483648 {
         u as i32
     } else {
-        !((4294967295 - u) as i32)
+        !((u32::MAX - u) as i32)
     }
 }
 
@@ -21,7 +21,7 @@ pub(crate) fn signed64(u: u64) -> i64
     if u < 9223372036854775808 {
         u as i64
     } else {
-        !((18446744073709551615 - u) as i64)
+        !((u64::MAX - u) as i64)
     }
 }
 
@@ -30,7 +30,7 @@ pub(crate) fn bits32(z: i32) -> u32
     ensures { λ r. ⌜ r ≡ ofZ w32 z ⌝ }
 {
     if z < 0 {
-        4294967295 - (!z as u32)
+        u32::MAX - (!z as u32)
     } else {
         z as u32
     }
@@ -41,7 +41,7 @@ pub(crate) fn bits64(z: i64) -> u64
     ensures { λ r. ⌜ r ≡ ofZ w64 z ⌝ }
 {
     if z < 0 {
-        18446744073709551615 - (!z as u64)
+        u64::MAX - (!z as u64)
     } else {
         z as u64
     }

@@ -1,28 +1,14 @@
--- The code's place as the definition's, the bounds that every place in a fit tree keeps, and a number of entries that may be used. Assumes nothing.
+-- The bounds that every place in a fit tree keeps, and a number of entries that may be used. Assumes nothing.
 use Prim.Native.Nat.{ℕ, _≤_}
 use mathlib.Core.Path.{_≡_}
 use mathlib.Core.List.{List}
 use lib.ListN.{length}
 use Rattle.rule.specs.Averages.{most-sum}
 use Rattle.page.specs.Layout.{number-of}
-use Rattle.page.specs.Fit as page
-use Rattle.page.specs.Fit.{most-changes}
-use Rattle.fit.specs.declared.Place.{Place}
-
--- field by field
-abbrev pub place-of : Place → page.Place
-place-of at =
-    record {
-      level = at .level;
-      is-root = at .«is_root»;
-      lo = at .lo;
-      hi = at .hi;
-      sums = at .sums;
-      counts = at .counts;
-    }
+use Rattle.page.specs.Fit.{Place, most-changes}
 
 -- what keeps the sums along a way within 64 bits, whatever the next page shows
-pub record Bounded (at : page.Place) : Type 0 where
+pub record Bounded (at : Place) : Type 0 where
   pub sums : at .sums ≤ most-sum
   pub counts : at .counts ≤ most-changes
 

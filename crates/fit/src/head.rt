@@ -2,6 +2,11 @@
 use fields::fill::all_ff;
 use page::Head;
 use page::heads::read_head;
+use page::layout::HEAD_BYTES;
+use page::layout::HEAD_REST;
+use page::layout::LEAST_MARK;
+use page::layout::MOST_HEIGHT;
+use rule::limits::MOST_CHANGES;
 use rule::time::kind_ok;
 use rule::time::window_ok;
 ghost use mathlib.Core.Path.{_≡_};
@@ -15,15 +20,15 @@ fn ranges_ok(h: Head, pages: u32) -> bool
 {
     (h.pages == pages)
         & (1 <= h.height)
-        & (h.height <= 4)
+        & (h.height <= MOST_HEIGHT)
         & (1 <= h.root)
         & (h.root < pages)
         & (h.free < pages)
-        & (2 <= h.mark)
+        & (LEAST_MARK <= h.mark)
         & (h.mark <= pages)
         & kind_ok(h.kind)
         & window_ok(h.window)
-        & (h.changes <= 1000000000)
+        & (h.changes <= MOST_CHANGES)
 }
 
 // Whether page 0 is the fit head of an image of so many pages, for any 512 bytes: ranges, "and its rest is FF".
@@ -31,5 +36,5 @@ pub fn head_fit(s: &[u8], pages: u32) -> bool
     requires { ⌜ length (now s) ≡ 512 ⌝ }
     ensures { λ r. ⌜ r ≡ head-fit 12 pages (now (s .entry)) ⌝ }
 {
-    ranges_ok(read_head(s), pages) & all_ff(s, 36, 476)
+    ranges_ok(read_head(s), pages) & all_ff(s, HEAD_BYTES, HEAD_REST)
 }

@@ -1,17 +1,18 @@
 // "it has 12 to 24 entries (root leaf 1 to 24, inner root 2 to 24)"
-use super::Place;
+use page::Place;
 use page::at::number_of;
+use page::layout::FEWEST_ENTRIES;
+use page::layout::MOST_ENTRIES;
 ghost use mathlib.Core.Path.{_≡_};
 ghost use lib.ListN.{length};
 ghost use Rattle.page.specs.Fit.{fewest, number-ok};
-ghost use Rattle.fit.specs.Places.{place-of};
 
 // The fewest entries of a page at a place.
 fn fewest(at: Place) -> u32
-    ensures { λ r. ⌜ r ≡ fewest 12 (place-of at) ⌝ }
+    ensures { λ r. ⌜ r ≡ fewest 12 at ⌝ }
 {
     if !at.is_root {
-        return 12;
+        return FEWEST_ENTRIES;
     }
     if at.level == 0 { 1 } else { 2 }
 }
@@ -19,8 +20,8 @@ fn fewest(at: Place) -> u32
 // Whether the number of entries may stand in a page at a place: the page may be worn, so nothing may use the number before.
 pub fn number_ok(s: &[u8], at: Place) -> bool
     requires { ⌜ length (now s) ≡ 512 ⌝ }
-    ensures { λ r. ⌜ r ≡ number-ok 12 (place-of at) (now (s .entry)) ⌝ }
+    ensures { λ r. ⌜ r ≡ number-ok 12 at (now (s .entry)) ⌝ }
 {
     let number = number_of(s);
-    (fewest(at) <= number) & (number <= 24)
+    (fewest(at) <= number) & (number <= MOST_ENTRIES)
 }

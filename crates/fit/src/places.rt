@@ -1,28 +1,28 @@
 // Places in the tree: the root's, and the one under an entry of a page.
-use super::Place;
-use super::magnitude::magnitude;
-use super::magnitude::magnitude32;
 use page::Head;
+use page::Place;
 use page::at::number_of;
 use page::at::pair_at;
 use page::at::start_at;
+use rule::limits::END;
+use rule::numbers::magnitude;
 ghost use mathlib.Core.Path.{_≡_};
 ghost use Prim.Native.Nat.{_≤_, _<_};
 ghost use lib.ListN.{length};
 ghost use Rattle.page.specs.Fit.{root-place, end-at, place-below};
 ghost use Rattle.page.specs.Layout.{number-of};
-ghost use Rattle.fit.specs.Places.{place-of, Bounded};
+ghost use Rattle.fit.specs.Places.{Bounded};
 
 // The root's place: "(root: height − 1)", "(root: 0)", "(root: END)".
 pub fn root_place(h: Head) -> Place
     requires { ⌜ 1 ≤ h .height ⌝ }
-    ensures { λ r. ⌜ place-of r ≡ root-place h ⌝ }
+    ensures { λ r. ⌜ r ≡ root-place h ⌝ }
 {
     Place {
         level: h.height - 1,
         is_root: true,
         lo: 0,
-        hi: 4294967295,
+        hi: END,
         sums: 0,
         counts: 0,
     }
@@ -45,8 +45,8 @@ pub fn end_at(s: &[u8], hi: u32, i: usize) -> u32
 pub fn place_below(s: &[u8], at: Place, i: usize) -> Place
     requires { ⌜ length (now s) ≡ 512 ⌝ }
     requires { ⌜ (i < 24) × (number-of (now s) ≤ 24) ⌝ }
-    requires { ⌜ (1 ≤ at .level) × Bounded (place-of at) ⌝ }
-    ensures { λ r. ⌜ place-of r ≡ place-below 12 (now (s .entry)) (place-of at) i ⌝ }
+    requires { ⌜ (1 ≤ at .level) × Bounded at ⌝ }
+    ensures { λ r. ⌜ r ≡ place-below 12 (now (s .entry)) at i ⌝ }
 {
     let p = pair_at(s, i);
     Place {
@@ -55,6 +55,6 @@ pub fn place_below(s: &[u8], at: Place, i: usize) -> Place
         lo: start_at(s, i),
         hi: end_at(s, at.hi, i),
         sums: at.sums + magnitude(p.sum),
-        counts: at.counts + magnitude32(p.count),
+        counts: at.counts + magnitude(p.count as i64),
     }
 }

@@ -1,23 +1,23 @@
 // Is a page fit at its place?
-use super::Place;
 use super::children::children_ok;
 use super::number::number_ok;
 use super::pairs::pairs_ok;
 use super::starts::starts_ok;
 use super::unused::unused_ok;
 use page::Head;
+use page::Place;
 use page::at::level_of;
 use page::at::number_of;
 ghost use mathlib.Core.Path.{_≡_};
 ghost use lib.ListN.{length};
 ghost use Rattle.page.specs.Fit.{page-fit};
-ghost use Rattle.fit.specs.Places.{place-of, Bounded};
+ghost use Rattle.fit.specs.Places.{Bounded};
 
 // Whether a page is fit at its place, for any 512 bytes: exits stand only between the parts of the check.
 pub fn page_fit(s: &[u8], h: Head, at: Place) -> bool
     requires { ⌜ length (now s) ≡ 512 ⌝ }
-    requires { ⌜ Bounded (place-of at) ⌝ }
-    ensures { λ r. ⌜ r ≡ page-fit 12 h (place-of at) (now (s .entry)) ⌝ }
+    requires { ⌜ Bounded at ⌝ }
+    ensures { λ r. ⌜ r ≡ page-fit 12 h at (now (s .entry)) ⌝ }
 {
     // "A page is fit at its place if its level is the one expected there"
     if level_of(s) != at.level {

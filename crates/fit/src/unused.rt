@@ -1,5 +1,12 @@
 // "unused bytes are FF": "24 bytes FF" before the arrays, and "places past the number are FF".
 use fields::fill::all_ff;
+use page::layout::CAPACITY;
+use page::layout::ENTRIES_OFFSET;
+use page::layout::ENTRY_BYTES;
+use page::layout::GAP_BYTES;
+use page::layout::GAP_OFFSET;
+use page::layout::START_BYTES;
+use page::layout::STARTS_OFFSET;
 ghost use mathlib.Core.Path.{_≡_};
 ghost use Rattle.page.specs.Layout.{unused-ok};
 ghost use Rattle.fit.specs.Places.{Compared};
@@ -9,6 +16,8 @@ pub fn unused_ok(s: &[u8], n: usize) -> bool
     requires { ⌜ Compared (now s) n ⌝ }
     ensures { λ r. ⌜ r ≡ unused-ok 12 (now (s .entry)) ⌝ }
 {
-    let past = 24 - n;
-    all_ff(s, 8, 24) & (all_ff(s, 32 + 4 * n, 4 * past) & all_ff(s, 128 + 16 * n, 16 * past))
+    let past = CAPACITY - n;
+    all_ff(s, GAP_OFFSET, GAP_BYTES)
+        & (all_ff(s, STARTS_OFFSET + START_BYTES * n, START_BYTES * past)
+            & all_ff(s, ENTRIES_OFFSET + ENTRY_BYTES * n, ENTRY_BYTES * past))
 }

@@ -1,48 +1,22 @@
--- The place of an instant is an entry's, and what becomes of a leaf. Assumes nothing.
+-- What becomes of a leaf. Assumes nothing.
 use mathlib.Core.Path.{_≡_, sym, ap, _∙_}
 use mathlib.Core.Bool.{Bool, true, false, cond, _&&_}
-use mathlib.Core.List.{List, [], _∷_}
-use Prim.Native.Nat.{ℕ, zero, suc, _+_, _-_, _≤_, _<_}
+use mathlib.Core.List.{List, []}
+use Prim.Native.Nat.{ℕ, zero, _-_}
 use native.Mathlib.Omega.{arith}
-use lib.Dec.{eqb, leb, ltb}
-use lib.ListN.{length}
+use lib.Dec.{eqb, ltb}
 use borrow.Author.Tests.{lt-ltb, le-ltb}
-use Rattle.rule.specs.Pairs.{same-pair}
+use Rattle.rule.specs.Pairs.{combine, same-pair}
 use Rattle.page.specs.declared.Entry.{Entry}
 use Rattle.page.specs.declared.Page.{Page}
 use Rattle.page.specs.Decoded.{shown}
-use Rattle.page.specs.Entries.{at, last-from, place, splice}
+use Rattle.page.specs.Entries.{at, place, splice}
 use Rattle.image.specs.Images.{Image, tree}
 use Rattle.edit.specs.Shows.{Shows}
+use Rattle.edit.proofs.Edits.{shows-then}
 use Rattle.steps.specs.Supply.{entries, put}
-use Rattle.steps.specs.Heal.{heals}
+use Rattle.steps.specs.Heal.{heals, heal-page}
 use Rattle.store.specs.Holding.{Loaded}
-use Rattle.store.specs.Places.{Sought}
-use Rattle.heal.specs.Ready.{Parent, healed-leaf}
-
--- ---- the place
-
-picked : (b : Bool) (i k n : ℕ) → i < n → k < n → cond b i k < n
-picked true i k n l m = l
-picked false i k n l m = m
-
-last-inside : (t i found n : ℕ) (es : List Entry) → found < n → i + length es ≤ n → last-from t i found es < n
-unfolding last-from
-last-inside t i found n [] h k = h
-last-inside t i found n (e ∷ es) h k =
-    last-inside t (suc i) (cond (leb (e .start) t) i found) n es (picked (leb (e .start) t) i found n (omega arith) h) (omega arith)
-
-place-inside : (t : ℕ) (es : List Entry) → 1 ≤ length es → place t es < length es
-unfolding place
-place-inside t es some = last-inside t 0 0 (length es) es some (omega arith)
-
--- a page that can be searched has the entry that is found
-pub sought-parent : {p t i : ℕ} {X : Image} → Sought p t X → i ≡ place t (entries X p) → Parent p i X
-sought-parent {p} {t} {i} {X} s e =
-    record {
-      treed = record { level = s .level; ready = record { within = s .within; page = s .page } };
-      inside = omega (arith, place-inside t (entries X p) (s .some));
-    }
 
 -- ---- the test
 
@@ -60,22 +34,21 @@ module _ (t i : ℕ) (es : List Entry) where
       let later : ltb 0 i ≡ true = lt-ltb 0 i (omega arith) in
       ap (λ b. eqb (x .start) t && b) r ∙ (λ j. sym later j && (eqb (e j .start) t && same-pair (e j .pair) (d j .pair)))
 
--- ---- what becomes of the leaf
+-- ---- what becomes of the leaf, whatever the kind
 
-module _ (t p : ℕ) {i : ℕ} (X : Image) {page : Page} (n : Loaded zero (entries X p) page) (e : i ≡ place t (entries X p)) where
+module _ (kind t p : ℕ) {i : ℕ} (X : Image) {page : Page} (n : Loaded zero (entries X p) page) (e : i ≡ place t (entries X p)) where
   tested : heals t (shown page) i ≡ heals t (entries X p) (place t (entries X p))
   tested = λ j. heals t (n .shows .entries j) (e j)
 
-  pub leaf-kept : heals t (shown page) i ≡ false → X ≡ healed-leaf t p X
-  unfolding healed-leaf
+  pub leaf-kept : heals t (shown page) i ≡ false → X ≡ heal-page 12 (combine kind) t 0 p X
+  unfolding heal-page
   leaf-kept b = ap (λ b. cond b (put p (tree zero (splice (place t (entries X p)) [] (entries X p))) X) X) (sym (sym tested ∙ b))
 
   pub leaf-healed : {r : Page} → heals t (shown page) i ≡ true → Shows (page .level) (splice i [] (shown page)) r
-      → put p (tree (r .level) (shown r)) X ≡ healed-leaf t p X
-  unfolding healed-leaf
+      → put p (tree (r .level) (shown r)) X ≡ heal-page 12 (combine kind) t 0 p X
+  unfolding heal-page
   leaf-healed {r} b s =
       let es : List Entry = entries X p in
-      let l : r .level ≡ zero = s .level ∙ n .shows .level in
-      let w : shown r ≡ splice (place t es) [] es = s .entries ∙ (λ j. splice (e j) [] (n .shows .entries j)) in
-      (λ j. put p (tree (l j) (w j)) X)
-      ∙ ap (λ b. cond b (put p (tree zero (splice (place t es) [] es)) X) X) (sym (sym tested ∙ b))
+      let w = shows-then (splice i []) (n .shows) s in
+      (λ j. put p (tree (w .level j) (w .entries j)) X)
+      ∙ (λ j. cond (sym (sym tested ∙ b) j) (put p (tree zero (splice (e j) [] es)) X) X)

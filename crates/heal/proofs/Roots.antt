@@ -16,12 +16,12 @@ use Rattle.image.specs.Images.{Image, tree}
 use Rattle.edit.specs.Shows.{Shows}
 use Rattle.steps.specs.Supply.{entries, put, given-back, with-root}
 use Rattle.steps.specs.Heal.{pushed, lowered, shrunk, heal-page, heal}
-use Rattle.siblings.specs.Ready.{Treed}
+use Rattle.store.specs.Ready.{Tree-page}
 
 -- the head that was read leads to the root
 module _ (X : Image) {h : Head} (e : h ≡ X .head) where
-  pub read-root : {level : ℕ} → Treed level (X .head .root) X → Treed level (h .root) X
-  read-root {level} t = subst (λ k. Treed level (k .root) X) (sym e) t
+  pub read-root : {level : ℕ} → Tree-page level (X .head .root) X → Tree-page level (h .root) X
+  read-root {level} t = subst (λ k. Tree-page level (k .root) X) (sym e) t
 
   pub read-number : {n : ℕ} → n ≡ length (entries X (h .root)) → n ≡ length (entries X (X .head .root))
   read-number n = n ∙ ap (λ k. length (entries X (k .root))) e

@@ -5,50 +5,41 @@ use Prim.Native.Nat.{ℕ, zero, suc, _+_, _-_, _≤_, _<_}
 use native.Mathlib.Omega.{arith}
 use lib.Dec.{eqb, ltb}
 use lib.ListN.{length}
-use borrow.Author.Tests.{eq-eqb, ne-eqb, lt-ltb, le-ltb, ltb-true, ltb-false}
+use borrow.Author.Tests.{eq-eqb, ne-eqb, lt-ltb, le-ltb}
 use Rattle.rule.specs.Pairs.{combine}
 use Rattle.page.specs.Entries.{at}
 use Rattle.image.specs.Images.{Image}
 use Rattle.steps.specs.Supply.{entries}
 use Rattle.steps.specs.Heal.{neighbour, left-of, give, merge, turn}
-use Rattle.siblings.specs.Ready.{Treed, Sharable, Mergeable}
-use Rattle.heal.specs.Ready.{Parent, Turnable}
+use Rattle.store.specs.Ready.{Tree-page, Has-entry}
+use Rattle.heal.specs.Siblings.{Sharable, Mergeable}
+use Rattle.heal.specs.Healable.{Turnable}
 
--- ---- the two places, and how many entries the left one has
-
--- what was asked says
-module _ (i : ℕ) {b : Bool} (asked : b ≡ ltb 0 i) where
-  pub has-left : b ≡ true → 0 < i
-  has-left e = ltb-true 0 i (sym asked ∙ e)
-
-  pub has-none : b ≡ false → i ≡ 0
-  has-none e = omega (arith, ltb-false 0 i (sym asked ∙ e))
+-- ---- the two indices, and how many entries the left one has
 
 module _ (i : ℕ) (e : i ≡ 0) where
-  pub neighbour-right : i + 1 ≡ neighbour i
+  pub neighbour-right : 1 ≡ neighbour i
   unfolding neighbour
-  neighbour-right =
-      let d : i + 1 ≡ 1 = omega arith in
-      d ∙ ap (λ b. cond b 1 (i - 1)) (sym (eq-eqb i 0 e))
+  neighbour-right = ap (λ b. cond b 1 (i - 1)) (sym (eq-eqb i 0 e))
 
-  pub left-itself : i ≡ left-of i
+  pub left-itself : 0 ≡ left-of i
   unfolding left-of
   left-itself = omega arith
 
   pub share-right : (n : ℕ) → 12 ≡ cond (eqb i 0) 12 (n - 1)
   share-right n = ap (λ b. cond b 12 (n - 1)) (sym (eq-eqb i 0 e))
 
-module _ (i : ℕ) (e : 0 < i) where
+module _ (i : ℕ) (e : i ≡ 0 → ⊥) where
   pub neighbour-left : i - 1 ≡ neighbour i
   unfolding neighbour
-  neighbour-left = ap (λ b. cond b 1 (i - 1)) (sym (ne-eqb i 0 (λ z. omega arith)))
+  neighbour-left = ap (λ b. cond b 1 (i - 1)) (sym (ne-eqb i 0 e))
 
   pub left-before : i - 1 ≡ left-of i
   unfolding left-of
   left-before = refl
 
   pub share-left : (n : ℕ) → n - 1 ≡ cond (eqb i 0) 12 (n - 1)
-  share-left n = ap (λ b. cond b 12 (n - 1)) (sym (ne-eqb i 0 (λ z. omega arith)))
+  share-left n = ap (λ b. cond b 12 (n - 1)) (sym (ne-eqb i 0 e))
 
 -- ---- the neighbour
 
@@ -57,39 +48,34 @@ right-is : suc (left-of 0) ≡ neighbour 0
 right-is = ap suc (sym (left-itself 0 refl)) ∙ neighbour-right 0 refl
 
 left-is : (i : ℕ) → left-of (suc i) ≡ neighbour (suc i)
-left-is i = sym (left-before (suc i) (omega arith)) ∙ neighbour-left (suc i) (omega arith)
+left-is i = sym (left-before (suc i) (λ z. omega arith)) ∙ neighbour-left (suc i) (λ z. omega arith)
 
 after-left : (i : ℕ) → suc (left-of (suc i)) ≡ suc i
 after-left i =
     let d : suc (suc i - 1) ≡ suc i = omega arith in
-    ap suc (sym (left-before (suc i) (omega arith))) ∙ d
+    ap suc (sym (left-before (suc i) (λ z. omega arith))) ∙ d
 
 -- The page under the i-th entry is one of the two siblings, its neighbour the other one.
 pub record Pairing (level p i : ℕ) (X : Image) : Type 0 where
   pub inside : neighbour i < length (entries X p)
-  pub treed : Treed level (at (entries X p) (neighbour i) .child) X
+  pub treed : Tree-page level (at (entries X p) (neighbour i) .child) X
 
 pub turn-neighbour : {level p : ℕ} (i : ℕ) {X : Image} → Turnable level p i X → Pairing level p i X
 turn-neighbour {level} {p} zero {X} s =
     let e = right-is in
     record {
-      inside = omega (arith, s .siblings .both);
-      treed = subst (λ k. Treed level (at (entries X p) k .child) X) e (s .siblings .right .treed);
+      inside = omega (arith, s .siblings .parent .inside);
+      treed = subst (λ k. Tree-page level (at (entries X p) k .child) X) e (s .siblings .right .treed);
     }
 turn-neighbour {level} {p} (suc i) {X} s =
     let e = left-is i in
     record {
-      inside = omega (arith, s .siblings .both);
-      treed = subst (λ k. Treed level (at (entries X p) k .child) X) e (s .siblings .left .treed);
+      inside = omega (arith, s .siblings .parent .inside);
+      treed = subst (λ k. Tree-page level (at (entries X p) k .child) X) e (s .siblings .left .treed);
     }
 
-pub turn-parent : {level p i j : ℕ} {X : Image} → Turnable level p i X → j ≡ neighbour i → Parent p j X
-turn-parent {level} {p} {i} {j} {X} s e =
-    let t = s .siblings .parent in
-    record {
-      treed = record { level = suc level; ready = t };
-      inside = omega (arith, turn-neighbour i s .inside);
-    }
+pub turn-entry : {level p i j : ℕ} {X : Image} → Turnable level p i X → j ≡ neighbour i → Has-entry (suc level) p j X
+turn-entry {i = i} s e = record { treed = s .siblings .parent .treed; inside = omega (arith, turn-neighbour i s .inside) }
 
 -- ---- what it does
 
@@ -108,7 +94,7 @@ share-fits zero n low high =
     let e = share-right 0 refl n in
     (omega arith, (omega arith, omega arith))
 share-fits (suc i) n low high =
-    let e = share-left (suc i) (omega arith) n in
+    let e = share-left (suc i) (λ z. omega arith) n in
     (omega arith, (omega arith, omega arith))
 
 module _ {level p i l n : ℕ} {X : Image} (at-left : l ≡ left-of i) (has : n ≡ under p X (neighbour i)) where

@@ -4,16 +4,16 @@ use edit::remove::remove;
 use page::Entry;
 use page::Page;
 use rule::combine::same_pair;
+use store::entries::find_entry;
 use store::pages::load;
 use store::pages::save;
-use store::places::place_of;
 ghost use mathlib.Core.Path.{_≡_};
-ghost use Prim.Native.Nat.{_<_, _≤_};
-ghost use Rattle.rule.specs.Pairs.{same-pair};
+ghost use Prim.Native.Nat.{ℕ, _<_, _≤_};
+ghost use Rattle.rule.specs.Pairs.{combine, same-pair};
 ghost use Rattle.page.specs.Decoded.{shown};
-ghost use Rattle.steps.specs.Heal.{heals};
+ghost use Rattle.steps.specs.Heal.{heals, heal-page};
 ghost use Rattle.store.specs.Holding.{Holds, Some, Each};
-ghost use Rattle.heal.specs.Ready.{Leaf-healable, healed-leaf};
+ghost use Rattle.store.specs.Ready.{Searchable};
 
 // Whether two entries have the same pair.
 fn alike(e: Entry, before: Entry) -> bool
@@ -37,14 +37,15 @@ fn heals(page: Page, i: usize, t: u32) -> bool
     (e.start == t) & alike(e, before)
 }
 
-// The leaf p. Nothing is written where no entry goes.
-pub fn heal_leaf(img: &mut [u8], p: u32, t: u32)
-    requires { ⌜ Some (now img) (Leaf-healable t p) ⌝ }
-    ensures { λ _. ⌜ Each (now (img .entry)) (Leaf-healable t p) (λ X. Holds (now (img .exit)) (healed-leaf t p X)) ⌝ }
+// The leaf p. Nothing is written where no entry goes. The kind's rule has no part in it.
+pub(crate) fn heal_leaf(img: &mut [u8], p: u32, t: u32)
+    requires { ⌜ Some (now img) (Searchable 0 p t) ⌝ }
+    ensures { λ _. ⌜ Each (now (img .entry)) (Searchable 0 p t)
+        (λ X. (kind : ℕ) → Holds (now (img .exit)) (heal-page 12 (combine kind) t 0 p X)) ⌝ }
 {
-    let i = place_of(img, p, t);
+    let found = find_entry(img, p, t);
     let page = load(img, p);
-    if heals(page, i, t) {
-        save(img, p, remove(page, i));
+    if heals(page, found.index, t) {
+        save(img, p, remove(page, found.index));
     }
 }

@@ -1,36 +1,30 @@
 // "A page other than the root left with 11 turns to its left neighbour under the same parent, else the right."
-use crate::reading::child_at;
-use crate::reading::number_in;
-use siblings::give::give;
-use siblings::merge::merge;
+use crate::give::give;
+use crate::merge::merge;
+use page::layout::HALF;
+use store::entries::entry_count;
+use store::entries::entry_of;
 ghost use mathlib.Core.Path.{_≡_};
 ghost use mathlib.Core.Bool.{cond};
-ghost use lib.Dec.{eqb, ltb};
+ghost use lib.Dec.{eqb};
 ghost use Prim.Native.Nat.{_-_, _≤_};
 ghost use Rattle.rule.specs.Pairs.{combine};
 ghost use Rattle.steps.specs.Heal.{neighbour, left-of, turn};
-ghost use Rattle.store.specs.Holding.{Holds, Some, Each};
-ghost use Rattle.heal.specs.Ready.{Turnable};
+ghost use Rattle.store.specs.Holding.{Holds, Some-level, Each-level};
+ghost use Rattle.heal.specs.Healable.{Turnable};
 
-// Whether the page under the i-th entry has a left neighbour: that one is asked.
-fn has_left(i: usize) -> bool
-    ensures { λ r. ⌜ r ≡ ltb 0 i ⌝ }
-{
-    0 < i
-}
-
-// The neighbour's place.
+// The neighbour's index, for the page under the i-th entry.
 fn neighbour(i: usize) -> usize
     ensures { λ r. ⌜ r ≡ neighbour i ⌝ }
 {
-    if has_left(i) { i - 1 } else { i + 1 }
+    if i == 0 { 1 } else { i - 1 }
 }
 
-// The place of the left one of the two.
+// The index of the left one of the two.
 fn left_of(i: usize) -> usize
     ensures { λ r. ⌜ r ≡ left-of i ⌝ }
 {
-    if has_left(i) { i - 1 } else { i }
+    if i == 0 { 0 } else { i - 1 }
 }
 
 // How many entries the left one has then, if the neighbour has n and gives one.
@@ -38,19 +32,20 @@ fn left_share(i: usize, n: usize) -> usize
     requires { ⌜ 1 ≤ n ⌝ }
     ensures { λ r. ⌜ r ≡ cond (eqb i 0) 12 (n - 1) ⌝ }
 {
-    if has_left(i) { n - 1 } else { 12 }
+    if i == 0 { HALF } else { n - 1 }
 }
 
 // The page under the i-th entry of page p turns to its neighbour.
-pub fn turn(img: &mut [u8], kind: u32, level: u32, p: u32, i: usize)
-    requires { ⌜ Some (now img) (Turnable level p i) ⌝ }
-    ensures { λ _. ⌜ Each (now (img .entry)) (Turnable level p i) (λ X. Holds (now (img .exit)) (turn 12 (combine kind) level p i X)) ⌝ }
+pub(crate) fn turn(img: &mut [u8], kind: u32, p: u32, i: usize)
+    requires { ⌜ Some-level (now img) (λ v. Turnable v p i) ⌝ }
+    ensures { λ _. ⌜ Each-level (now (img .entry)) (λ v. Turnable v p i)
+        (λ v X. Holds (now (img .exit)) (turn 12 (combine kind) v p i X)) ⌝ }
 {
-    let q = child_at(img, p, neighbour(i));
-    let n = number_in(img, q);
-    if n > 12 {
-        give(img, kind, level, p, left_of(i), left_share(i, n));
+    let e = entry_of(img, p, neighbour(i));
+    let n = entry_count(img, e.child);
+    if n > HALF {
+        give(img, kind, p, left_of(i), left_share(i, n));
         return;
     }
-    merge(img, kind, level, p, left_of(i));
+    merge(img, kind, p, left_of(i));
 }

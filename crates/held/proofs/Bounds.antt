@@ -8,10 +8,10 @@ use lib.Dec.{eqb, leb, ltb}
 use lib.ListN.{length, drop, getD}
 use Rattle.rule.specs.declared.Pair.{Pair}
 use Rattle.rule.specs.Pairs.{none}
-use Rattle.rule.specs.Time.{END}
+use Rattle.rule.specs.Time.{END, overlaps}
 use Rattle.page.specs.declared.Entry.{Entry}
 use Rattle.page.specs.Entries.{entry, at, place}
-use Rattle.steps.specs.Spread.{inside, meets, start-of, took}
+use Rattle.steps.specs.Spread.{inside, start-of, took}
 use Rattle.steps.specs.Heal.{heals, neighbour, left-of}
 use Rattle.tree.specs.Tree.{Ent, Kid, Ents, no-ent, bare, ent-of, pair-under, pair-in, Tree}
 use Rattle.tree.specs.Supply.{Supply}
@@ -139,7 +139,7 @@ module _ {_⊕_ : Pair → Pair → Pair} {norm : Pair → ℕ} {Each : Pair →
         took-within l above x _ q
         (ends-all (λ h y. spread-ent _⊕_ s e effect l h y) hi (λ h y. spread-within-ent l (above + norm (x .entry .pair)) h y) (q .2))
         (inside s e (x .entry .start) hi)
-        (meets s e (x .entry .start) hi)
+        (overlaps s e (x .entry .start) hi)
 
     pub spread-within : (Y : State) → Within-tree norm Each most (Y .tree) → Within-tree norm Each raised (spread _⊕_ s e effect Y .tree)
     unfolding spread spread-ents

@@ -4,9 +4,9 @@ use mathlib.Core.Path.{_≡_, refl, ap, _∙_}
 use mathlib.Core.List.{List, [], _∷_}
 use native.Mathlib.Omega.{arith}
 use Rattle.rule.specs.declared.Pair.{Pair}
-use Rattle.rule.specs.Time.{END}
+use Rattle.rule.specs.Time.{END, overlaps}
 use Rattle.page.specs.declared.Entry.{Entry}
-use Rattle.steps.specs.Spread.{inside, meets, start-of, took}
+use Rattle.steps.specs.Spread.{inside, start-of, took}
 use Rattle.tree.specs.Tree.{Ent, Kid, Ents, bare}
 use Rattle.tree.specs.Cut.{State}
 use Rattle.tree.specs.Spread.{with-ends, spread-ent, spread-ents, spread}
@@ -29,7 +29,7 @@ module _ (w : ℕ → ℕ) (_⊕_ : Pair → Pair → Pair) (s e : ℕ) (effect 
       let a : w (took _⊕_ s e effect hi (x .entry) .child) ≡ w (x .entry .child) = either (λ (z : Entry). w (z .child) ≡ w (x .entry .child)) refl refl in-span in
       let b = ends-sum (λ y. under w l y) (λ h y. spread-ent _⊕_ s e effect l h y) (λ h y. spread-under l h y) hi (x .kid) in
       ap (λ n. n + below w l (spread-ent _⊕_ s e effect (suc l) hi x .kid)) a
-      ∙ ap (λ n. w (x .entry .child) + n) (either Same refl (either Same b refl (meets s e (x .entry .start) hi)) in-span)
+      ∙ ap (λ n. w (x .entry .child) + n) (either Same refl (either Same b refl (overlaps s e (x .entry .start) hi)) in-span)
 
   pub spread-even : (Y : State) → Even-states w Y (spread _⊕_ s e effect Y)
   unfolding spread spread-ents

@@ -11,13 +11,14 @@ use lib.Dec.{eqb}
 use borrow.Author.Tests.{eq-eqb, ne-eqb}
 use Rattle.rule.specs.declared.Pair.{Pair}
 use Rattle.rule.specs.Pairs.{combine}
+use Rattle.rule.specs.Time.{overlaps}
 use Rattle.page.specs.declared.Head.{Head}
 use Rattle.page.specs.Entries.{place}
 use Rattle.page.specs.Layout.{number-of, start-at, pair-at, child-at, entries-of, head-of}
 use Rattle.page.specs.Fit.{Place, root-place, place-below, fewest, end-at, page-fit}
 use Rattle.image.specs.Images.{page-at}
 use Rattle.image.specs.Instant.{Looked, stopped, leaf-answer, above, look, look-up}
-use Rattle.image.specs.Listing.{Walked, nothing, then, in-turn, under, leaf-run, overlaps, walk-page, walk, walk-over}
+use Rattle.image.specs.Listing.{Walked, nothing, then, in-turn, under, leaf-run, walk-page, walk, walk-over}
 use Rattle.image.specs.Listing
 use Rattle.image.specs.Trail.{Visit, each-in-turn, finds-fit, all-fit, up-to-unfit, Ends-unfit, visits, trail, entry-of, entries-over, instant-trail, listing-trail}
 use Rattle.image.proofs.Found.{room, found-within}

@@ -5,6 +5,7 @@ use mathlib.Core.List.{List, [], _∷_, _++_, map}
 use lib.Dec.{ltb}
 use Rattle.rule.specs.declared.Pair.{Pair}
 use Rattle.rule.specs.Pairs.{same-pair, combine}
+use Rattle.rule.specs.Time.{overlaps}
 use Rattle.fields.specs.Numbers.{u32-bytes, i32-bytes, i64-bytes}
 use Rattle.page.specs.declared.Head.{Head}
 use Rattle.page.specs.Layout.{number-of, start-at, pair-at, child-at, head-of}
@@ -52,10 +53,6 @@ under comb p w =
 -- a leaf entry's own run, from where it meets the span on
 unfoldable pub leaf-run : ℕ → ℕ → Pair → Walked
 leaf-run a start p = record { fit = true; runs = record { start = max a start; pair = p } ∷ [] }
-
--- the span [lo, hi) overlaps [a, b)
-unfoldable pub overlaps : ℕ → ℕ → ℕ → ℕ → Bool
-overlaps a b lo hi = ltb lo b && ltb a hi
 
 -- of a fit page, what each entry gives that overlaps [a, b), in turn
 unfoldable pub walk-page : ℕ → Head → ℕ → ℕ → Place → List ℕ → (ℕ → Walked) → Walked

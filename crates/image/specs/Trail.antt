@@ -6,12 +6,12 @@ use mathlib.Core.Path.{_≡_}
 use mathlib.Core.Bool.{Bool, true, false, cond, _&&_}
 use mathlib.Core.List.{List, [], _∷_, _++_}
 use lib.Dec.{eqb}
+use Rattle.rule.specs.Time.{overlaps}
 use Rattle.page.specs.declared.Head.{Head}
 use Rattle.page.specs.Entries.{place}
 use Rattle.page.specs.Layout.{number-of, start-at, child-at, entries-of, head-of}
 use Rattle.page.specs.Fit.{Place, root-place, place-below, end-at, page-fit}
 use Rattle.image.specs.Images.{page-at}
-use Rattle.image.specs.Listing.{overlaps}
 
 -- A look at a page, at its place.
 pub record Visit : Type 0 where

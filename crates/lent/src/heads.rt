@@ -3,6 +3,7 @@ use crate::Opening;
 use crate::pages::page_at;
 use fit::head::head_fit;
 use page::heads::read_head;
+use page::layout::PAGE_BYTES;
 ghost use mathlib.Core.Path.{_≡_};
 ghost use mathlib.Core.Bool.{true};
 ghost use Rattle.image.specs.Images.{length-ok};
@@ -13,7 +14,7 @@ pub fn open_head(img: &[u8]) -> Opening
     requires { ⌜ length-ok 12 (now img) ≡ true ⌝ }
     ensures { λ r. ⌜ r ≡ opening (now (img .entry)) ⌝ }
 {
-    let n = (img.len() / 512) as u32;
+    let n = (img.len() / PAGE_BYTES) as u32;
     let s = page_at(img, 0);
     if head_fit(s, n) {
         return Opening::Fit(read_head(s));

@@ -1,4 +1,6 @@
-// A page of the image: its 512 bytes, lent on.
+// A page of the image: its bytes, lent on.
+use page::layout::PAGE_BYTES;
+use page::pages::page_offset;
 ghost use mathlib.Core.Path.{_≡_};
 ghost use Rattle.image.specs.Images.{page-at};
 ghost use Rattle.lent.specs.Opened.{Within};
@@ -8,7 +10,7 @@ pub fn page_at(img: &[u8], p: u32) -> &[u8]
     requires { ⌜ Within (now img) p ⌝ }
     ensures { λ r. ⌜ now r ≡ page-at 12 (now (img .entry)) p ⌝ }
 {
-    let a = 512 * p as usize;
-    let e = a + 512;
+    let a = page_offset(p);
+    let e = a + PAGE_BYTES;
     &img[a..e]
 }

@@ -11,7 +11,6 @@ use Rattle.rule.specs.Bounds.{value-or-none}
 use Rattle.page.specs.declared.Head.{Head}
 use Rattle.page.specs.Layout.{number-of}
 use Rattle.page.specs.Fit.{Place, most-changes, page-fit}
-use Rattle.fit.specs.Places.{place-of}
 use Rattle.fit.proofs.Laws.Ways.{Way}
 use Rattle.listing.specs.declared.Task.{Task}
 use Rattle.listing.specs.declared.Spot.{Spot}
@@ -29,14 +28,14 @@ pub record Sits (img : List ℕ) (q : Task) (on : Spot) : Type 0 where
   pub changes : q .head .changes ≤ most-changes
   pub page : on .page < q .head .pages
   pub depth : ℕ
-  pub way : Way (q .head) depth (place-of (on .at))
-  pub above : Above (q .head) (place-of (on .at)) (on .above)
+  pub way : Way (q .head) depth (on .at)
+  pub above : Above (q .head) (on .at) (on .above)
 
 -- Where runs are written, the page has been found fit.
 pub record Known (img : List ℕ) (q : Task) (on : Spot) : Type 0 where
-  pub known : q .writing ≡ true → page-fit 12 (q .head) (place-of (on .at)) (bytes-at img on) ≡ true
+  pub known : q .writing ≡ true → page-fit 12 (q .head) (on .at) (bytes-at img on) ≡ true
 
 -- The page is fit, and the i-th is one of its entries.
 pub record Inside (img : List ℕ) (q : Task) (on : Spot) (i : ℕ) : Type 0 where
-  pub fit : page-fit 12 (q .head) (place-of (on .at)) (bytes-at img on) ≡ true
+  pub fit : page-fit 12 (q .head) (on .at) (bytes-at img on) ≡ true
   pub within : i < number-of (bytes-at img on)

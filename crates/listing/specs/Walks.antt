@@ -8,15 +8,13 @@ use lib.ListN.{length}
 use lib.Dec.{eqb}
 use Rattle.rule.specs.declared.Pair.{Pair}
 use Rattle.rule.specs.Pairs.{none, combine}
+use Rattle.rule.specs.Time.{overlaps}
 use Rattle.page.specs.declared.Head.{Head}
 use Rattle.page.specs.Layout.{number-of, start-at, pair-at, child-at}
-use Rattle.page.specs.Fit as page
 use Rattle.page.specs.Fit.{end-at, root-place, place-below, page-fit}
-use Rattle.fit.specs.declared.Place.{Place}
-use Rattle.fit.specs.Places.{place-of}
 use Rattle.image.specs.Images.{page-at}
 use Rattle.image.specs.Listing as image
-use Rattle.image.specs.Listing.{nothing, under, overlaps, walk, join}
+use Rattle.image.specs.Listing.{nothing, under, walk, join}
 use Rattle.runs.specs.declared.Run.{Run}
 use Rattle.runs.specs.Open.{stepped-all, output-after-all}
 use Rattle.listing.specs.declared.Task.{Task}
@@ -62,37 +60,25 @@ bytes-at img on = page-at 12 img (on .page)
 unfoldable pub page-walk : List ℕ → Task → Spot → image.Walked
 page-walk img q on =
     under (combine (q .head .kind)) (on .above)
-    (walk 12 (q .head) img (q .a) (q .b) (on .at .level) (place-of (on .at)) (on .page))
+    (walk 12 (q .head) img (q .a) (q .b) (on .at .level) (on .at) (on .page))
 
 -- its number of entries, if it is fit
 unfoldable pub opened-at : List ℕ → Task → Spot → Opened
 opened-at img q on =
     let s = bytes-at img on in
-    cond (page-fit 12 (q .head) (place-of (on .at)) s) (opened.Entries (number-of s)) opened.Unfit
+    cond (page-fit 12 (q .head) (on .at) s) (opened.Entries (number-of s)) opened.Unfit
 
 -- ---- an entry
 
--- field by field
-abbrev pub place-from : page.Place → Place
-place-from at =
-    record {
-      level = at .level;
-      «is_root» = at .is-root;
-      lo = at .lo;
-      hi = at .hi;
-      sums = at .sums;
-      counts = at .counts;
-    }
-
 -- the root's spot: no entry is above it
 abbrev pub root-spot : Head → Spot
-root-spot h = record { at = place-from (root-place h); page = h .root; above = none }
+root-spot h = record { at = root-place h; page = h .root; above = none }
 
 -- the spot of the page below the i-th entry
 abbrev pub spot-below : Task → List ℕ → Spot → ℕ → Spot
 spot-below q s on i =
     record {
-      at = place-from (place-below 12 s (place-of (on .at)) i);
+      at = place-below 12 s (on .at) i;
       page = child-at 12 s i;
       above = combine (q .head .kind) (on .above) (pair-at 12 s i);
     }

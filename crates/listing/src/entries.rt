@@ -9,19 +9,12 @@ use page::at::pair_at;
 use page::at::start_at;
 use rule::Pair;
 use rule::combine::combine;
+use rule::time::overlaps;
 ghost use mathlib.Core.Path.{_≡_};
 ghost use Prim.Native.Nat.{_≤_, max};
-ghost use Rattle.image.specs.Listing.{overlaps};
 ghost use Rattle.page.specs.Layout.{start-at};
 ghost use Rattle.listing.specs.Sits.{Sits, Inside};
 ghost use Rattle.listing.specs.Walks.{bytes-at, meets, spot-below};
-
-// Whether [lo, hi) has an instant of [a, b).
-fn overlaps(a: u32, b: u32, lo: u32, hi: u32) -> bool
-    ensures { λ r. ⌜ r ≡ overlaps a b lo hi ⌝ }
-{
-    (lo < b) & (a < hi)
-}
 
 // The later of two instants.
 fn later(a: u32, b: u32) -> u32

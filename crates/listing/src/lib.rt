@@ -1,6 +1,6 @@
 // The walk of a span listing. Document 01, "Span listing".
-use fit::Place;
 use page::Head;
+use page::Place;
 use rule::Pair;
 use runs::Run;
 

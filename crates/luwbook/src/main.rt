@@ -3,6 +3,10 @@
 use libc::STDERR_FILENO;
 use libc::STDIN_FILENO;
 use libc::STDOUT_FILENO;
+use program::ENDING_BYTES;
+use program::IMAGE_BYTES;
+use program::LIST_BYTES;
+use program::REFUSED_LINE;
 use program::Reading;
 use program::ending::put_listing;
 use program::pieces::at_first;
@@ -16,6 +20,9 @@ ghost use mathlib.Core.Bool.{true, false};
 ghost use lib.ListN.{length, take};
 ghost use Rattle.libc.specs.Io.{Moved};
 ghost use Rattle.luwbook.specs.Reached.{Printed, Standing, Ran, Takes, Well, Ends};
+
+// How much is read at once.
+const PIECE_BYTES: usize = 4096;
 
 // The last line's number that fits: 2^63 − 1, which no text comes to.
 const LAST_LINE: u64 = 9223372036854775807;
@@ -69,7 +76,7 @@ fn run_some(img: &mut [u8], r: Reading, piece: &[u8]) -> Progress
     if r.number > LAST_LINE {
         return stopped(r, true);
     }
-    let mut out = [0u8; 225280];
+    let mut out = [0u8; PIECE_BYTES * REFUSED_LINE];
     let q = run_piece(img, &mut out, flushed(r), piece);
     let at = q.at;
     let written = write_first(&out, at);
@@ -103,7 +110,7 @@ fn read_some(img: &mut [u8], r: Reading) -> Progress
     requires { ⌜ Standing r (now img) ⌝ }
     ensures { λ p. ⌜ Well p (now (img .exit)) ⌝ }
 {
-    let mut bytes = [0u8; 4096];
+    let mut bytes = [0u8; PIECE_BYTES];
     let got = libc::read(STDIN_FILENO, &mut bytes);
     take_in(img, r, &bytes, got)
 }
@@ -139,19 +146,19 @@ fn finish(img: &mut [u8], p: Progress) -> bool
     if r.number > LAST_LINE {
         return false;
     }
-    let mut out = [0u8; 157202];
+    let mut out = [0u8; ENDING_BYTES];
     let q = run_last(img, &mut out, flushed(r));
     let at = q.at;
     if !write_first(&out, at) {
         return false;
     }
-    let mut list = [0u8; 22656];
+    let mut list = [0u8; LIST_BYTES];
     let end = put_listing(img, &mut list, &mut out);
     write_first(&out, end)
 }
 
 fn main() {
-    let mut img = [0u8; 32768];
+    let mut img = [0u8; IMAGE_BYTES];
     begin(&mut img);
     let p = read_all(&mut img, at_first());
     if p.failed | p.more {

@@ -1,7 +1,12 @@
 // Is an image sound?
 use audit::verdict::sound;
+use calls::refusals::ACCEPTED;
+use calls::refusals::IMAGE_LENGTH;
+use calls::refusals::SCRATCH_SHORT;
+use calls::refusals::UNSOUND;
 use fields::fill::fill;
 use lent::lengths::length_fits;
+use page::layout::PAGE_BYTES;
 ghost use Rattle.luwhenoka.specs.Promises.{Audits};
 
 // 0 exactly for a sound image. The order is 16, 17, 21. The pages are counted and not marked, so the scratch is only cleared.
@@ -10,15 +15,15 @@ pub extern "C" fn luw_audit(img: &[u8], scratch: &mut [u8]) -> u32
     ensures { λ r. ⌜ Audits (now (img .entry)) (now (scratch .entry)) r (now (scratch .exit)) ⌝ }
 {
     if !length_fits(img) {
-        return 16;
+        return IMAGE_LENGTH;
     }
-    let n = img.len() / 512;
+    let n = img.len() / PAGE_BYTES;
     if scratch.len() < n {
-        return 17;
+        return SCRATCH_SHORT;
     }
     fill(scratch, 0, n, 0);
     if sound(img) {
-        return 0;
+        return ACCEPTED;
     }
-    21
+    UNSOUND
 }

@@ -1,6 +1,10 @@
 // "The average, kind 1 only, is in hundredths".
 use crate::AverageAnswer;
+use crate::BEYOND;
+use crate::IN_HUNDREDTHS;
+use crate::NO_AVERAGE;
 use crate::instants::luw_instant;
+use calls::refusals::ACCEPTED;
 use lent::pages::page_at;
 use page::heads::read_head;
 use rule::Average;
@@ -19,18 +23,18 @@ fn in_numbers(a: Average) -> AverageAnswer
 {
     match a {
         Average::Nothing => AverageAnswer {
-            number: 0,
-            answer: 0,
+            number: ACCEPTED,
+            answer: NO_AVERAGE,
             hundredths: 0,
         },
         Average::Hundredths(x) => AverageAnswer {
-            number: 0,
-            answer: 1,
+            number: ACCEPTED,
+            answer: IN_HUNDREDTHS,
             hundredths: x,
         },
         Average::Beyond => AverageAnswer {
-            number: 0,
-            answer: 2,
+            number: ACCEPTED,
+            answer: BEYOND,
             hundredths: 0,
         },
     }
@@ -64,12 +68,12 @@ pub extern "C" fn luw_average(img: &[u8], t: u32) -> AverageAnswer
     ensures { λ r. ⌜ Averages t (now (img .entry)) r ⌝ }
 {
     let r = luw_instant(img, t);
-    if r.number == 0 {
+    if r.number == ACCEPTED {
         return luw_average_of(kind_of(img), r.sum, r.count);
     }
     AverageAnswer {
         number: r.number,
-        answer: 0,
+        answer: NO_AVERAGE,
         hundredths: 0,
     }
 }

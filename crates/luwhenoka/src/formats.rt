@@ -1,4 +1,7 @@
 // A fresh index in an image of any bytes.
+use calls::refusals::ACCEPTED;
+use calls::refusals::IMAGE_LENGTH;
+use calls::refusals::KIND_OR_WINDOW;
 use format::fresh::write_fresh;
 use lent::lengths::length_fits;
 use rule::time::kind_ok;
@@ -13,11 +16,11 @@ pub extern "C" fn luw_format(img: &mut [u8], kind: u32, window: u32) -> u32
     let fits = length_fits(img);
     let named = kind_ok(kind) & window_ok(window);
     if !fits {
-        return 16;
+        return IMAGE_LENGTH;
     }
     if !named {
-        return 14;
+        return KIND_OR_WINDOW;
     }
     write_fresh(img, kind, window);
-    0
+    ACCEPTED
 }

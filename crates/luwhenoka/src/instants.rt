@@ -1,11 +1,16 @@
 // "An instant's answer combines the pairs on its way from root to leaf."
 use crate::InstantAnswer;
+use calls::refusals::ACCEPTED;
+use calls::refusals::IMAGE_LENGTH;
+use calls::refusals::INSTANT_END;
+use calls::refusals::UNSOUND;
 use lent::Opening;
 use lent::heads::open_head;
 use lent::lengths::length_fits;
 use lookup::Looked;
 use lookup::look_up::look_up;
 use rule::Pair;
+use rule::limits::END;
 ghost use mathlib.Core.Path.{_≡_};
 ghost use Rattle.rule.specs.Pairs.{none};
 ghost use Rattle.luwhenoka.specs.Answers.{instant-answer};
@@ -27,7 +32,7 @@ fn accepted(pair: Pair, pages: u32) -> InstantAnswer
     ensures { λ r. ⌜ r ≡ instant-answer (record { number = 0; pair = pair; pages = pages }) ⌝ }
 {
     InstantAnswer {
-        number: 0,
+        number: ACCEPTED,
         pages: pages,
         sum: pair.sum,
         count: pair.count,
@@ -40,16 +45,16 @@ pub extern "C" fn luw_instant(img: &[u8], t: u32) -> InstantAnswer
     ensures { λ r. ⌜ Answers t (now (img .entry)) r ⌝ }
 {
     if !length_fits(img) {
-        return refused(16, 0);
+        return refused(IMAGE_LENGTH, 0);
     }
-    if t == 4294967295 {
-        return refused(12, 0);
+    if t == END {
+        return refused(INSTANT_END, 0);
     }
     let Opening::Fit(h) = open_head(img) else {
-        return refused(21, 0);
+        return refused(UNSOUND, 0);
     };
     match look_up(img, h, t) {
         Looked::Answered(pair, pages) => accepted(pair, pages),
-        Looked::Unfit(pages) => refused(21, pages),
+        Looked::Unfit(pages) => refused(UNSOUND, pages),
     }
 }

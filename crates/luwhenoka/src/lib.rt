@@ -16,6 +16,13 @@ pub struct InstantAnswer {
     pub count: i32,
 }
 
+// What an average's answer is.
+pub const NO_AVERAGE: u32 = 0;
+
+pub const IN_HUNDREDTHS: u32 = 1;
+
+pub const BEYOND: u32 = 2;
+
 // Document 01's number; 0 for no average, 1 for one in hundredths, 2 for a sum that no fit page can show.
 #[repr(C)]
 pub struct AverageAnswer {

@@ -1,11 +1,17 @@
 // "Runs over [a, b), the first starting at a: joined as long as the pair is equal".
 use crate::ListingAnswer;
+use calls::refusals::ACCEPTED;
+use calls::refusals::IMAGE_LENGTH;
+use calls::refusals::OUTPUT_SHORT;
+use calls::refusals::SPAN_EMPTY;
+use calls::refusals::UNSOUND;
 use lent::Opening;
 use lent::heads::open_head;
 use lent::lengths::length_fits;
 use listing::Counted;
 use listing::passes::count_runs;
 use listing::passes::write_runs;
+use runs::RUN_BYTES;
 ghost use mathlib.Core.Path.{_≡_};
 ghost use Rattle.luwhenoka.specs.Promises.{Lists};
 
@@ -25,23 +31,23 @@ pub extern "C" fn luw_listing(img: &[u8], a: u32, b: u32, out: &mut [u8]) -> Lis
     ensures { λ r. ⌜ Lists a b (now (img .entry)) (now (out .entry)) r (now (out .exit)) ⌝ }
 {
     if !length_fits(img) {
-        return refused(16);
+        return refused(IMAGE_LENGTH);
     }
     if b <= a {
-        return refused(11);
+        return refused(SPAN_EMPTY);
     }
     let Opening::Fit(h) = open_head(img) else {
-        return refused(21);
+        return refused(UNSOUND);
     };
     let Counted::Runs(runs) = count_runs(img, h, a, b) else {
-        return refused(21);
+        return refused(UNSOUND);
     };
-    if out.len() / 16 < runs as usize {
-        return refused(15);
+    if out.len() / RUN_BYTES < runs as usize {
+        return refused(OUTPUT_SHORT);
     }
     write_runs(img, h, a, b, out);
     ListingAnswer {
-        number: 0,
+        number: ACCEPTED,
         runs: runs,
     }
 }

@@ -10,24 +10,23 @@ use borrow.Author.Tests.{eq-eqb, ne-eqb}
 use Rattle.page.specs.declared.Entry.{Entry}
 use Rattle.page.specs.declared.Head.{Head}
 use Rattle.page.specs.Entries.{at as entry-in, place}
-use Rattle.page.specs.Layout.{capacity, number-of, start-at, entry-at, entries-of}
+use Rattle.page.specs.Layout.{capacity, level-of, number-of, start-at, entry-at, entries-of}
 use Rattle.page.specs.Fit.{Place, place-below, page-fit, most-height}
 use Rattle.page.proofs.Laws.Trees.{length-entries-of, at-entries-of}
 use Rattle.fit.proofs.Laws.Pages.{PageFit, page-fit-is, entry-first}
-use Rattle.image.specs.Images.{Image, entries-in, page-at, image-of}
+use Rattle.image.specs.Images.{Image, tree, entries-in, page-at, image-of}
 use Rattle.image.specs.Sound.{tree-fit}
-use Rattle.lent.specs.Opened.{Within}
-use Rattle.lent.proofs.Laws.{page-length}
 use Rattle.audit.proofs.Tree.{tree-parts}
-use Rattle.lookup.specs.Levels.{Searched}
 use Rattle.lookup.proofs.Laws.Finds.{place-within, place-started}
-use Rattle.lookup.proofs.Laws.Levels.{fit-searched}
+use Rattle.store.specs.declared.Found.{Found}
+use Rattle.store.specs.Holding.{Some-level, Each-level}
+use Rattle.store.specs.Ready.{Searchable, found-in}
+use Rattle.store.proofs.Holding.{holds-length}
 use Rattle.steps.specs.Supply.{entries}
 use Rattle.image.proofs.Cells.{cell-tree}
 use Rattle.needs.specs.declared.Need.{Need}
-use Rattle.needs.specs.declared.Met.{Met}
 use Rattle.needs.specs.Needs.{need, together, leaf-need, settle, one, apart, both}
-use Rattle.needs.specs.Leads.{Small, Fit-from, met-in, Leads}
+use Rattle.needs.specs.Leads.{Small, Fit-from, Leads}
 use Rattle.needs.proofs.Counts.{settle-adds}
 
 -- ---- a page
@@ -42,9 +41,6 @@ module _ {img : List ℕ} {t l p : ℕ} (k : Fit-from img t l p) where
   page-is-fit : PageFit 12 (k .head) (k .at) (page-at 12 img p)
   page-is-fit = page-fit-is 12 (k .head) (k .at) (page-at 12 img p) .0 (top-fit (k .head) img l (k .at) p (k .fit))
 
-  pub within : Within img p
-  within = omega (arith, k .size, k .inside)
-
   entries-read : entries (image-of 12 img) p ≡ entries-of 12 (page-at 12 img p)
   unfolding entries image-of entries-in
   entries-read = ap entries-in (cell-tree 12 (page-at 12 img p) (omega (arith, page-is-fit .level, k .level, k .low)))
@@ -52,30 +48,38 @@ module _ {img : List ℕ} {t l p : ℕ} (k : Fit-from img t l p) where
   number-read : length (entries (image-of 12 img) p) ≡ number-of (page-at 12 img p)
   number-read = ap length entries-read ∙ length-entries-of 12 (page-at 12 img p) ∙ omega (arith, page-is-fit .most)
 
-  module _ {s : List ℕ} (same : s ≡ page-at 12 img p) where
-    pub size-read : length s ≡ 512
-    size-read = ap length same ∙ page-length _ _ within
+  page-read : image-of 12 img .page p ≡ tree l (entries (image-of 12 img) p)
+  unfolding image-of
+  page-read =
+      let s : List ℕ = page-at 12 img p in
+      let level : level-of s ≡ l = page-is-fit .level ∙ k .level in
+      cell-tree 12 s (omega (arith, k .low)) ∙ (λ j. tree (level j) (sym entries-read j))
 
-    pub may-search : {n : ℕ} → n ≡ number-of s → Searched s n t
-    may-search e = fit-searched (subst⁻¹ (PageFit 12 (k .head) (k .at)) same page-is-fit) size-read e (k .begun)
+  start-read : (i : ℕ) → i < length (entries (image-of 12 img) p)
+      → start-at (page-at 12 img p) i ≡ entry-in (entries (image-of 12 img) p) i .start
+  unfolding entry-at
+  start-read i n =
+      let s : List ℕ = page-at 12 img p in
+      let most : number-of s ≤ 24 = page-is-fit .most in
+      let here = at-entries-of 12 s i (omega (arith, number-read)) (omega (arith, number-read)) in
+      ap (λ (e : Entry). e .start) (sym here ∙ ap (λ es. entry-in es i) (sym entries-read))
 
-    pub place-read : {i : ℕ} → i ≡ place t (entries-of 12 s) → (i < number-of s) × (number-of s ≤ 24)
-    place-read e =
-        let f : PageFit 12 (k .head) (k .at) s = subst⁻¹ (PageFit 12 (k .head) (k .at)) same page-is-fit in
-        (omega (arith, place-within 12 s t (f .most) (entry-first f (omega arith))), f .most)
-
-    -- what was read is the page that the cut meets
-    pub met-read : {n i : ℕ} {e : Entry} → n ≡ number-of s → i ≡ place t (entries-of 12 s) → e ≡ entry-at 12 s i
-        → record { number = n; place = i; entry = e } ≡ met-in t (entries (image-of 12 img) p)
-    unfolding met-in
-    met-read {n} {i} {e} a b c =
-        let r = place-read b in
-        let es : entries-of 12 s ≡ entries (image-of 12 img) p = ap (entries-of 12) same ∙ sym entries-read in
-        let number : n ≡ length (entries (image-of 12 img) p) = a ∙ (ap number-of same ∙ sym number-read) in
-        let here : i ≡ place t (entries (image-of 12 img) p) = b ∙ ap (place t) es in
-        let found : e ≡ entry-in (entries (image-of 12 img) p) (place t (entries (image-of 12 img) p)) =
-        c ∙ (sym (at-entries-of 12 s i (r .0) (omega arith)) ∙ (ap (entry-in (entries-of 12 s)) b ∙ ap (λ r. entry-in r (place t r)) es)) in
-        λ j. record { number = number j; place = here j; entry = found j }
+  -- the page can be searched for t
+  pub fit-searchable : Searchable l p t (image-of 12 img)
+  fit-searchable =
+      let f = page-is-fit in
+      let n = number-read in
+      let some : 1 ≤ length (entries (image-of 12 img) p) = omega (arith, entry-first f (omega arith)) in
+      record {
+        treed =
+            record {
+              within = record { least = k .least; below = omega (arith, holds-length (k .holds), k .size, k .inside) };
+              page = page-read;
+            };
+        some = some;
+        rising = λ i m. omega (arith, start-read i (omega arith), start-read (suc i) m, f .rising i (omega arith));
+        first = omega (arith, start-read 0 some, f .first, k .begun);
+      }
 
 -- the i-th entry of a page leads on
 entry-leads : {img : List ℕ} {t : ℕ} (l : ℕ) {p : ℕ} → Fit-from img t l p → (i : ℕ) → i < number-of (page-at 12 img p)
@@ -88,6 +92,8 @@ entry-leads {img} (suc l) {p} k i lt begun =
       head = k .head;
       at = place-below 12 (page-at 12 img p) (k .at) i;
       size = k .size;
+      holds = k .holds;
+      least = page-is-fit k .children i lt .inner (omega (arith, k .level)) .0;
       inside = page-is-fit k .children i lt .inner (omega (arith, k .level)) .1;
       level = omega (arith, k .level);
       low = omega (arith, k .low);
@@ -95,20 +101,20 @@ entry-leads {img} (suc l) {p} k i lt begun =
       fit = tree-parts 12 (k .head) img l (k .at) p (k .fit) .1 i lt;
     }
 
-module _ {img : List ℕ} {t l p : ℕ} (k : Fit-from img t l p) {m : Met} (e : m ≡ met-in t (entries (image-of 12 img) p)) where
-  pub met-most : m .number ≤ 24
-  unfolding met-in
-  met-most = omega (arith, ap (λ (n : Met). n .number) e, number-read k, page-is-fit k .most)
+module _ {img : List ℕ} {t l p : ℕ} (k : Fit-from img t l p) {m : Found} (e : m ≡ found-in t (entries (image-of 12 img) p)) where
+  pub found-most : m .count ≤ 24
+  unfolding found-in
+  found-most = omega (arith, ap (λ (n : Found). n .count) e, number-read k, page-is-fit k .most)
 
-  pub met-leads : Leads img t l (m .entry)
-  unfolding met-in
-  met-leads =
+  pub found-leads : Leads img t l (m .entry)
+  unfolding found-in
+  found-leads =
       let s = page-at 12 img p in
       let i = place t (entries-of 12 s) in
       let f = page-is-fit k in
       let r : i < number-of s = place-within 12 s t (f .most) (entry-first f (omega arith)) in
       let same : m .entry ≡ entry-at 12 s i =
-      ap (λ (n : Met). n .entry) e
+      ap (λ (n : Found). n .entry) e
       ∙ (ap (λ es. entry-in es (place t es)) (entries-read k) ∙ at-entries-of 12 s i r (omega (arith, f .most))) in
       subst⁻¹ (Leads img t l) same (entry-leads l k i r (place-started 12 s t (f .most) (omega (arith, f .first, k .begun))))
 
@@ -127,13 +133,24 @@ leads-on img t (suc l) e k h =
     let d : suc l - 1 ≡ l = omega arith in
     subst⁻¹ (λ n. Fit-from img t n (e .child)) d k
 
+-- what is read there: any search that find_entry's contract allows
+module _ {img : List ℕ} {t l p : ℕ} (k : Fit-from img t l p) where
+  pub fit-some : Some-level img (λ v. Searchable v p t)
+  fit-some = record { image = image-of 12 img; holds = k .holds; ready = (l, fit-searchable k) }
+
+  pub fit-found : {f : Found} → Each-level img (λ v. Searchable v p t) (λ v X. f ≡ found-in t (entries X p))
+      → f ≡ found-in t (entries (image-of 12 img) p)
+  fit-found each = each (image-of 12 img) (k .holds) l (fit-searchable k)
+
 -- for a later instant too
 pub later-fit : {img : List ℕ} {s t l p : ℕ} → Fit-from img s l p → s < t → Fit-from img t l p
 later-fit k lt =
     record {
       head = k .head;
       at = k .at;
+      holds = k .holds;
       size = k .size;
+      least = k .least;
       inside = k .inside;
       level = k .level;
       low = k .low;
@@ -149,16 +166,16 @@ module _ (half t : ℕ) (X : Image) where
   one-leaf zero e z h = h
   one-leaf (suc l) e z h = absurd (omega arith)
 
-  pub one-inner : (l : ℕ) (e : Entry) {m : Met} {n r : Need} → ¬ (l ≡ 0) → m ≡ met-in t (entries X (e .child))
+  pub one-inner : (l : ℕ) (e : Entry) {m : Found} {n r : Need} → ¬ (l ≡ 0) → m ≡ found-in t (entries X (e .child))
       → n ≡ one half t (l - 1) (m .entry) X
-      → r ≡ settle half (m .number) n → r ≡ one half t l e X
-  unfolding one met-in
+      → r ≡ settle half (m .count) n → r ≡ one half t l e X
+  unfolding one found-in
   one-inner zero e z a b c = absurd (z refl)
   one-inner (suc l) e {m = m} z a b c =
       let d : suc l - 1 ≡ l = omega arith in
       c
-      ∙ (ap (settle half (m .number)) (b ∙ ap (λ i. one half t i (m .entry) X) d)
-      ∙ ap (λ (k : Met). settle half (k .number) (one half t l (k .entry) X)) a)
+      ∙ (ap (settle half (m .count)) (b ∙ ap (λ i. one half t i (m .entry) X) d)
+      ∙ ap (λ (k : Found). settle half (k .count) (one half t l (k .entry) X)) a)
 
 module _ (half s t : ℕ) (X : Image) where
   pub apart-is : (l : ℕ) (x y : Entry) {a b r : Need} → a ≡ one half s l x X → b ≡ one half t l y X → r ≡ together a b
@@ -172,37 +189,37 @@ module _ (half s t : ℕ) (X : Image) where
   both-leaf (suc l) e z a b c = absurd (omega arith)
 
   -- the two go on to the same entry
-  pub both-same : (l : ℕ) (e : Entry) {m k : Met} {n r : Need} → ¬ (l ≡ 0) → m ≡ met-in s (entries X (e .child))
-      → k ≡ met-in t (entries X (e .child))
-      → m .place ≡ k .place → n ≡ both half s t (l - 1) (m .entry) X → r ≡ settle half (m .number) n → r ≡ both half s t l e X
-  unfolding both met-in
+  pub both-same : (l : ℕ) (e : Entry) {m k : Found} {n r : Need} → ¬ (l ≡ 0) → m ≡ found-in s (entries X (e .child))
+      → k ≡ found-in t (entries X (e .child))
+      → m .index ≡ k .index → n ≡ both half s t (l - 1) (m .entry) X → r ≡ settle half (m .count) n → r ≡ both half s t l e X
+  unfolding both found-in
   both-same zero e z a b h c d = absurd (z refl)
   both-same (suc l) e {m = m} z a b h c d =
       let es = entries X (e .child) in
       let v : suc l - 1 ≡ l = omega arith in
-      let w : place s es ≡ place t es = sym (ap (λ (y : Met). y .place) a) ∙ (h ∙ ap (λ (y : Met). y .place) b) in
+      let w : place s es ≡ place t es = sym (ap (λ (y : Found). y .index) a) ∙ (h ∙ ap (λ (y : Found). y .index) b) in
       d
-      ∙ (ap (settle half (m .number)) (c ∙ ap (λ i. both half s t i (m .entry) X) v)
-      ∙ (ap (λ (y : Met). settle half (y .number) (both half s t l (y .entry) X)) a
+      ∙ (ap (settle half (m .count)) (c ∙ ap (λ i. both half s t i (m .entry) X) v)
+      ∙ (ap (λ (y : Found). settle half (y .count) (both half s t l (y .entry) X)) a
       ∙ ap
       (λ g. settle half (length es)
       (cond g (both half s t l (entry-in es (place s es)) X) (apart half s t l (entry-in es (place s es)) (entry-in es (place t es)) X)))
       (sym (eq-eqb (place s es) (place t es) w))))
 
   -- or part there
-  pub both-apart : (l : ℕ) (e : Entry) {m k : Met} {n r : Need} → ¬ (l ≡ 0) → m ≡ met-in s (entries X (e .child))
-      → k ≡ met-in t (entries X (e .child))
-      → ¬ (m .place ≡ k .place) → n ≡ apart half s t (l - 1) (m .entry) (k .entry) X → r ≡ settle half (m .number) n
+  pub both-apart : (l : ℕ) (e : Entry) {m k : Found} {n r : Need} → ¬ (l ≡ 0) → m ≡ found-in s (entries X (e .child))
+      → k ≡ found-in t (entries X (e .child))
+      → ¬ (m .index ≡ k .index) → n ≡ apart half s t (l - 1) (m .entry) (k .entry) X → r ≡ settle half (m .count) n
       → r ≡ both half s t l e X
-  unfolding both met-in
+  unfolding both found-in
   both-apart zero e z a b h c d = absurd (z refl)
   both-apart (suc l) e {m} {k} z a b h c d =
       let es = entries X (e .child) in
       let v : suc l - 1 ≡ l = omega arith in
-      let w : ¬ (place s es ≡ place t es) = λ q. h (ap (λ (y : Met). y .place) a ∙ (q ∙ sym (ap (λ (y : Met). y .place) b))) in
+      let w : ¬ (place s es ≡ place t es) = λ q. h (ap (λ (y : Found). y .index) a ∙ (q ∙ sym (ap (λ (y : Found). y .index) b))) in
       d
-      ∙ (ap (settle half (m .number)) (c ∙ ap (λ i. apart half s t i (m .entry) (k .entry) X) v)
-      ∙ ((λ j. settle half (a j .number) (apart half s t l (a j .entry) (b j .entry) X))
+      ∙ (ap (settle half (m .count)) (c ∙ ap (λ i. apart half s t i (m .entry) (k .entry) X) v)
+      ∙ ((λ j. settle half (a j .count) (apart half s t l (a j .entry) (b j .entry) X))
       ∙ ap
       (λ g. settle half (length es)
       (cond g (both half s t l (entry-in es (place s es)) X) (apart half s t l (entry-in es (place s es)) (entry-in es (place t es)) X)))

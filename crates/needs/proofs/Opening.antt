@@ -7,6 +7,7 @@ use native.Mathlib.Omega.{arith}
 use lib.Dec.{leb, ltb}
 use lib.ListN.{length}
 use borrow.Author.Tests.{eqb-true, le-leb, lt-leb}
+use Rattle.fields.specs.Bytes.{Bytes}
 use Rattle.rule.specs.Time.{END}
 use Rattle.rule.specs.Pairs.{none}
 use Rattle.page.specs.declared.Entry.{Entry}
@@ -21,6 +22,7 @@ use Rattle.steps.specs.Change.{lacks-pages}
 use Rattle.needs.specs.declared.Need.{Need}
 use Rattle.needs.specs.Needs.{one, both, asked, with-new-root, pages-needed}
 use Rattle.needs.specs.Leads.{Small, Fit-from, Leads, Sound-image}
+use Rattle.needs.proofs.Held.{sound-holds}
 use Rattle.needs.proofs.Below.{small-one, small-both}
 use Rattle.needs.proofs.Needed.{lacks-is}
 
@@ -44,9 +46,9 @@ module _ {img : List ℕ} {h : Head} (o : Sound-image img h) where
   pub head-is : Head-facts (pages-in 12 img) h
   head-is = subst⁻¹ (Head-facts (pages-in 12 img)) (o .shown) (facts .head)
 
-  root-leads : (t : ℕ) → Leads img t (h .height) (entry 0 none (h .root))
+  root-leads : Bytes img → (t : ℕ) → Leads img t (h .height) (entry 0 none (h .root))
   unfolding root-place
-  root-leads t =
+  root-leads bytes t =
       let f = facts in
       subst⁻¹ (λ (g : Head). Leads img t (g .height) (entry 0 none (g .root))) (o .shown)
       (leads-from img t (the-head 12 img .height) (entry 0 none (the-head 12 img .root)) (f .head .height-least)
@@ -54,6 +56,8 @@ module _ {img : List ℕ} {h : Head} (o : Sound-image img h) where
         head = the-head 12 img;
         at = root-place (the-head 12 img);
         size = length-is img (f .whole) ∙ ap (λ n. 512 * n) (sym (f .head .pages-is));
+        holds = sound-holds img bytes (o .sound);
+        least = f .head .root-least;
         inside = omega (arith, f .head .root-below, f .head .pages-is);
         level = refl;
         low = omega (arith, f .head .height-least, f .head .height-most);
@@ -61,8 +65,8 @@ module _ {img : List ℕ} {h : Head} (o : Sound-image img h) where
         fit = f .tree;
       }))
 
-  pub opened-leads : (t : ℕ) {r : Entry} → r ≡ entry 0 none (h .root) → Leads img t (h .height) r
-  opened-leads t e = subst⁻¹ (Leads img t (h .height)) e (root-leads t)
+  pub opened-leads : Bytes img → (t : ℕ) {r : Entry} → r ≡ entry 0 none (h .root) → Leads img t (h .height) r
+  opened-leads bytes t e = subst⁻¹ (Leads img t (h .height)) e (root-leads bytes t)
 
   -- ---- what is asked for
 

@@ -5,38 +5,32 @@ use mathlib.Core.Bool.{true}
 use mathlib.Core.List.{List}
 use lib.ListN.{length}
 use Rattle.page.specs.declared.Entry.{Entry}
-use Rattle.page.specs.Entries.{at as entry-in, place}
 use Rattle.page.specs.declared.Head.{Head}
 use Rattle.page.specs.Layout.{head-of}
 use Rattle.page.specs.Fit.{Place, most-height}
-use Rattle.image.specs.Images.{page-at}
+use Rattle.image.specs.Images.{page-at, image-of}
 use Rattle.image.specs.Sound.{tree-fit, sound}
+use Rattle.store.specs.Holding.{Holds}
 use Rattle.needs.specs.declared.Need.{Need}
-use Rattle.needs.specs.declared.Met.{Met}
 
 -- a need that no sum of a few wraps
 pub record Small (n : Need) : Type 0 where
   pub adds : n .adds ≤ 2
   pub pages : n .pages ≤ 16
 
--- Page p of level l is fit at a place that starts at t or before, and so are all pages below it.
+-- Page p of level l is fit at a place that starts at t or before, and so are all pages below it. The bytes are those of the image that they
+-- show.
 pub record Fit-from (img : List ℕ) (t l p : ℕ) : Type 0 where
   pub head : Head
   pub at : Place
+  pub holds : Holds img (image-of 12 img)
   pub size : length img ≡ 512 * head .pages
+  pub least : 1 ≤ p
   pub inside : p < head .pages
   pub level : at .level ≡ l
   pub low : l < most-height
   pub begun : at .lo ≤ t
   pub fit : tree-fit 12 head img l at p ≡ true
-
--- at some level
-abbrev pub Fit-page : List ℕ → ℕ → ℕ → Type 0
-Fit-page img t p = (l : ℕ) × Fit-from img t l p
-
--- the page that the cut at t meets, by its entries
-unfoldable pub met-in : ℕ → List Entry → Met
-met-in t es = record { number = length es; place = place t es; entry = entry-in es (place t es) }
 
 -- An entry of a level leads to such a page; a leaf's leads nowhere.
 unfoldable pub Leads : List ℕ → ℕ → ℕ → Entry → Type 0

@@ -1,7 +1,5 @@
 // How many pages the cuts of a change take, told from the image before anything is written.
 // Document 01, "Turned back by the state", 24: "A and B together take more pages than chain and pages from the high mark hold".
-use page::Entry;
-
 pub mod parts;
 pub mod verdict;
 pub mod walk;
@@ -10,11 +8,4 @@ pub mod walk;
 pub struct Need {
     pub adds: u32,
     pub pages: u32,
-}
-
-// A page that a cut meets: its number of entries, and the one that has the instant, with its place.
-pub struct Met {
-    pub number: u32,
-    pub place: usize,
-    pub entry: Entry,
 }

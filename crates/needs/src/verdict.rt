@@ -2,28 +2,15 @@
 use super::Need;
 use super::walk::both;
 use super::walk::one;
-use page::Entry;
 use page::Head;
-use rule::Pair;
+use rule::limits::END;
+use store::root::root_entry;
 ghost use mathlib.Core.Path.{_≡_};
 ghost use Prim.Native.Nat.{_<_};
-ghost use Rattle.rule.specs.Pairs.{none};
-ghost use Rattle.page.specs.Entries.{entry};
 ghost use Rattle.image.specs.Images.{image-of};
 ghost use Rattle.steps.specs.Change.{lacks-pages};
 ghost use Rattle.needs.specs.Needs.{asked};
 ghost use Rattle.needs.specs.Leads.{Sound-image};
-
-// The root as an entry.
-fn root_entry(h: Head) -> Entry
-    ensures { λ r. ⌜ r ≡ entry 0 none (h .root) ⌝ }
-{
-    Entry {
-        start: 0,
-        pair: Pair { sum: 0, count: 0 },
-        child: h.root,
-    }
-}
 
 // What the two cuts ask for from the root down: "nothing if t is END".
 fn asked(img: &[u8], h: Head, s: u32, e: u32) -> Need
@@ -32,7 +19,7 @@ fn asked(img: &[u8], h: Head, s: u32, e: u32) -> Need
     ensures { λ r. ⌜ r ≡ asked 12 s e (image-of 12 (now (img .entry))) ⌝ }
 {
     let root = root_entry(h);
-    if e == 4294967295 {
+    if e == END {
         return one(img, s, h.height, root);
     }
     both(img, s, e, h.height, root)

@@ -1,46 +1,26 @@
 // The ways of the two cuts: the same pages from the root down, until they part.
-use super::Met;
 use super::Need;
 use super::parts::leaf_need;
 use super::parts::settle;
 use super::parts::together;
-use lent::pages::page_at;
-use lookup::find::find;
 use page::Entry;
-use page::at::entry_at;
-use page::at::number_of;
+use store::entries::find_entry;
 ghost use mathlib.Core.Path.{_≡_};
 ghost use Prim.Native.Nat.{_<_};
 ghost use Rattle.image.specs.Images.{image-of};
-ghost use Rattle.steps.specs.Supply.{entries};
 ghost use Rattle.needs.specs.Needs.{one, apart, both};
-ghost use Rattle.needs.specs.Leads.{Fit-page, Leads, met-in};
-
-// Page p, which the cut at t meets.
-fn met(img: &[u8], t: u32, p: u32) -> Met
-    requires { ⌜ Fit-page (now img) t p ⌝ }
-    ensures { λ r. ⌜ r ≡ met-in t (entries (image-of 12 (now (img .entry))) p) ⌝ }
-{
-    let s = page_at(img, p);
-    let n = number_of(s);
-    let i = find(s, n as usize, t);
-    Met {
-        number: n,
-        place: i,
-        entry: entry_at(s, i),
-    }
-}
+ghost use Rattle.needs.specs.Leads.{Leads};
 
 // What the cut at t asks for from an entry down that only it meets.
-pub fn one(img: &[u8], t: u32, level: u32, e: Entry) -> Need
+pub(crate) fn one(img: &[u8], t: u32, level: u32, e: Entry) -> Need
     requires { ⌜ Leads (now img) t level e ⌝ }
     ensures { λ r. ⌜ r ≡ one 12 t level e (image-of 12 (now (img .entry))) ⌝ }
 {
     if level == 0 {
         return leaf_need(t, e);
     }
-    let m = met(img, t, e.child);
-    settle(m.number, one(img, t, level - 1, m.entry))
+    let found = find_entry(img, e.child, t);
+    settle(found.count, one(img, t, level - 1, found.entry))
 }
 
 // What the cut at s asks for from x down and the cut at t from y down, in pages of their own.
@@ -53,7 +33,7 @@ fn apart(img: &[u8], s: u32, t: u32, level: u32, x: Entry, y: Entry) -> Need
 }
 
 // What the cuts at s and at t ask for from an entry down that both meet: they go on to the same entry of its page, or part there.
-pub fn both(img: &[u8], s: u32, t: u32, level: u32, e: Entry) -> Need
+pub(crate) fn both(img: &[u8], s: u32, t: u32, level: u32, e: Entry) -> Need
     requires { ⌜ Leads (now img) s level e ⌝ }
     requires { ⌜ s < t ⌝ }
     ensures { λ r. ⌜ r ≡ both 12 s t level e (image-of 12 (now (img .entry))) ⌝ }
@@ -61,10 +41,13 @@ pub fn both(img: &[u8], s: u32, t: u32, level: u32, e: Entry) -> Need
     if level == 0 {
         return together(leaf_need(s, e), leaf_need(t, e));
     }
-    let m = met(img, s, e.child);
-    let k = met(img, t, e.child);
-    if m.place == k.place {
-        return settle(m.number, both(img, s, t, level - 1, m.entry));
+    let first = find_entry(img, e.child, s);
+    let second = find_entry(img, e.child, t);
+    if first.index == second.index {
+        return settle(first.count, both(img, s, t, level - 1, first.entry));
     }
-    settle(m.number, apart(img, s, t, level - 1, m.entry, k.entry))
+    settle(
+        first.count,
+        apart(img, s, t, level - 1, first.entry, second.entry),
+    )
 }

@@ -29,10 +29,6 @@ last-from t i found (e ∷ es) = last-from t (suc i) (cond (leb (e .start) t) i 
 unfoldable pub place : ℕ → List Entry → ℕ
 place t es = last-from t 0 0 es
 
--- where the i-th of a page's entries ends: at the next one's start, the last at the page's own end
-unfoldable pub end-of : ℕ → List Entry → ℕ → ℕ
-end-of hi es i = getD (map (λ e. e .start) es) (suc i) hi
-
 -- xs in the place of the i-th entry
 unfoldable pub splice : {A : Type 0} → ℕ → List A → List A → List A
 splice i xs es = take i es ++ (xs ++ drop (suc i) es)

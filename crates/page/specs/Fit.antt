@@ -5,25 +5,20 @@ use mathlib.Core.List.{List}
 use lib.Dec.{leb, ltb, eqb}
 use lib.IntN.{ℤ, pos, natAbs}
 use Rattle.rule.specs.declared.Pair.{Pair}
-use Rattle.rule.specs.Pairs.{none, same-pair, same-number}
-use Rattle.rule.specs.Time.{END, most-value, value-ok, kind-ok, window-ok}
+use Rattle.rule.specs.Time.{END, most-value, kind-ok, window-ok}
+use Rattle.rule.specs.Bounds.{value-or-none}
 use Rattle.fields.specs.Bytes.{part, all-are, every}
 use Rattle.page.specs.declared.Head.{Head}
+use Rattle.page.specs.declared.Place as declared
 use Rattle.page.specs.Layout.{capacity, page-size, level-of, number-of, start-at, pair-at, child-at, unused-ok, head-of}
 
--- A page's place in the tree: the level expected there, whether it is the root's, the span of the entry that leads to it,
--- and what the absolute sums and counts of the entries above it add to.
-pub record Place : Type 0 where
-  pub level : ℕ
-  pub is-root : Bool
-  pub lo : ℕ
-  pub hi : ℕ
-  pub sums : ℕ
-  pub counts : ℕ
+-- A page's place in the tree, as the code has it (src/lib.rt).
+abbrev pub Place : Type 0
+Place = declared.Place
 
 -- "(root: height − 1)", "(root: 0)", "(root: END)"
 unfoldable pub root-place : Head → Place
-root-place h = record { level = h .height - 1; is-root = true; lo = 0; hi = END; sums = 0; counts = 0 }
+root-place h = record { level = h .height - 1; «is_root» = true; lo = 0; hi = END; sums = 0; counts = 0 }
 
 -- where the i-th entry of a page's bytes ends
 unfoldable pub end-at : List ℕ → ℕ → ℕ → ℕ
@@ -34,7 +29,7 @@ unfoldable pub place-below : ℕ → List ℕ → Place → ℕ → Place
 place-below half s at i =
     record {
       level = at .level - 1;
-      is-root = false;
+      «is_root» = false;
       lo = start-at s i;
       hi = end-at s (at .hi) i;
       sums = at .sums + natAbs (pair-at half s i .sum);
@@ -43,7 +38,7 @@ place-below half s at i =
 
 -- "it has 12 to 24 entries (root leaf 1 to 24, inner root 2 to 24)"
 unfoldable pub fewest : ℕ → Place → ℕ
-fewest half at = cond (at .is-root) (cond (eqb (at .level) 0) 1 2) half
+fewest half at = cond (at .«is_root») (cond (eqb (at .level) 0) 1 2) half
 
 unfoldable pub number-ok : ℕ → Place → List ℕ → Bool
 number-ok half at s = leb (fewest half at) (number-of s) && leb (number-of s) (capacity half)
@@ -68,7 +63,7 @@ unfoldable pub pair-ok : Head → Place → Pair → Bool
 pair-ok h at p =
     cond (eqb (h .kind) 1)
     (leb (at .sums + natAbs (p .sum)) (most-value * h .changes) && leb (at .counts + natAbs (p .count)) (h .changes))
-    (same-pair p none || (value-ok (p .sum) && same-number (p .count) (pos 1)))
+    (value-or-none p)
 
 unfoldable pub pairs-ok : ℕ → Head → Place → List ℕ → Bool
 pairs-ok half h at s = every (number-of s) (λ i. pair-ok h at (pair-at half s i))

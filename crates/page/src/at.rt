@@ -1,5 +1,14 @@
 // The numbers of a tree page or a free page, read from its bytes one at a time.
 use super::Entry;
+use super::layout::CHILD_IN_ENTRY;
+use super::layout::COUNT_IN_ENTRY;
+use super::layout::ENTRIES_OFFSET;
+use super::layout::ENTRY_BYTES;
+use super::layout::ENTRY_COUNT_OFFSET;
+use super::layout::LEVEL_OFFSET;
+use super::layout::NEXT_OFFSET;
+use super::layout::START_BYTES;
+use super::layout::STARTS_OFFSET;
 use fields::read::get_i32;
 use fields::read::get_i64;
 use fields::read::get_u32;
@@ -14,7 +23,7 @@ pub fn level_of(s: &[u8]) -> u32
     requires { ⌜ length (now s) ≡ 512 ⌝ }
     ensures { λ r. ⌜ r ≡ level-of (now (s .entry)) ⌝ }
 {
-    get_u32(s, 0)
+    get_u32(s, LEVEL_OFFSET)
 }
 
 // The number of entries that a tree page says it has: not yet compared with 24.
@@ -22,7 +31,7 @@ pub fn number_of(s: &[u8]) -> u32
     requires { ⌜ length (now s) ≡ 512 ⌝ }
     ensures { λ r. ⌜ r ≡ number-of (now (s .entry)) ⌝ }
 {
-    get_u32(s, 4)
+    get_u32(s, ENTRY_COUNT_OFFSET)
 }
 
 // The page behind a free page in the chain, 0 at its end.
@@ -30,7 +39,7 @@ pub fn next_of(s: &[u8]) -> u32
     requires { ⌜ length (now s) ≡ 512 ⌝ }
     ensures { λ r. ⌜ r ≡ next-of (now (s .entry)) ⌝ }
 {
-    get_u32(s, 4)
+    get_u32(s, NEXT_OFFSET)
 }
 
 // The start of the i-th entry.
@@ -38,7 +47,7 @@ pub fn start_at(s: &[u8], i: usize) -> u32
     requires { ⌜ (length (now s) ≡ 512) × (i < 24) ⌝ }
     ensures { λ r. ⌜ r ≡ start-at (now (s .entry)) i ⌝ }
 {
-    get_u32(s, 32 + 4 * i)
+    get_u32(s, STARTS_OFFSET + START_BYTES * i)
 }
 
 // The sum of the i-th entry.
@@ -46,7 +55,7 @@ pub fn sum_at(s: &[u8], i: usize) -> i64
     requires { ⌜ (length (now s) ≡ 512) × (i < 24) ⌝ }
     ensures { λ r. ⌜ r ≡ pair-at 12 (now (s .entry)) i .sum ⌝ }
 {
-    get_i64(s, 128 + 16 * i)
+    get_i64(s, ENTRIES_OFFSET + ENTRY_BYTES * i)
 }
 
 // The count of the i-th entry.
@@ -54,7 +63,7 @@ pub fn count_at(s: &[u8], i: usize) -> i32
     requires { ⌜ (length (now s) ≡ 512) × (i < 24) ⌝ }
     ensures { λ r. ⌜ r ≡ pair-at 12 (now (s .entry)) i .count ⌝ }
 {
-    get_i32(s, 128 + 16 * i + 8)
+    get_i32(s, ENTRIES_OFFSET + ENTRY_BYTES * i + COUNT_IN_ENTRY)
 }
 
 // The sum and the count of the i-th entry.
@@ -73,7 +82,7 @@ pub fn child_at(s: &[u8], i: usize) -> u32
     requires { ⌜ (length (now s) ≡ 512) × (i < 24) ⌝ }
     ensures { λ r. ⌜ r ≡ child-at 12 (now (s .entry)) i ⌝ }
 {
-    get_u32(s, 128 + 16 * i + 12)
+    get_u32(s, ENTRIES_OFFSET + ENTRY_BYTES * i + CHILD_IN_ENTRY)
 }
 
 // The i-th entry.

@@ -1,4 +1,10 @@
 // Writing a page without entries: one about to get some, a free page, a page that was never used.
+use super::layout::BODY_BYTES;
+use super::layout::ENTRY_COUNT_OFFSET;
+use super::layout::FREE_LEVEL;
+use super::layout::GAP_OFFSET;
+use super::layout::LEVEL_OFFSET;
+use fields::fill::UNUSED_BYTE;
 use fields::fill::fill;
 use fields::write::put_u32;
 ghost use mathlib.Core.Path.{_≡_};
@@ -13,9 +19,9 @@ pub(crate) fn write_blank(s: &mut [u8], level: u32, second: u32)
     requires { ⌜ length (now s) ≡ 512 ⌝ }
     ensures { λ _. ⌜ now (s .exit) ≡ u32-bytes level ++ (u32-bytes second ++ unused 504) ⌝ }
 {
-    put_u32(s, 0, level);
-    put_u32(s, 4, second);
-    fill(s, 8, 504, 255);
+    put_u32(s, LEVEL_OFFSET, level);
+    put_u32(s, ENTRY_COUNT_OFFSET, second);
+    fill(s, GAP_OFFSET, BODY_BYTES, UNUSED_BYTE);
 }
 
 // Writes a free page with the page behind it in the chain, 0 at its end.
@@ -23,13 +29,5 @@ pub fn write_free(s: &mut [u8], next: u32)
     requires { ⌜ length (now s) ≡ 512 ⌝ }
     ensures { λ _. ⌜ now (s .exit) ≡ free-bytes 12 next ⌝ }
 {
-    write_blank(s, 255, next)
-}
-
-// Writes a page that was never used.
-pub fn write_unused(s: &mut [u8])
-    requires { ⌜ length (now s) ≡ 512 ⌝ }
-    ensures { λ _. ⌜ now (s .exit) ≡ unused 512 ⌝ }
-{
-    fill(s, 0, 512, 255)
+    write_blank(s, FREE_LEVEL, next)
 }

@@ -1,5 +1,17 @@
 // Reading and writing page 0, the head.
 use super::Head;
+use super::layout::HEAD_BYTES;
+use super::layout::HEAD_CHAIN;
+use super::layout::HEAD_CHANGES;
+use super::layout::HEAD_FREE;
+use super::layout::HEAD_HEIGHT;
+use super::layout::HEAD_KIND;
+use super::layout::HEAD_MARK;
+use super::layout::HEAD_PAGES;
+use super::layout::HEAD_REST;
+use super::layout::HEAD_ROOT;
+use super::layout::HEAD_WINDOW;
+use fields::fill::UNUSED_BYTE;
 use fields::fill::fill;
 use fields::read::get_u32;
 use fields::write::put_u32;
@@ -17,15 +29,15 @@ pub fn read_head(s: &[u8]) -> Head
     ensures { λ r. ⌜ r ≡ head-of (now (s .entry)) ⌝ }
 {
     Head {
-        pages: get_u32(s, 0),
-        height: get_u32(s, 4),
-        root: get_u32(s, 8),
-        free: get_u32(s, 12),
-        chain: get_u32(s, 16),
-        mark: get_u32(s, 20),
-        kind: get_u32(s, 24),
-        window: get_u32(s, 28),
-        changes: get_u32(s, 32),
+        pages: get_u32(s, HEAD_PAGES),
+        height: get_u32(s, HEAD_HEIGHT),
+        root: get_u32(s, HEAD_ROOT),
+        free: get_u32(s, HEAD_FREE),
+        chain: get_u32(s, HEAD_CHAIN),
+        mark: get_u32(s, HEAD_MARK),
+        kind: get_u32(s, HEAD_KIND),
+        window: get_u32(s, HEAD_WINDOW),
+        changes: get_u32(s, HEAD_CHANGES),
     }
 }
 
@@ -44,8 +56,8 @@ pub fn write_head(s: &mut [u8], h: Head)
     requires { ⌜ length (now s) ≡ 512 ⌝ }
     ensures { λ _. ⌜ now (s .exit) ≡ head-bytes 12 h ⌝ }
 {
-    put_three(s, 0, h.pages, h.height, h.root);
-    put_three(s, 12, h.free, h.chain, h.mark);
-    put_three(s, 24, h.kind, h.window, h.changes);
-    fill(s, 36, 476, 255);
+    put_three(s, HEAD_PAGES, h.pages, h.height, h.root);
+    put_three(s, HEAD_FREE, h.free, h.chain, h.mark);
+    put_three(s, HEAD_KIND, h.kind, h.window, h.changes);
+    fill(s, HEAD_BYTES, HEAD_REST, UNUSED_BYTE);
 }

@@ -6,11 +6,14 @@
 //     32   24 × 4  starts (u32)
 //     128  24 × 16 entries: sum (i64), count (i32), child (u32, 0 in a leaf)
 // A free page has 255 as its level and its next page at 4; the head has nine u32. All other bytes are FF.
+use layout::SLOTS;
 use rule::Pair;
 
 pub mod at;
 pub mod blank;
 pub mod heads;
+pub mod layout;
+pub mod pages;
 pub mod read;
 pub mod write;
 
@@ -39,8 +42,19 @@ pub struct Head {
 pub struct Page {
     pub level: u32,
     pub number: usize,
-    pub starts: [u32; 25],
-    pub sums: [i64; 25],
-    pub counts: [i32; 25],
-    pub children: [u32; 25],
+    pub starts: [u32; SLOTS],
+    pub sums: [i64; SLOTS],
+    pub counts: [i32; SLOTS],
+    pub children: [u32; SLOTS],
+}
+
+// A page's place in the tree: the level expected there, whether it is the root's, the span of the entry that leads to it,
+// and what the absolute sums and counts of the entries above it add to.
+pub struct Place {
+    pub level: u32,
+    pub is_root: bool,
+    pub lo: u32,
+    pub hi: u32,
+    pub sums: u64,
+    pub counts: u64,
 }

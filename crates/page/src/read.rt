@@ -6,10 +6,10 @@ use super::at::level_of;
 use super::at::number_of;
 use super::at::start_at;
 use super::at::sum_at;
+use super::layout::CAPACITY;
+use super::layout::SLOTS;
 ghost use mathlib.Core.Path.{_≡_};
-ghost use Prim.Native.Nat.{_+_, _*_, _≤_};
 ghost use lib.ListN.{length};
-ghost use Rattle.fields.specs.Bytes.{part};
 ghost use Rattle.page.specs.Decoded.{Read};
 
 // The page as a struct: all 24 places are read, whatever the number is.
@@ -17,12 +17,12 @@ pub fn read_page(s: &[u8]) -> Page
     requires { ⌜ length (now s) ≡ 512 ⌝ }
     ensures { λ r. ⌜ Read r (now (s .entry)) ⌝ }
 {
-    let mut starts = [0u32; 25];
-    let mut sums = [0i64; 25];
-    let mut counts = [0i32; 25];
-    let mut children = [0u32; 25];
+    let mut starts = [0u32; SLOTS];
+    let mut sums = [0i64; SLOTS];
+    let mut counts = [0i32; SLOTS];
+    let mut children = [0u32; SLOTS];
     let mut i = 0;
-    while i < 24 {
+    while i < CAPACITY {
         starts[i] = start_at(s, i);
         sums[i] = sum_at(s, i);
         counts[i] = count_at(s, i);
@@ -37,14 +37,4 @@ pub fn read_page(s: &[u8]) -> Page
         counts,
         children,
     }
-}
-
-// The n-th page of an image as a struct.
-pub fn read_page_at(img: &[u8], n: usize) -> Page
-    requires { ⌜ 512 * n + 512 ≤ length (now img) ⌝ }
-    ensures { λ r. ⌜ Read r (part (now (img .entry)) (512 * n) 512) ⌝ }
-{
-    let a = 512 * n;
-    let e = a + 512;
-    read_page(&img[a..e])
 }

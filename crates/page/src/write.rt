@@ -1,13 +1,18 @@
 // Writing a tree page: every one of its 512 bytes, so that nothing of what stood there is left.
 use super::Page;
 use super::blank::write_blank;
+use super::layout::CHILD_IN_ENTRY;
+use super::layout::COUNT_IN_ENTRY;
+use super::layout::ENTRIES_OFFSET;
+use super::layout::ENTRY_BYTES;
+use super::layout::START_BYTES;
+use super::layout::STARTS_OFFSET;
 use fields::write::put_i32;
 use fields::write::put_i64;
 use fields::write::put_u32;
 ghost use mathlib.Core.Path.{_≡_};
-ghost use Prim.Native.Nat.{_+_, _*_, _≤_, _<_};
+ghost use Prim.Native.Nat.{_≤_, _<_};
 ghost use lib.ListN.{length};
-ghost use Rattle.fields.specs.Bytes.{patch};
 ghost use Rattle.page.specs.Entries.{entry};
 ghost use Rattle.page.specs.Layout.{with-entry, tree-bytes};
 ghost use Rattle.page.specs.Decoded.{shown};
@@ -17,10 +22,10 @@ fn write_entry(s: &mut [u8], i: usize, start: u32, sum: i64, count: i32, child: 
     requires { ⌜ (length (now s) ≡ 512) × (i < 24) ⌝ }
     ensures { λ _. ⌜ now (s .exit) ≡ with-entry 12 i (entry start (record { sum = sum; count = count }) child) (now (s .entry)) ⌝ }
 {
-    put_u32(s, 32 + 4 * i, start);
-    put_i64(s, 128 + 16 * i, sum);
-    put_i32(s, 128 + 16 * i + 8, count);
-    put_u32(s, 128 + 16 * i + 12, child);
+    put_u32(s, STARTS_OFFSET + START_BYTES * i, start);
+    put_i64(s, ENTRIES_OFFSET + ENTRY_BYTES * i, sum);
+    put_i32(s, ENTRIES_OFFSET + ENTRY_BYTES * i + COUNT_IN_ENTRY, count);
+    put_u32(s, ENTRIES_OFFSET + ENTRY_BYTES * i + CHILD_IN_ENTRY, child);
 }
 
 // Writes a tree page.
@@ -35,14 +40,4 @@ pub fn write_page(s: &mut [u8], p: Page)
         write_entry(s, i, p.starts[i], p.sums[i], p.counts[i], p.children[i]);
         i += 1;
     }
-}
-
-// Writes a tree page as the n-th page of an image.
-pub fn write_page_at(img: &mut [u8], n: usize, p: Page)
-    requires { ⌜ (512 * n + 512 ≤ length (now img)) × (p .number ≤ 24) ⌝ }
-    ensures { λ _. ⌜ now (img .exit) ≡ patch (now (img .entry)) (512 * n) (tree-bytes 12 (p .level) (shown p)) ⌝ }
-{
-    let a = 512 * n;
-    let e = a + 512;
-    write_page(&mut img[a..e], p)
 }

@@ -6,6 +6,7 @@ use super::numbers::put_decimal;
 use super::numbers::put_integer;
 use rule::Pair;
 use rule::averages::average;
+use rule::limits::TOTALS;
 ghost use mathlib.Core.List.{[], _∷_, _++_};
 ghost use Prim.Native.Nat.{_+_, _≤_};
 ghost use lib.ListN.{length};
@@ -73,6 +74,6 @@ pub fn put_run(out: &mut [u8], at: usize, start: u32, end: u32, pair: Pair) -> u
     let third = put_instant(out, second, end);
     let fourth = put_amount(out, third, sum);
     let fifth = put_amount(out, fourth, count as i64);
-    let last = put_average(out, fifth, average(1, pair));
+    let last = put_average(out, fifth, average(TOTALS, pair));
     put_byte(out, last, b'\n')
 }

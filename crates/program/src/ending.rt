@@ -2,6 +2,7 @@
 use crate::printed::put_runs;
 use luwhenoka::listings::luw_listing;
 use print::lines::put_runs_line;
+use rule::limits::END;
 ghost use Prim.Native.Nat.{_≤_};
 ghost use lib.ListN.{length};
 ghost use Rattle.rule.specs.Time.{END};
@@ -17,7 +18,7 @@ pub fn put_listing(img: &[u8], list: &mut [u8], out: &mut [u8]) -> usize
     ensures { λ r. ⌜ Put (now (out .entry)) 0
         (listed-text (listing 12 0 END (now (img .entry)) (now (list .entry)))) (now (out .exit)) r ⌝ }
 {
-    let answer = luw_listing(img, 0, 4294967295, list);
+    let answer = luw_listing(img, 0, END, list);
     let runs = answer.runs;
     let next = put_runs_line(out, 0, runs as u64);
     put_runs(out, next, list, runs as usize)

@@ -1,5 +1,7 @@
 // What a line does.
+use crate::PAGES;
 use booking::book::book;
+use calls::refusals::ACCEPTED;
 use print::lines::put_refused;
 use print::lines::put_unread;
 use text::Parsed;
@@ -25,9 +27,9 @@ fn run_booking(
     ensures { λ r. ⌜ Does (ran-line 12 64 k (booking (side-of withdraws) v s e) (now (img .entry)))
         (now (img .exit)) (now (out .entry)) at (now (out .exit)) r ⌝ }
 {
-    let mut scratch = [0u8; 64];
+    let mut scratch = [0u8; PAGES];
     let number = book(img, &mut scratch, withdraws, v, s, e);
-    if number == 0 {
+    if number == ACCEPTED {
         return at;
     }
     put_refused(out, at, k, number)

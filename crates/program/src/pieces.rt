@@ -2,6 +2,7 @@
 use crate::Reading;
 use crate::lines::run_line;
 use luwhenoka::formats::luw_format;
+use rule::limits::TOTALS;
 use text::feed::feed;
 use text::feed::none_fed;
 use text::feed::parse_fed;
@@ -16,7 +17,7 @@ pub fn begin(img: &mut [u8])
     requires { ⌜ now img ≡ replicate 32768 0 ⌝ }
     ensures { λ _. ⌜ now (img .exit) ≡ at-first 12 64 .image ⌝ }
 {
-    luw_format(img, 1, 0);
+    luw_format(img, TOTALS, 0);
 }
 
 // Before the first byte.

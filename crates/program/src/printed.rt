@@ -4,6 +4,10 @@ use fields::read::get_i64;
 use fields::read::get_u32;
 use print::lines::put_run;
 use rule::Pair;
+use rule::limits::END;
+use runs::RUN_BYTES;
+use runs::RUN_COUNT_OFFSET;
+use runs::RUN_SUM_OFFSET;
 ghost use mathlib.Core.Path.{_≡_};
 ghost use Prim.Native.Nat.{_+_, _*_, _-_, _≤_, _<_};
 ghost use lib.ListN.{length};
@@ -15,7 +19,7 @@ fn start_of(list: &[u8], i: usize) -> u32
     requires { ⌜ 16 * i + 16 ≤ length (now list) ⌝ }
     ensures { λ r. ⌜ r ≡ run-at (now (list .entry)) i .start ⌝ }
 {
-    get_u32(list, 16 * i)
+    get_u32(list, RUN_BYTES * i)
 }
 
 fn pair_of(list: &[u8], i: usize) -> Pair
@@ -23,8 +27,8 @@ fn pair_of(list: &[u8], i: usize) -> Pair
     ensures { λ r. ⌜ r ≡ run-at (now (list .entry)) i .pair ⌝ }
 {
     Pair {
-        sum: get_i64(list, 16 * i + 8),
-        count: get_i32(list, 16 * i + 4),
+        sum: get_i64(list, RUN_BYTES * i + RUN_SUM_OFFSET),
+        count: get_i32(list, RUN_BYTES * i + RUN_COUNT_OFFSET),
     }
 }
 
@@ -36,7 +40,7 @@ fn end_of(list: &[u8], n: usize, i: usize) -> u32
 {
     let next = i + 1;
     if next == n {
-        return 4294967295;
+        return END;
     }
     start_of(list, next)
 }

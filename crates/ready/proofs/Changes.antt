@@ -11,9 +11,9 @@ use Rattle.steps.specs.Supply.{counted}
 use Rattle.steps.specs.Change.{lacks-pages}
 use Rattle.tree.specs.Cut.{State}
 use Rattle.state.specs.Good.{Good, Effective}
-use Rattle.spread.specs.Ready.{Spreadable}
-use Rattle.heal.specs.Ready.{Healable}
-use Rattle.change.specs.Ready.{task, Changeable}
+use Rattle.spread.specs.Spreadable.{Spreadable}
+use Rattle.heal.specs.Healable.{Healable}
+use Rattle.change.specs.Changeable.{task, Changeable}
 use Rattle.ready.proofs.Going.{Going, going-A, going-B, going-C, going-D, going-E, going-last, kinds}
 use Rattle.ready.proofs.Cuts.{going-cuttable}
 use Rattle.ready.proofs.Spreads.{spreadable}

@@ -1,6 +1,6 @@
 -- Every image before a cut of a change that no row turns back can be cut. Assumes nothing.
-use Prim.Native.Nat.{ℕ, zero, suc, _+_, _-_, _≤_, _<_}
-use mathlib.Core.Path.{_≡_, refl, ap, _∙_, subst⁻¹}
+use Prim.Native.Nat.{ℕ, zero, suc, _+_, _≤_, _<_}
+use mathlib.Core.Path.{_≡_, refl, sym, ap, _∙_, subst₂, subst⁻¹}
 use mathlib.Core.Bool.{cond}
 use mathlib.Core.List.{List, [], _∷_}
 use native.Mathlib.Omega.{arith}
@@ -18,8 +18,8 @@ use Rattle.image.specs.Sound.{times}
 use Rattle.steps.specs.Supply.{entries, counted}
 use Rattle.steps.specs.Cut.{Cutting as CuttingX, cut-entry, root-entry, cut as cut-x}
 use Rattle.steps.specs.Change.{cut-names}
-use Rattle.store.specs.Supplying.{Takable}
-use Rattle.cut.specs.Ready.{entry-for, from-root, Page-ready, Page-cuttable, Root-cuttable, Cuttable}
+use Rattle.store.specs.Ready.{entry-for, Takable}
+use Rattle.cut.specs.Cuttable.{from-root, Page-cuttable, Entry-cuttable, Root-cuttable, Cuttable}
 use Rattle.tree.specs.Tree.{Ent, Kid, bare}
 use Rattle.tree.specs.Supply.{Supply, without-next}
 use Rattle.tree.specs.Cut.{Cutting, kept, split, settled, cut-ent, State, root-ent, grown, cut}
@@ -37,7 +37,7 @@ use Rattle.view.proofs.Formed.{formed-full}
 use Rattle.state.proofs.To.Known.{good-once}
 use Rattle.state.proofs.To.Height.{height-most}
 use Rattle.ready.proofs.Going.{Going}
-use Rattle.ready.proofs.Ways.{Known, known-sought, known-below, uncounted, going-known}
+use Rattle.ready.proofs.Ways.{Known, known-searchable, known-below, uncounted, going-known}
 use Rattle.ready.proofs.Spares.{Single, next-mark, takable}
 
 -- ---- the supply, level by level
@@ -103,20 +103,18 @@ module _ {h : Head} (t : ℕ) {X : Image} {S : Supply} (s : Supplied X S) (singl
         let e = splits t l x S (k .stocked) (omega arith) (omega arith) in
         grew-takable grew single (omega (arith, ap (λ (R : Supply). R .mark) e))
 
-    page-ready : cut-ent 12 t (suc l) x S .supply .mark ≤ X .head .pages → Page-ready l p t X
-    page-ready m =
-        let (found, level) = known-sought k in
-        record { sought = found; level = level; room = subst⁻¹ Room entry-there (page-room m) }
+    page-cuttable : l < 255 → cut-ent 12 t (suc l) x S .supply .mark ≤ X .head .pages → Page-cuttable l p t X
+    page-cuttable low m = record { searchable = known-searchable k; low = low; room = subst⁻¹ Room entry-there (page-room m) }
 
-  page-cuttable : (l : ℕ) (x : Ent (Kid (suc l))) {lo hi sums counts : ℕ} → Known 12 h t X S l lo hi sums counts x
+  entry-cuttable : (l : ℕ) (x : Ent (Kid (suc l))) {lo hi sums counts : ℕ} → Known 12 h t X S l lo hi sums counts x → l < 255
       → cut-ent 12 t (suc l) x S .supply .mark ≤ X .head .pages
-      → Page-cuttable l (x .entry .child) t X
-  unfolding Page-cuttable
-  page-cuttable zero x k m = page-ready zero x k m
-  page-cuttable (suc l) x k m = (
-    page-ready (suc l) x k m,
-    subst⁻¹ (λ e. Page-cuttable l (e .child) t X) (entry-there (suc l) x k)
-        (page-cuttable l (there (suc l) t (x .kid)) (known-below k .known) (omega (arith, inner-mark t (suc l) x S))),
+      → Entry-cuttable (suc l) (x .entry) t X
+  unfolding Entry-cuttable
+  entry-cuttable zero x k low m = (page-cuttable zero x k low m, tt)
+  entry-cuttable (suc l) x k low m = (
+    page-cuttable (suc l) x k low m,
+    subst⁻¹ (λ e. Entry-cuttable (suc l) e t X) (entry-there (suc l) x k)
+        (entry-cuttable l (there (suc l) t (x .kid)) (known-below k .known) (omega arith) (omega (arith, inner-mark t (suc l) x S))),
   )
 
 -- ---- from the root
@@ -162,11 +160,12 @@ module _ (t : ℕ) (X : Image) (Y : State) (g : Going 12 X Y) where
   unfolding Full
   root-grew = cut-ent-is 12 t (suc l) x₀ X (Y .supply) (shown .below) full (shown .supplied) (going-known (omega arith) t g .once)
 
-  from-root-is : from-root t X ≡ cut-entry 12 t (suc l) (x₀ .entry) X
+  root-entry-is : root-entry X ≡ x₀ .entry
   unfolding root-entry root-ent
-  from-root-is =
-      ap (λ (h : ℕ). cut-entry 12 t h (entry 0 none (X .head .root)) X) (shown .height)
-      ∙ ap (λ (p : ℕ). cut-entry 12 t (suc l) (entry 0 none p) X) (shown .root)
+  root-entry-is = ap (λ (p : ℕ). entry 0 none p) (shown .root)
+
+  from-root-is : from-root t X ≡ cut-entry 12 t (suc l) (x₀ .entry) X
+  from-root-is = λ j. cut-entry 12 t (shown .height j) (root-entry-is j) X
 
   -- the supply after the cut, where t is no END
   cut-supply : t < END → cut 12 t Y .supply ≡ grown l (r₀ .became) (r₀ .supply) .supply
@@ -184,18 +183,14 @@ module _ (t : ℕ) (X : Image) (Y : State) (g : Going 12 X Y) where
       grew-takable root-grew single (omega (arith, ap (λ (R : Supply). R .mark) e))
 
   root-cuttable : t < END → cut 12 t Y .supply .mark ≤ X .head .pages → Root-cuttable t X
-  unfolding root-ent
   root-cuttable h m =
       let c = ap (λ (R : Supply). R .mark) (cut-supply h) in
-      let e : X .head .height - 1 ≡ l = omega (arith, shown .height) in
       record {
-        some = omega (arith, shown .height);
         low = omega (arith, low);
-        page =
-            subst⁻¹ (λ n. Page-cuttable n (X .head .root) t X) e
-            (subst⁻¹ (λ p. Page-cuttable l p t X) (shown .root)
-            (page-cuttable t (shown .supplied) single l x₀ (going-known (omega arith) t g)
-            (omega (arith, grown-mark l (r₀ .became) (r₀ .supply)))));
+        entry =
+            subst₂ (λ n e. Entry-cuttable n e t X) (sym (shown .height)) (sym root-entry-is)
+            (entry-cuttable t (shown .supplied) single l x₀ (going-known (omega arith) t g) (omega (arith, low, shown .height))
+            (omega (arith, grown-mark l (r₀ .became) (r₀ .supply))));
         room = subst⁻¹ Root-room from-root-is (root-room (omega arith));
       }
 

@@ -1,7 +1,7 @@
 -- An image that goes on is ready for a heal: each page on the way can be searched, a page that is left short has a neighbour, and the pairs
 -- above the two can be combined into their entries. Assumes nothing.
 use Prim.Native.Nat.{ℕ, zero, suc, _+_, _*_, _-_, _≤_, _<_, _^_}
-use mathlib.Core.Path.{_≡_, refl, sym, ap, _∙_, subst, subst⁻¹}
+use mathlib.Core.Path.{_≡_, refl, sym, ap, _∙_, subst, subst₂, subst⁻¹}
 use mathlib.Core.Bool.{true}
 use mathlib.Core.List.{List, [], _∷_}
 use native.Mathlib.Omega.{arith}
@@ -20,14 +20,13 @@ use Rattle.page.specs.Fit.{most-changes}
 use Rattle.image.specs.Images.{Image}
 use Rattle.steps.specs.Supply.{entries, counted, with-supply}
 use Rattle.steps.specs.Heal.{short, neighbour, left-of, heal-page}
-use Rattle.store.specs.Holding.{Within}
-use Rattle.siblings.specs.Ready.{Treed, Sinkable}
-use Rattle.heal.specs.Ready.{Turnable, Settles, Inner-healable, Page-healable, child-on, Lowerable, Shrinkable, Healable}
+use Rattle.store.specs.Ready.{In-image, Tree-page, Has-entry, entry-for, Push-ready}
+use Rattle.heal.specs.Healable.{Turnable, Settles, Inner-healable, Page-healable, Lowerable, Shrinkable, Healable}
 use Rattle.tree.specs.Tree.{Ent, Kid, Ents, no-ent, bare}
 use Rattle.tree.specs.Supply.{Supply, with-page}
 use Rattle.tree.specs.Cut.{State, root-ent}
 use Rattle.tree.specs.Heal.{Healing, turn, heal-ents}
-use Rattle.tree.specs.Held.{All, all-none, all-more, Within as Within-bound}
+use Rattle.tree.specs.Held.{All, all-none, all-more, Within}
 use Rattle.held.proofs.Places.{all-splice, all-weaken}
 use Rattle.held.proofs.Bounds.{ents-within}
 use Rattle.held.proofs.Measures.{sums-bounded, counts-bounded, values-bounded}
@@ -43,7 +42,7 @@ use Rattle.state.proofs.To.Known.{chain-short}
 use Rattle.state.proofs.To.Height.{height-most}
 use Rattle.ready.proofs.Going.{Going}
 use Rattle.ready.proofs.Pairs.{below-combinable}
-use Rattle.ready.proofs.Ways.{page-is, Known, here-inside, child-inside, known-sought, Below, known-below, uncounted, going-known}
+use Rattle.ready.proofs.Ways.{page-is, Known, here-inside, child-inside, known-searchable, Below, known-below, uncounted, going-known}
 
 -- ---- the chain
 
@@ -72,7 +71,7 @@ heal-chain half _⊕_ t (suc l) es S =
 -- ---- pages that show their part of the tree
 
 module _ (Z : Image) (l : ℕ) (x : Ent (Kid (suc l))) (s : Shows (suc l) (Z .page) x) where
-  treed : Within (x .entry .child) Z → Treed l (x .entry .child) Z
+  treed : In-image (x .entry .child) Z → Tree-page l (x .entry .child) Z
   treed i = record { within = i; page = page-is l Z x s }
 
   length-is : length (entries Z (x .entry .child)) ≡ length (x .kid)
@@ -82,11 +81,11 @@ module _ (Z : Image) (l : ℕ) (x : Ent (Kid (suc l))) (s : Shows (suc l) (Z .pa
   entry-is j = ap (λ (es : List Entry). at es j) (entries-are l Z x s) ∙ at-bare l (x .kid) j
 
 -- the pair of z can be combined into its page's entries
-sinkable : (h : Head) → h .changes ≤ most-changes → (Z : Image) (l sums counts : ℕ) (z : Ent (Kid (suc l))) → Shows (suc l) (Z .page) z
-    → Within (z .entry .child) Z
+push-ready : (h : Head) → h .changes ≤ most-changes → (Z : Image) (l sums counts : ℕ) (z : Ent (Kid (suc l))) → Shows (suc l) (Z .page) z
+    → In-image (z .entry .child) Z
     → Weighed h (suc l) sums counts z
-    → Sinkable l (z .entry) Z
-sinkable h slow Z l sums counts z s i w =
+    → Push-ready l (z .entry) Z
+push-ready h slow Z l sums counts z s i w =
     record {
       treed = treed Z l z s i;
       each =
@@ -95,17 +94,17 @@ sinkable h slow Z l sums counts z s i w =
     }
 
 -- and that of the j-th entry of x
-sinkable-at : (h : Head) → h .changes ≤ most-changes → (Z : Image) (l sums counts : ℕ) (x : Ent (Kid (suc (suc l))))
+push-ready-at : (h : Head) → h .changes ≤ most-changes → (Z : Image) (l sums counts : ℕ) (x : Ent (Kid (suc (suc l))))
     → Shows (suc (suc l)) (Z .page) x
     → All (λ y. Weighed h (suc l) sums counts y) (x .kid)
     → (j : ℕ)
     → j < length (x .kid)
-    → Within (ent-at (suc l) (x .kid) j .entry .child) Z
-    → Sinkable l (at (entries Z (x .entry .child)) j) Z
-sinkable-at h slow Z l sums counts x s w j n i =
+    → In-image (ent-at (suc l) (x .kid) j .entry .child) Z
+    → Push-ready l (at (entries Z (x .entry .child)) j) Z
+push-ready-at h slow Z l sums counts x s w j n i =
     let z = ent-at (suc l) (x .kid) j in
-    subst⁻¹ (λ (e : Entry). Sinkable l e Z) (entry-is Z (suc l) x s j)
-    (sinkable h slow Z l sums counts z (all-at j (no-ent (suc l)) (kids-shown (suc l) Z x s) n) i (all-at j (no-ent (suc l)) w n))
+    subst⁻¹ (λ (e : Entry). Push-ready l e Z) (entry-is Z (suc l) x s j)
+    (push-ready h slow Z l sums counts z (all-at j (no-ent (suc l)) (kids-shown (suc l) Z x s) n) i (all-at j (no-ent (suc l)) w n))
 
 module _ (h : Head) (t : ℕ) (S : Supply) where
   abbrev rule : Pair → Pair → Pair
@@ -134,7 +133,7 @@ module _ (h : Head) (t : ℕ) (S : Supply) where
 
   left-weighed : (l sums counts : ℕ) (x : Ent (Kid (suc l))) → Weighed h (suc l) sums counts x
       → Weighed h (suc l) sums counts (with-left l x)
-  unfolding Within-bound
+  unfolding Within
   left-weighed l sums counts x w =
       let k =
       ents-weighed l (sums + natAbs (x .entry .pair .sum)) (counts + natAbs (x .entry .pair .count)) (x .kid)
@@ -158,7 +157,7 @@ module _ (h : Head) (t : ℕ) (S : Supply) where
       same-pages : after l x .head .pages ≡ X .head .pages
       same-pages = steady-of (healed .head) .pages
 
-      treed-after : Treed l (x .entry .child) (after l x)
+      treed-after : Tree-page l (x .entry .child) (after l x)
       treed-after = treed (after l x) l (with-left l x) (healed .shows) (omega (arith, here-inside k, same-pages))
 
       room-after : l < 254 → suc (after l x .head .chain) < 2 ^ 32
@@ -201,11 +200,11 @@ module _ (h : Head) (t : ℕ) (S : Supply) where
       same-entry : (j : ℕ) → ent-at (suc l) (x′ .kid) j .entry ≡ ent-at (suc l) (x .kid) j .entry
       same-entry j = sym (at-bare (suc l) (x′ .kid) j) ∙ ap (λ (es : List Entry). at es j) same-entries ∙ at-bare (suc l) (x .kid) j
 
-      sinks : (j : ℕ) → j < length (x .kid) → Sinkable l (at (entries Z (x .entry .child)) j) Z
+      sinks : (j : ℕ) → j < length (x .kid) → Push-ready l (at (entries Z (x .entry .child)) j) Z
       sinks j n =
           let y-weighed = left-weighed l sums counts y (all-at i (no-ent (suc l)) (k .weighed) has) in
           let c = ap (λ (e : Entry). e .child) (same-entry j) in
-          sinkable-at h slow Z l sums counts x′ shown (all-splice i (all-more y-weighed all-none) (k .weighed)) j
+          push-ready-at h slow Z l sums counts x′ shown (all-splice i (all-more y-weighed all-none) (k .weighed)) j
           (omega (arith, same-length)) (omega (arith, c, child-inside k j n, pages))
 
       -- the child page was left short
@@ -219,8 +218,11 @@ module _ (h : Head) (t : ℕ) (S : Supply) where
             siblings =
                 record {
                   low = omega arith;
-                  parent = treed Z (suc l) x′ shown (omega (arith, here-inside k, pages));
-                  both = omega (arith, length-is Z (suc l) x′ shown, same-length);
+                  parent =
+                      record {
+                        treed = treed Z (suc l) x′ shown (omega (arith, here-inside k, pages));
+                        inside = omega (arith, length-is Z (suc l) x′ shown, same-length);
+                      };
                   left = sinks (left-of i) (omega arith);
                   right = sinks (suc (left-of i)) n;
                 };
@@ -233,11 +235,11 @@ module _ (h : Head) (t : ℕ) (S : Supply) where
       inner w =
           let p = x .entry .child in
           let e : entries X p ≡ bare (x .kid) = entries-are (suc l) X x (k .shown) in
-          let c : child-on t p X ≡ y .entry .child =
+          let c : entry-for t p X .child ≡ y .entry .child =
           ap (λ (es : List Entry). at es (place t es) .child) e ∙ ap (λ (z : Entry). z .child) (at-bare (suc l) (x .kid) i) in
           let settles : Settles l p i (y .entry .child) Z = record { treed = treed-after (below .known); turns = turnable } in
           record {
-            sought = known-sought k .0;
+            searchable = known-searchable k;
             below = subst⁻¹ (λ (q : ℕ). Page-healable (h .kind) t l q X) c w;
             settles =
                 subst⁻¹ (λ (q : ℕ). Settles l p (place t (entries X p)) q (heal-page 12 rule t l q X)) c
@@ -247,7 +249,7 @@ module _ (h : Head) (t : ℕ) (S : Supply) where
     page-heals : (l lo hi sums counts : ℕ) (x : Ent (Kid (suc l))) → l < 254 → Known 12 h t X S l lo hi sums counts x
         → Page-healable (h .kind) t l (x .entry .child) X
     unfolding Page-healable
-    page-heals zero lo hi sums counts x low k = record { sought = known-sought k .0; leaf = page-is 0 X x (k .shown) }
+    page-heals zero lo hi sums counts x low k = known-searchable k
     page-heals (suc l) lo hi sums counts x low k =
         let b = known-below k in
         inner l lo hi sums counts x low k (page-heals l (b .lo) (b .hi) _ _ (there (suc l) t (x .kid)) (omega arith) (b .known))
@@ -256,7 +258,7 @@ module _ (h : Head) (t : ℕ) (S : Supply) where
 
     -- its only entry leads to one of the image's pages
     only-inside : {l hi : ℕ} {x : Ent (Kid (suc l))} → Known 12 h t X S l 0 hi 0 0 x → 1 ≤ l → length (left l x .ents) ≡ 1
-        → Within (ent-at l (left l x .ents) 0 .entry .child) (after l x)
+        → In-image (ent-at l (left l x .ents) 0 .entry .child) (after l x)
     only-inside {l} {x = x} k some one =
         let q = ent-at l (left l x .ents) 0 .entry .child in
         let e : at (bare (left l x .ents)) 0 .child ≡ q = ap (λ (z : Entry). z .child) (at-bare l (left l x .ents) 0) in
@@ -275,12 +277,17 @@ module _ (h : Head) (t : ℕ) (S : Supply) where
         let Z = after (suc l) x in
         let w = ents-weighed (suc l) 0 0 (x .kid) (λ e. omega arith) (λ e. omega arith) (k .weighed) in
         let level : Z .head .height - 2 ≡ l = omega arith in
+        let above : Z .head .height - 1 ≡ suc l = omega arith in
         record {
+          inner = omega arith;
           low = omega arith;
+          root =
+              subst₂ (λ (m q : ℕ). Has-entry m q 0 Z) (sym above) (sym root)
+              (record { treed = treed-after k; inside = omega (arith, length-is Z (suc l) (with-left (suc l) x) (healed k .shows)) });
           child =
-              subst⁻¹ (λ (m : ℕ). Sinkable m (at (entries Z (Z .head .root)) 0) Z) level
-              (subst⁻¹ (λ (q : ℕ). Sinkable l (at (entries Z q) 0) Z) root
-              (sinkable-at h slow Z l 0 0 (with-left (suc l) x) (healed k .shows) w 0 (omega arith) (only-inside k tall one)));
+              subst⁻¹ (λ (m : ℕ). Push-ready m (at (entries Z (Z .head .root)) 0) Z) level
+              (subst⁻¹ (λ (q : ℕ). Push-ready l (at (entries Z q) 0) Z) root
+              (push-ready-at h slow Z l 0 0 (with-left (suc l) x) (healed k .shows) w 0 (omega arith) (only-inside k tall one)));
           room = room-after k low;
         }
 
@@ -298,8 +305,8 @@ module _ (h : Head) (t : ℕ) (S : Supply) where
         ap (λ (p : ℕ). length (entries Z p)) there ∙ length-is Z l (with-left l x) (healed k .shows) in
         record {
           root =
-              subst⁻¹ (λ (m : ℕ). Treed m (Z .head .root) Z) level
-              (subst⁻¹ (λ (p : ℕ). Treed l p Z) there (treed-after k));
+              subst⁻¹ (λ (m : ℕ). Tree-page m (Z .head .root) Z) level
+              (subst⁻¹ (λ (p : ℕ). Tree-page l p Z) there (treed-after k));
           lowers = λ inner one. lowerable l hi x low k tall there (omega arith) (sym n ∙ one);
         }
 

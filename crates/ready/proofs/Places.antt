@@ -1,6 +1,6 @@
 -- A page of consecutive entries can be searched for an instant. Assumes nothing.
 use Prim.Native.Nat.{ℕ, zero, suc, _≤_, _<_}
-use mathlib.Core.Path.{_≡_, refl, sym, ap, _∙_}
+use mathlib.Core.Path.{_≡_, sym, ap, _∙_}
 use mathlib.Core.List.{List}
 use native.Mathlib.Omega.{arith}
 use lib.ListN.{length, length-map}
@@ -8,8 +8,7 @@ use Rattle.page.specs.declared.Entry.{Entry}
 use Rattle.page.specs.Entries.{at}
 use Rattle.image.specs.Images.{Image, tree, entries-in}
 use Rattle.steps.specs.Supply.{entries}
-use Rattle.store.specs.Holding.{Within}
-use Rattle.store.specs.Places.{Sought}
+use Rattle.store.specs.Ready.{In-image, Searchable}
 use Rattle.tree.specs.Tree.{Ent, Kid, Ents, bare}
 use Rattle.tree.specs.Shape.{Asked, Seg, done, more}
 use Rattle.tree.proofs.Seg.{seg-some, seg-head}
@@ -22,11 +21,11 @@ seg-rising (more e lt q (more f lt′ q′ r)) zero h = omega arith
 seg-rising (more e lt q (more f lt′ q′ r)) (suc i) h = seg-rising (more f lt′ q′ r) i (omega arith)
 
 -- A page of level l with entries from lo to hi can be searched for every t from lo on.
-pub searched : {l lo hi p t : ℕ} {X : Image} {Q : Asked (Kid l)} {es : Ents l} → Within p X → X .page p ≡ tree l (bare es)
+pub searched : {l lo hi p t : ℕ} {X : Image} {Q : Asked (Kid l)} {es : Ents l} → In-image p X → X .page p ≡ tree l (bare es)
     → Seg Q lo hi es
     → lo < hi
     → lo ≤ t
-    → (s : Sought p t X) × (s .level ≡ l)
+    → Searchable l p t X
 unfolding entries entries-in
 searched {l} {lo} {p = p} {t} {X} {es = es} within page spans some low =
     let e : entries X p ≡ bare es = ap entries-in page in
@@ -37,15 +36,11 @@ searched {l} {lo} {p = p} {t} {X} {es = es} within page spans some low =
     over : (fs : List Entry) → entries X p ≡ fs → X .page p ≡ tree l fs → 1 ≤ length fs
         → ((i : ℕ) → suc i < length fs → at fs i .start < at fs (suc i) .start)
         → at fs 0 .start ≤ t
-        → (s : Sought p t X) × (s .level ≡ l)
-    over fs e page some rising first = (
-      record {
-        within = within;
-        level = l;
-        page = page ∙ ap (λ (gs : List Entry). tree l gs) (sym e);
-        some = rw e some;
-        rising = rw e rising;
-        first = rw e first;
-      },
-      refl,
-    )
+        → Searchable l p t X
+    over fs e page some rising first =
+        record {
+          treed = record { within = within; page = page ∙ ap (λ (gs : List Entry). tree l gs) (sym e) };
+          some = rw e some;
+          rising = rw e rising;
+          first = rw e first;
+        }

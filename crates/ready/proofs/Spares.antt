@@ -7,7 +7,7 @@ use native.Mathlib.Decide.{decLe}
 use lib.ListN.{length}
 use Rattle.image.specs.Images.{Image, Cell}
 use Rattle.steps.specs.Supply.{spare}
-use Rattle.store.specs.Supplying.{Free, Takable}
+use Rattle.store.specs.Ready.{Free, Takable}
 use Rattle.tree.specs.Supply.{Supply, next-page, without-next}
 use Rattle.tree.specs.Held.{times-spare}
 use Rattle.held.proofs.Taken.{one-less}

@@ -17,7 +17,7 @@ use Rattle.image.specs.Sound.{times}
 use Rattle.steps.specs.Supply.{entries, counted}
 use Rattle.steps.specs.Spread.{start-of, sent}
 use Rattle.spread.specs.declared.Task.{Task}
-use Rattle.spread.specs.Ready.{inside-by, meets-by, below-by, sent-by, Entries-ready, Below-ready, Page-ready, Spreadable}
+use Rattle.spread.specs.Spreadable.{inside-by, meets-by, below-by, sent-by, Entries-spreadable, Below-spreadable, Page-spreadable, Spreadable}
 use Rattle.tree.specs.Tree.{Ent, Kid, Ents, bare, pages-under}
 use Rattle.tree.specs.Cut.{State, root-ent}
 use Rattle.tree.specs.Spread.{spread-ent}
@@ -85,10 +85,10 @@ module _ (q : Task) where
 
   module _ (n l : ℕ) (W : Ent (Kid l) → Type 0) (combines : (y : Ent (Kid l)) → W y → Combinable (y .entry .pair) (q .effect))
       (below : (hi : ℕ) (y : Ent (Kid l)) (Z : Image) → W y → Shows l (Z .page) y → Apart n (λ p. times p (pages-under l y))
-      → Z .head .pages ≡ n → Below-ready q l hi (y .entry .child) Z) where
+      → Z .head .pages ≡ n → Below-spreadable q l hi (y .entry .child) Z) where
     entries-ready : (hi : ℕ) (es : Ents l) (Z : Image) → All W es → All (λ y. Shows l (Z .page) y) es → Apart n (λ p. times-below l p es)
-        → Z .head .pages ≡ n → Entries-ready q (Below-ready q l) l hi (bare es) Z
-    unfolding Entries-ready
+        → Z .head .pages ≡ n → Entries-spreadable q (Below-spreadable q l) l hi (bare es) Z
+    unfolding Entries-spreadable
     entries-ready hi [] Z w a o m = tt
     entries-ready hi (x ∷ xs) Z w a o m =
         let end = start-of hi (bare xs) in
@@ -104,17 +104,20 @@ module _ (q : Task) where
         )
 
     page-ready : (hi : ℕ) (x : Ent (Kid (suc l))) (Z : Image) → All W (x .kid) → Shows (suc l) (Z .page) x
-        → Apart n (λ p. times p (pages-under (suc l) x)) → Z .head .pages ≡ n → Page-ready q l hi (x .entry .child) Z
+        → Apart n (λ p. times p (pages-under (suc l) x)) → Z .head .pages ≡ n → Page-spreadable q l hi (x .entry .child) Z
     unfolding Shows
     page-ready hi x Z w a o m =
         let c = x .entry .child in
         let e : entries Z c ≡ bare (x .kid) = entries-are l Z x a in
         let i : (1 ≤ c) × (c < n) = o .inside c (omega (arith, under-suc l c x, hit-self c)) in
         record {
-          within = record { least = i .0; below = omega (arith, i .1, m) };
-          is = a .0 ∙ ap (λ (es : List Entry). tree l es) (sym e);
+          treed =
+              record {
+                within = record { least = i .0; below = omega (arith, i .1, m) };
+                page = a .0 ∙ ap (λ (es : List Entry). tree l es) (sym e);
+              };
           each =
-              subst⁻¹ (λ (es : List Entry). Entries-ready q (Below-ready q l) l hi es Z) e
+              subst⁻¹ (λ (es : List Entry). Entries-spreadable q (Below-spreadable q l) l hi es Z) e
               (entries-ready hi (x .kid) Z w (kids-shown l Z x a) (fewer o (λ p. omega (arith, under-suc l p x))) m);
         }
 
@@ -122,8 +125,8 @@ module _ (q : Task) where
 
   module _ (h : Head) (few : h .changes ≤ most-changes) (f : Effective (h .kind) (q .effect)) where
     under-ready : (l sums counts hi : ℕ) (x : Ent (Kid l)) (Z : Image) → Weighed h l sums counts x → Shows l (Z .page) x
-        → Apart (h .pages) (λ p. times p (pages-under l x)) → Z .head .pages ≡ h .pages → Below-ready q l hi (x .entry .child) Z
-    unfolding Below-ready
+        → Apart (h .pages) (λ p. times p (pages-under l x)) → Z .head .pages ≡ h .pages → Below-spreadable q l hi (x .entry .child) Z
+    unfolding Below-spreadable
     under-ready zero sums counts hi x Z w a o m = tt
     under-ready (suc l) sums counts hi x Z w a o m =
         let s : ℕ = sums + natAbs (x .entry .pair .sum) in
@@ -135,7 +138,7 @@ module _ (q : Task) where
   -- ---- from the root, over any capacity of a page
 
   pub root-ready : {half : ℕ} (X : Image) {Y : State} → Effective (X .head .kind) (q .effect) → Going half X Y
-      → Page-ready q (X .head .height - 1) END (X .head .root) X
+      → Page-spreadable q (X .head .height - 1) END (X .head .root) X
   unfolding counted root-ent
   root-ready X {Y} f g =
       let l : ℕ = Y .tree .level in
@@ -144,8 +147,8 @@ module _ (q : Task) where
       let e : X .head .height - 1 ≡ l = omega (arith, g .shown .height) in
       let b = g .bounds in
       let all : All (λ y. Weighed h l 0 0 y) (Y .tree .ents) = weighed-all h l 0 0 (Y .tree .ents) (b .sums) (b .counts) (b .values) in
-      subst⁻¹ (λ (n : ℕ). Page-ready q n END (X .head .root) X) e
-      (subst⁻¹ (λ (p : ℕ). Page-ready q l END p X) (g .shown .root)
+      subst⁻¹ (λ (n : ℕ). Page-spreadable q n END (X .head .root) X) e
+      (subst⁻¹ (λ (p : ℕ). Page-spreadable q l END p X) (g .shown .root)
       (page-ready (h .pages) l (λ y. Weighed h l 0 0 y) (λ y w. effect-combinable h few l 0 0 y (q .effect) w f)
       (λ hi y Z w a o m. under-ready h few f l 0 0 hi y Z w a o m)
       END (root-ent (Y .tree)) X all (g .shown .below) (tree-apart X g) refl))

@@ -12,8 +12,7 @@ use Rattle.page.specs.Entries.{place}
 use Rattle.image.specs.Images.{Image, tree}
 use Rattle.image.specs.Sound.{times}
 use Rattle.steps.specs.Supply.{entries, counted}
-use Rattle.store.specs.Holding.{Within}
-use Rattle.store.specs.Places.{Sought}
+use Rattle.store.specs.Ready.{In-image, Searchable}
 use Rattle.tree.specs.Tree.{Ent, Kid, no-ent, bare, pages-under, ent-of}
 use Rattle.tree.specs.Supply.{Supply}
 use Rattle.tree.specs.Cut.{State, root-ent}
@@ -43,7 +42,7 @@ pub record Known (half : ℕ) (h : Head) (t : ℕ) (X : Image) (S : Supply) (l l
   pub shown : Shows (suc l) (X .page) x
   pub stocked : Stocked (suc l) x
   pub once : (q : ℕ) → times q (pages-under (suc l) x) + times-spare q S ≤ 1
-  pub inside : (q : ℕ) → 1 ≤ times q (pages-under (suc l) x) → Within q X
+  pub inside : (q : ℕ) → 1 ≤ times q (pages-under (suc l) x) → In-image q X
   pub spans : Seg (λ a b y. Shaped half Leaf l a b y) lo hi (x .kid)
   pub begun : lo ≤ t
   pub weighed : All (λ y. Weighed h l sums counts y) (x .kid)
@@ -60,13 +59,13 @@ pub record Below (half : ℕ) (h : Head) (t : ℕ) (X : Image) (S : Supply) (l s
 module _ {half : ℕ} {h : Head} {t : ℕ} {X : Image} {S : Supply} where
   -- the page itself, and those under its entries
   pub here-inside : {l lo hi sums counts : ℕ} {x : Ent (Kid (suc l))} → Known half h t X S l lo hi sums counts x
-      → Within (x .entry .child) X
+      → In-image (x .entry .child) X
   here-inside {l} {x = x} k = k .inside (x .entry .child) (omega (arith, under-suc l (x .entry .child) x, hit-self (x .entry .child)))
 
   pub child-inside : {l lo hi sums counts : ℕ} {x : Ent (Kid (suc (suc l)))} → Known half h t X S (suc l) lo hi sums counts x
       → (j : ℕ)
       → j < length (x .kid)
-      → Within (ent-at (suc l) (x .kid) j .entry .child) X
+      → In-image (ent-at (suc l) (x .kid) j .entry .child) X
   child-inside {l} {x = x} k j n =
       let y = ent-at (suc l) (x .kid) j in
       let q = y .entry .child in
@@ -76,10 +75,10 @@ module _ {half : ℕ} {h : Head} {t : ℕ} {X : Image} {S : Supply} where
   some-span {l} {x = x} k = seg-lt (k .spans) (omega (arith, has-place l t x (k .stocked)))
 
   -- it can be searched for t
-  pub known-sought : {l lo hi sums counts : ℕ} {x : Ent (Kid (suc l))} → Known half h t X S l lo hi sums counts x
-      → (s : Sought (x .entry .child) t X) × (s .level ≡ l)
+  pub known-searchable : {l lo hi sums counts : ℕ} {x : Ent (Kid (suc l))} → Known half h t X S l lo hi sums counts x
+      → Searchable l (x .entry .child) t X
   unfolding Shows
-  known-sought k = searched (here-inside k) (k .shown .0) (k .spans) (some-span k) (k .begun)
+  known-searchable k = searched (here-inside k) (k .shown .0) (k .spans) (some-span k) (k .begun)
 
   -- one level down
   pub known-below : {l lo hi sums counts : ℕ} {x : Ent (Kid (suc (suc l)))} → Known half h t X S (suc l) lo hi sums counts x

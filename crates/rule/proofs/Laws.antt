@@ -13,7 +13,7 @@ use Rattle.rule.specs.declared.Pair.{Pair}
 use Rattle.rule.specs.Time.{most-value, value-ok}
 use Rattle.rule.specs.Pairs.{none, same-number, same-pair, added, greater, lesser, better, combine, Lawful, Invertible}
 use Rattle.rule.specs.Bounds.{Combinable, value-or-none}
-use Rattle.rule.proofs.Tests.{fails, both, either}
+use Rattle.rule.proofs.Tests.{both, either}
 use Rattle.rule.proofs.Signed.{sfits-natAbs, natAbs-add, same-number-is}
 use Rattle.rule.proofs.Order.{Best, least, greatest}
 
@@ -31,9 +31,6 @@ same-pair-is p q = (λ t. pair-eq (fields .0 t .0) (fields .0 t .1), λ e. field
         both (same-number (p .sum) (q .sum)) (same-number (p .count) (q .count))
         (same-number-is (p .sum) (q .sum))
         (same-number-is (p .count) (q .count))
-
-pub same-pair-not : (p q : Pair) → (same-pair p q ≡ false) ↔ (p ≡ q → ⊥)
-same-pair-not p q = fails (same-pair p q) (same-pair-is p q)
 
 none-or : (p : Pair) → (p ≡ none) ⊎ (same-pair p none ≡ false)
 none-or p = go (same-pair p none) refl
@@ -177,22 +174,6 @@ combine-sum-bound kind p q =
     by-kind (λ rule. natAbs (rule p q .sum) ≤ natAbs (p .sum) + natAbs (q .sum))
     (natAbs-add (p .sum) (q .sum))
     (λ best choice. omega (arith, better-sum-bound choice p q))
-    kind
-
--- kinds 2 and 3 answer one of the two values
-pub choice-sum-bound : (kind : ℕ) (p q : Pair) → eqb kind 1 ≡ false → natAbs (combine kind p q .sum) ≤ max (natAbs (p .sum)) (natAbs (q .sum))
-choice-sum-bound kind p q =
-    by-choice (λ rule. natAbs (rule p q .sum) ≤ max (natAbs (p .sum)) (natAbs (q .sum)))
-    (λ best choice. better-sum-bound choice p q)
-    kind
-
--- a value's mark may be a count where there was none
-pub combine-count-bound : (kind : ℕ) (p q : Pair) → natAbs (combine kind p q .count) ≤ max 1 (natAbs (p .count) + natAbs (q .count))
-unfolding added
-combine-count-bound kind p q =
-    by-kind (λ rule. natAbs (rule p q .count) ≤ max 1 (natAbs (p .count) + natAbs (q .count)))
-    (omega (arith, natAbs-add (p .count) (q .count)))
-    (λ best choice. better-is best (λ r. natAbs (r .count) ≤ max 1 (natAbs (p .count) + natAbs (q .count))) p q (omega arith) (omega arith) (omega arith))
     kind
 
 -- kind 1 has no such mark

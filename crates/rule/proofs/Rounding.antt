@@ -1,11 +1,11 @@
 -- Rounding: `nearest` is the whole number nearest n / d, a half up, and the code's way leads to it. Assumes nothing.
-use Prim.Native.Nat.{ℕ, zero, suc, _+_, _*_, _/_, _≤_, _<_}
+use Prim.Native.Nat.{ℕ, suc, _+_, _*_, _/_, _≤_, _<_}
 use mathlib.Core.Path.{_≡_, refl, sym, ap, _∙_}
-use native.Mathlib.Nat.{div-mul-le-self, div-le-self, lt-div-mul-add, div-eq-of-lt, div-eq-of-lt-le, mul-assoc, mul-left-comm, add-mul, one-mul, not-suc-le-zero}
+use native.Mathlib.Nat.{div-mul-le-self, div-le-self, lt-div-mul-add, div-eq-of-lt-le, mul-assoc, mul-left-comm, add-mul, one-mul, not-suc-le-zero}
 use native.Mathlib.Omega.{arith}
 use mathlib.Core.Bool.{Bool, true, false, not, _||_, true≢false}
 use lib.Dec.{eqb}
-use lib.IntN.{ℤ, pos, negsuc, negℤ, natAbs, _+ℤ_, _-ℤ_, _*ℤ_, negℤ-+ℤ, negℤ-negℤ}
+use lib.IntN.{ℤ, pos, negsuc, negℤ, natAbs, _+ℤ_, _-ℤ_, _*ℤ_, negℤ-+ℤ}
 use lib.Signed.{quotZ, leZ, ltZ, natAbs-le}
 use borrow.Author.Tests.{ltb-true, leb-false, lt-ltb, le-ltb}
 use mir.Syntax.{w32, w64}
@@ -34,18 +34,6 @@ nearest-is n d h =
 pub nearest-only : (n d k : ℕ) → 0 < d → Nearest n d k → k ≡ nearest n d
 unfolding nearest
 nearest-only n d k h near = sym (div-eq-of-lt-le (2 * d) (omega (arith, products k d)) (omega (arith, products k d)))
-
-nearest-zero : (d : ℕ) → nearest 0 d ≡ 0
-unfolding nearest
-nearest-zero zero = refl
-nearest-zero (suc d) = div-eq-of-lt (omega arith)
-
--- halves away from zero: below zero it is the opposite of above
-pub hundredths-neg : (sum : ℤ) (d : ℕ) → hundredths (negℤ sum) d ≡ negℤ (hundredths sum d)
-unfolding hundredths
-hundredths-neg (pos zero) d = rw (nearest-zero d)
-hundredths-neg (pos (suc n)) d = refl
-hundredths-neg (negsuc n) d = sym (negℤ-negℤ (pos (nearest (100 * suc n) d)))
 
 -- ---- the code's way: half a step is added on the sum's side, and division cuts towards zero
 

@@ -13,7 +13,7 @@ use mir.Syntax.{Width}
 use mir.Val.{SFits, hbits, ofZ, toZ}
 use mir.ValLaws.{toZ-ofZ}
 use Rattle.rule.specs.Pairs.{same-number}
-use Rattle.rule.proofs.Tests.{fails, one-test}
+use Rattle.rule.proofs.Tests.{one-test}
 
 -- ---- what fits a width
 
@@ -91,9 +91,6 @@ same-number-is (pos a) (pos b) = (λ e. ap pos (eqb-true a b e), λ e. eq-eqb a 
 same-number-is (pos a) (negsuc b) = (λ e. absurd (false≢true e), λ e. absurd (pos-ne-negsuc a b e))
 same-number-is (negsuc a) (pos b) = (λ e. absurd (false≢true e), λ e. absurd (pos-ne-negsuc b a (sym e)))
 same-number-is (negsuc a) (negsuc b) = (λ e. ap negsuc (eqb-true a b e), λ e. eq-eqb a b (ap mag e))
-
-pub same-number-not : (a b : ℤ) → (same-number a b ≡ false) ↔ (a ≡ b → ⊥)
-same-number-not a b = fails (same-number a b) (same-number-is a b)
 
 -- the machine compares bits
 pub same-bits : (w : Width) {a b : ℤ} → SFits w a → SFits w b → eqb (ofZ w a) (ofZ w b) ≡ same-number a b

@@ -40,6 +40,10 @@ lengthened e w = min (e + w) END
 unfoldable pub covers : ℕ → ℕ → ℕ → Bool
 covers s e t = leb s t && ltb t e
 
+-- the spans [a, b) and [lo, hi) have an instant in common
+unfoldable pub overlaps : ℕ → ℕ → ℕ → ℕ → Bool
+overlaps a b lo hi = ltb lo b && ltb a hi
+
 -- "A booking counts at instant t if [s, e) overlaps [t−w, t]": both have the instant `at`
 pub record Counts (s e w t : ℕ) : Type 0 where
   pub at : ℕ

@@ -1,6 +1,8 @@
 // The average, document 01, "Time and value": for kind 1, in hundredths, halves away from zero.
 use crate::Average;
 use crate::Pair;
+use crate::limits::MOST_SUM;
+use crate::limits::TOTALS;
 use crate::numbers::magnitude;
 ghost use mathlib.Core.Path.{_≡_};
 ghost use lib.IntN.{natAbs};
@@ -29,10 +31,10 @@ pub fn average(kind: u32, pair: Pair) -> Average
 {
     let sum = pair.sum;
     let count = pair.count;
-    if (kind != 1) | (count <= 0) {
+    if (kind != TOTALS) | (count <= 0) {
         return Average::Nothing;
     }
-    if magnitude(sum) <= 1000000000000000 {
+    if magnitude(sum) <= MOST_SUM {
         return Average::Hundredths(rounded(sum, count as i64));
     }
     Average::Beyond

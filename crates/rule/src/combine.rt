@@ -1,5 +1,7 @@
 // The combining rule of each kind, and the tests for equal pairs. Document 01, "Time and value".
 use crate::Pair;
+use crate::limits::GREATEST;
+use crate::limits::TOTALS;
 use crate::time::in_range;
 ghost use mathlib.Core.Path.{_≡_};
 ghost use mathlib.Core.Bool.{cond};
@@ -32,7 +34,7 @@ pub fn value_or_none(p: Pair) -> bool
 fn best(kind: u32, a: i64, b: i64) -> i64
     ensures { λ r. ⌜ r ≡ cond (eqb kind 2) (greater a b) (lesser a b) ⌝ }
 {
-    if (a <= b) == (kind == 2) { b } else { a }
+    if (a <= b) == (kind == GREATEST) { b } else { a }
 }
 
 // What two pairs of a kind amount to together: 1 totals, 2 greatest, 3 least.
@@ -40,7 +42,7 @@ pub fn combine(kind: u32, p: Pair, q: Pair) -> Pair
     requires { ⌜ Combinable p q ⌝ }
     ensures { λ r. ⌜ r ≡ combine kind p q ⌝ }
 {
-    if kind == 1 {
+    if kind == TOTALS {
         return Pair {
             sum: p.sum + q.sum,
             count: p.count + q.count,

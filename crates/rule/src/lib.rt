@@ -3,6 +3,7 @@
 
 pub mod averages;
 pub mod combine;
+pub mod limits;
 pub mod numbers;
 pub mod time;
 

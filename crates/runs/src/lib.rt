@@ -5,6 +5,13 @@ pub mod collector;
 pub mod next;
 pub mod output;
 
+// "16 bytes each: start (u32), count (i32), sum (i64)"
+pub const RUN_BYTES: usize = 16;
+
+pub const RUN_COUNT_OFFSET: usize = 4;
+
+pub const RUN_SUM_OFFSET: usize = 8;
+
 // The run that a walk is in, and how many runs it has opened so far; none at first.
 pub struct Run {
     pub start: u32,

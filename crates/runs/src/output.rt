@@ -1,4 +1,7 @@
 // The output: a run that begins is written at once, behind those before it.
+use crate::RUN_BYTES;
+use crate::RUN_COUNT_OFFSET;
+use crate::RUN_SUM_OFFSET;
 use crate::Run;
 use crate::next::goes_on;
 use fields::write::put_i32;
@@ -18,10 +21,10 @@ pub fn put_run(out: &mut [u8], at: usize, start: u32, pair: Pair)
     requires { ⌜ 16 * at + 16 ≤ length (now out) ⌝ }
     ensures { λ _. ⌜ now (out .exit) ≡ patch (now (out .entry)) (16 * at) (run-bytes (record { start = start; pair = pair })) ⌝ }
 {
-    let o = 16 * at;
+    let o = RUN_BYTES * at;
     put_u32(out, o, start);
-    put_i32(out, o + 4, pair.count);
-    put_i64(out, o + 8, pair.sum);
+    put_i32(out, o + RUN_COUNT_OFFSET, pair.count);
+    put_i64(out, o + RUN_SUM_OFFSET, pair.sum);
 }
 
 // Writes the run that begins at a leaf entry, if one does.

@@ -14,7 +14,8 @@ use Rattle.image.specs.Images.{Image, tree}
 use Rattle.steps.specs.Supply.{entries, put}
 use Rattle.steps.specs.Spread.{Spreading, start-of, took, sent, spread-entries, spread-over, spread-page}
 use Rattle.spread.specs.declared.Task.{Task}
-use Rattle.spread.specs.Ready.{inside-by, meets-by, took-by, page-by, below-by, sent-by, Below-ready, Page-ready, Entry-ready}
+use Rattle.spread.specs.Spreadable.{inside-by, meets-by, took-by, page-by, below-by, sent-by, Below-spreadable, Page-spreadable}
+use Rattle.spread.specs.Spreadable.{Entry-spreadable}
 
 -- ---- where an entry ends
 
@@ -74,15 +75,15 @@ module _ (q : Task) (hi p : ℕ) (X : Image) where
   below-page zero some = absurd (some refl)
   below-page (suc l) some = let d : suc l - 1 ≡ l = omega arith in ap (λ k. page-by q k hi p X) d
 
-  below-ready : (level : ℕ) → (level ≡ 0 → ⊥) → Below-ready q level hi p X → Page-ready q (level - 1) hi p X
-  unfolding Below-ready
+  below-ready : (level : ℕ) → (level ≡ 0 → ⊥) → Below-spreadable q level hi p X → Page-spreadable q (level - 1) hi p X
+  unfolding Below-spreadable
   below-ready zero some r = absurd (some refl)
-  below-ready (suc l) some r = let d : suc l - 1 ≡ l = omega arith in subst⁻¹ (λ k. Page-ready q k hi p X) d r
+  below-ready (suc l) some r = let d : suc l - 1 ≡ l = omega arith in subst⁻¹ (λ k. Page-spreadable q k hi p X) d r
 
 -- an inner entry partly inside the span
 module _ (q : Task) (level hi : ℕ) (x : Entry) (X : Image)
     (some : level ≡ 0 → ⊥) (h : inside-by q hi x ≡ false) (m : meets-by q hi x ≡ true) where
-  pub ready-below : Entry-ready q level hi x X → Page-ready q (level - 1) hi (x .child) X
+  pub ready-below : Entry-spreadable q level hi x X → Page-spreadable q (level - 1) hi (x .child) X
   ready-below r = below-ready q hi (x .child) X level some (r .ready h m)
 
   pub sent-below : page-by q (level - 1) hi (x .child) X ≡ sent-by q level hi x X

@@ -15,10 +15,12 @@ use Rattle.steps.specs.Spread.{Spreading, start-of, spread-entries}
 use Rattle.edit.specs.Shows.{Shows}
 use Rattle.edit.proofs.Edits.{shows-number, shows-as, shows-then}
 use Rattle.edit.proofs.Places.{shown-length}
-use Rattle.store.specs.Holding.{Holds, Some, Each, Within, Loaded}
+use Rattle.store.specs.Holding.{Holds, Some, Each, Each-level, Loaded}
+use Rattle.store.specs.Ready.{In-image, Tree-page}
 use Rattle.store.proofs.Holding.{holds-length}
 use Rattle.spread.specs.declared.Task.{Task}
-use Rattle.spread.specs.Ready.{took-by, page-by, sent-by, Takes, Entries-ready, Below-ready, Page-ready, Entry-ready}
+use Rattle.spread.specs.Spreadable.{took-by, page-by, sent-by, Takes, Entries-spreadable, Below-spreadable, Page-spreadable}
+use Rattle.spread.specs.Spreadable.{Entry-spreadable}
 use Rattle.spread.proofs.Laws.{spreading, written, page-whole}
 
 -- what the entries behind these became, with these in front
@@ -48,7 +50,7 @@ module _ (q : Task) (level hi p : ℕ) where
     pub holds : Holds img image
     pub shows : Shows level (done ++ rest) page
     pub passed : length done ≡ i
-    pub ready : Entries-ready q (Below-ready q level) level hi rest image
+    pub ready : Entries-spreadable q (Below-spreadable q level) level hi rest image
     pub whole : after done (spreading q level hi rest image) ≡ spreading q level hi (entries X p) X
 
   -- The same where the next entry is x, which ends at end.
@@ -60,12 +62,12 @@ module _ (q : Task) (level hi p : ℕ) where
     pub shows : Shows level (done ++ (x ∷ rest)) page
     pub passed : length done ≡ i
     pub takes : Takes q end x
-    pub sends : Entry-ready q level end x image
-    pub ready : Entries-ready q (Below-ready q level) level hi rest (sent-by q level end x image)
+    pub sends : Entry-spreadable q level end x image
+    pub ready : Entries-spreadable q (Below-spreadable q level) level hi rest (sent-by q level end x image)
     pub whole : after done (after (took-by q end x ∷ []) (spreading q level hi rest (sent-by q level end x image)))
         ≡ spreading q level hi (entries X p) X
 
-  turned-none : {page : Page} {img : List ℕ} {X : Image} → Holds img X → Page-ready q level hi p X → Shows level (entries X p) page
+  turned-none : {page : Page} {img : List ℕ} {X : Image} → Holds img X → Page-spreadable q level hi p X → Shows level (entries X p) page
       → Turned page 0 img X
   turned-none {X = X} h r s =
       record {
@@ -89,10 +91,10 @@ module _ (q : Task) (level hi p : ℕ) where
 
   module _ {page : Page} {i : ℕ} {img : List ℕ} {X : Image} where
     next-of : (Y : Image) (done rest : List Entry) → Holds img Y → Shows level (done ++ rest) page → length done ≡ i
-        → Entries-ready q (Below-ready q level) level hi rest Y
+        → Entries-spreadable q (Below-spreadable q level) level hi rest Y
         → after done (spreading q level hi rest Y) ≡ spreading q level hi (entries X p) X → i < page .number
         → Next page i img X (at (shown page) i) (start-of hi (drop (suc i) (shown page)))
-    unfolding Entries-ready spread-entries
+    unfolding Entries-spreadable spread-entries
     next-of Y done [] h s n r w l = absurd (omega (arith, shows-number s, length-append done []))
     next-of Y done (x ∷ xs) h s n r w l =
         let e : x ≡ at (shown page) i = sym (ap (λ es. at es i) (s .entries) ∙ getD-at done x xs no-entry i n) in
@@ -141,7 +143,8 @@ module _ (q : Task) (level hi p : ℕ) where
 -- ---- the loop
 
 -- bytes of the same length hold images of as many pages
-within-still : {p : ℕ} {img img′ : List ℕ} {X Y : Image} → Holds img X → Holds img′ Y → length img′ ≡ length img → Within p X → Within p Y
+within-still : {p : ℕ} {img img′ : List ℕ} {X Y : Image} → Holds img X → Holds img′ Y → length img′ ≡ length img → In-image p X
+    → In-image p Y
 within-still h k same w = record { least = w .least; below = omega (arith, holds-length h, holds-length k) }
 
 replaced-number : (page : Page) (y : Entry) {page′ : Page} {l i : ℕ} → i < page .number → Shows l (splice i (y ∷ []) (shown page)) page′
@@ -155,33 +158,33 @@ module _ (q : Task) (level hi p : ℕ) where
   pub record Turning (img₀ : List ℕ) (page : Page) (i : ℕ) (img : List ℕ) : Type 0 where
     pub same : length img ≡ length img₀
     pub few : page .number ≤ 24
-    pub each : Each img₀ (Page-ready q level hi p) (Turned q level hi p page i img)
+    pub each : Each img₀ (Page-spreadable q level hi p) (Turned q level hi p page i img)
 
-  pub none : {img : List ℕ} {page : Page} → Some img (Page-ready q level hi p)
-      → Each img (Within p) (λ X. (l : ℕ) (es : List Entry) → X .page p ≡ tree l es → Loaded l es page) → Turning img page 0 img
+  pub none : {img : List ℕ} {page : Page} → Some img (Page-spreadable q level hi p)
+      → Each-level img (λ l. Tree-page l p) (λ l X. Loaded l (entries X p) page) → Turning img page 0 img
   none {img} {page} s load =
       record {
         same = refl;
-        few = load (s .image) (s .holds) (s .ready .within) level _ (s .ready .is) .few;
-        each = λ X h r. turned-none q level hi p h r (load X h (r .within) level (entries X p) (r .is) .shows);
+        few = load (s .image) (s .holds) level (s .ready .treed) .few;
+        each = λ X h r. turned-none q level hi p h r (load X h level (r .treed) .shows);
       }
 
   module _ {img₀ : List ℕ} {page : Page} {i : ℕ} {img : List ℕ} (t : Turning img₀ page i img) where
     module _ (l : i < page .number) {x : Entry} {end : ℕ}
         (e : x ≡ at (shown page) i) (d : end ≡ start-of hi (drop (suc i) (shown page))) where
-      next : (X : Image) → Holds img₀ X → Page-ready q level hi p X → Next q level hi p page i img X x end
+      next : (X : Image) → Holds img₀ X → Page-spreadable q level hi p X → Next q level hi p page i img X x end
       next X h r = turned-next q level hi p (t .each X h r) l e d
 
-      pub takes : Some img₀ (Page-ready q level hi p) → Takes q end x
+      pub takes : Some img₀ (Page-spreadable q level hi p) → Takes q end x
       takes s = next (s .image) (s .holds) (s .ready) .takes
 
-      pub sends : Some img₀ (Page-ready q level hi p) → Some img (Entry-ready q level end x)
+      pub sends : Some img₀ (Page-spreadable q level hi p) → Some img (Entry-spreadable q level end x)
       sends s =
           let n = next (s .image) (s .holds) (s .ready) in
           record { image = n .image; holds = n .holds; ready = n .sends }
 
       pub more : {img′ : List ℕ} {page′ : Page} {y : Entry}
-          → Each img (Entry-ready q level end x) (λ Y. Holds img′ (sent-by q level end x Y)) → length img′ ≡ length img
+          → Each img (Entry-spreadable q level end x) (λ Y. Holds img′ (sent-by q level end x Y)) → length img′ ≡ length img
           → y ≡ took-by q end x → Shows (page .level) (splice i (y ∷ []) (shown page)) page′ → Turning img₀ page′ (i + 1) img′
       more {page′ = page′} {y} sent k same s =
           record {
@@ -193,16 +196,17 @@ module _ (q : Task) (level hi p : ℕ) where
                 (subst (λ z. Shows (page .level) (splice i (z ∷ []) (shown page)) page′) same s);
           }
 
-    pub within : Some img₀ (Page-ready q level hi p) → Some img (Within p)
+    pub within : Some img₀ (Page-spreadable q level hi p) → Some img (In-image p)
     within s =
         let u = t .each (s .image) (s .holds) (s .ready) in
-        record { image = u .image; holds = u .holds; ready = within-still (s .holds) (u .holds) (t .same) (s .ready .within) }
+        record { image = u .image; holds = u .holds; ready = within-still (s .holds) (u .holds) (t .same) (s .ready .treed .within) }
 
-    pub level-is : Some img₀ (Page-ready q level hi p) → page .level ≡ level
+    pub level-is : Some img₀ (Page-spreadable q level hi p) → page .level ≡ level
     level-is s = t .each (s .image) (s .holds) (s .ready) .shows .level
 
-    pub all : page .number ≤ i → {img′ : List ℕ} → Each img (Within p) (λ Y. Holds img′ (put p (tree (page .level) (shown page)) Y))
-        → Each img₀ (Page-ready q level hi p) (λ X. Holds img′ (page-by q level hi p X))
+    pub all : page .number ≤ i → {img′ : List ℕ} → Each img (In-image p) (λ Y. Holds img′ (put p (tree (page .level) (shown page)) Y))
+        → Each img₀ (Page-spreadable q level hi p) (λ X. Holds img′ (page-by q level hi p X))
     all l {img′} saved X h r =
         let u = t .each X h r in
-        subst (Holds img′) (turned-all q level hi p u l) (saved (u .image) (u .holds) (within-still h (u .holds) (t .same) (r .within)))
+        subst (Holds img′) (turned-all q level hi p u l)
+        (saved (u .image) (u .holds) (within-still h (u .holds) (t .same) (r .treed .within)))

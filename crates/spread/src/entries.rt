@@ -9,25 +9,18 @@ ghost use mathlib.Core.Bool.{true};
 ghost use Prim.Native.Nat.{suc, _<_, _≤_};
 ghost use lib.ListN.{drop};
 ghost use Rattle.page.specs.Decoded.{shown};
-ghost use Rattle.steps.specs.Spread.{inside, meets, start-of};
-ghost use Rattle.spread.specs.Ready.{took-by, Takes};
+ghost use Rattle.steps.specs.Spread.{inside, start-of};
+ghost use Rattle.spread.specs.Spreadable.{took-by, Takes};
 
 // Whether [lo, hi) lies wholly inside [s, e).
-pub fn inside(s: u32, e: u32, lo: u32, hi: u32) -> bool
+pub(crate) fn inside(s: u32, e: u32, lo: u32, hi: u32) -> bool
     ensures { λ r. ⌜ r ≡ inside s e lo hi ⌝ }
 {
     (s <= lo) & (hi <= e)
 }
 
-// Whether [lo, hi) has an instant of [s, e).
-pub fn meets(s: u32, e: u32, lo: u32, hi: u32) -> bool
-    ensures { λ r. ⌜ r ≡ meets s e lo hi ⌝ }
-{
-    (lo < e) & (s < hi)
-}
-
 // Where the i-th entry ends: at the next one's start, the last at the page's own end.
-pub fn end_of(page: Page, hi: u32, i: usize) -> u32
+pub(crate) fn end_of(page: Page, hi: u32, i: usize) -> u32
     requires { ⌜ (i < page .number) × (page .number ≤ 25) ⌝ }
     ensures { λ r. ⌜ r ≡ start-of hi (drop (suc i) (shown page)) ⌝ }
 {
@@ -40,7 +33,7 @@ pub fn end_of(page: Page, hi: u32, i: usize) -> u32
 }
 
 // "an entry wholly inside the span takes the effect": the entry as it is then.
-pub fn took(q: Task, hi: u32, x: Entry) -> Entry
+pub(crate) fn took(q: Task, hi: u32, x: Entry) -> Entry
     requires { ⌜ Takes q hi x ⌝ }
     ensures { λ r. ⌜ r ≡ took-by q hi x ⌝ }
 {

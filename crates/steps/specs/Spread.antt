@@ -5,7 +5,7 @@ use mathlib.Core.List.{List, [], _∷_}
 use lib.ListN.{length}
 use lib.Dec.{leb, ltb}
 use Rattle.rule.specs.declared.Pair.{Pair}
-use Rattle.rule.specs.Time.{END}
+use Rattle.rule.specs.Time.{END, overlaps}
 use Rattle.page.specs.declared.Entry.{Entry}
 use Rattle.page.specs.Entries.{entry}
 use Rattle.image.specs.Images.{Image, tree}
@@ -19,10 +19,6 @@ pub record Spreading : Type 0 where
 -- [lo, hi) lies wholly inside [s, e)
 unfoldable pub inside : ℕ → ℕ → ℕ → ℕ → Bool
 inside s e lo hi = leb s lo && leb hi e
-
--- [lo, hi) has an instant of [s, e)
-unfoldable pub meets : ℕ → ℕ → ℕ → ℕ → Bool
-meets s e lo hi = ltb lo e && ltb s hi
 
 -- where the first of the entries that follow starts; hi if none follows
 unfoldable pub start-of : ℕ → List Entry → ℕ
@@ -39,7 +35,7 @@ module _ (_⊕_ : Pair → Pair → Pair) (s e : ℕ) (effect : Pair) where
   unfoldable pub sent : (ℕ → ℕ → Image → Image) → ℕ → Entry → Image → Image
   sent below hi x X =
       let Y = below hi (x .child) X in
-      cond (inside s e (x .start) hi) X (cond (meets s e (x .start) hi) Y X)
+      cond (inside s e (x .start) hi) X (cond (overlaps s e (x .start) hi) Y X)
 
   -- the entries of a page that ends at hi, in turn
   unfoldable pub spread-entries : (ℕ → ℕ → Image → Image) → ℕ → List Entry → Image → Spreading

@@ -1,6 +1,6 @@
 -- Bytes that hold an image: how many they are, what is read from them, and what they hold once a page or the head is written.
 -- Assumes nothing.
-use Prim.Native.Nat.{ℕ, zero, suc, _+_, _*_, _≤_, _<_, min}
+use Prim.Native.Nat.{ℕ, _+_, _*_, _≤_, _<_, min}
 use mathlib.Core.Path.{_≡_, sym, ap, _∙_}
 use mathlib.Core.Bool.{Bool, true, false, cond}
 use mathlib.Core.List.{List}
@@ -8,26 +8,23 @@ use native.Mathlib.Omega.{arith}
 use lib.Dec.{eqb}
 use lib.ListN.{length}
 use Rattle.fields.specs.Bytes.{part, patch}
-use Rattle.fields.proofs.Laws.Parts.{length-part}
 use Rattle.page.specs.declared.Entry.{Entry}
 use Rattle.page.specs.declared.Head.{Head}
 use Rattle.page.specs.declared.Page.{Page}
-use Rattle.page.specs.Entries.{at}
-use Rattle.page.specs.Layout.{page-size, level-of, number-of, start-at, entry-at, entries-of, next-of, head-of, head-bytes, tree-bytes}
+use Rattle.page.specs.Layout.{page-size, level-of, number-of, entries-of, next-of, head-of, head-bytes, tree-bytes}
 use Rattle.page.specs.Decoded.{Read}
 use Rattle.page.specs.Widths.{Head-fits}
 use Rattle.page.proofs.Laws.Heads.{head-of-head}
-use Rattle.page.proofs.Laws.Trees.{length-entries-of, at-entries-of, number-of-tree}
+use Rattle.page.proofs.Laws.Trees.{length-entries-of, number-of-tree}
 use Rattle.image.specs.Images.{Image, Cell, tree, free, page-at, cell-of, cell-bytes, image-bytes, Kept}
 use Rattle.image.proofs.Cells.{tree-cell, free-cell}
 use Rattle.image.proofs.Written.{length-of-written, head-written, page-of-written}
 use Rattle.image.proofs.Puts.{put-page, put-head as put-head-bytes}
+use Rattle.lent.proofs.Laws.{page-length}
 use Rattle.steps.specs.Supply.{put, entries}
 use Rattle.steps.proofs.Supply.{put-at, put-other, put-head}
-use Rattle.edit.specs.Shows.{Shows}
-use Rattle.lookup.specs.Levels.{Searched}
-use Rattle.store.specs.Holding.{Holds, Some, Within, Loaded, Same-pages, with-head}
-use Rattle.store.specs.Places.{Sought}
+use Rattle.store.specs.Holding.{Holds, Some, Loaded, Same-pages, with-head}
+use Rattle.store.specs.Ready.{In-image, Tree-page}
 
 -- ---- what the bytes are
 
@@ -53,7 +50,7 @@ module _ {img : List ℕ} {X : Image} (h : Holds img X) where
       ∙ ap head-of (head-written 12 X (omega arith) (omega arith) (h .sized-kept))
       ∙ head-of-head 12 (X .head) (h .head-fits)
 
-  module _ {p : ℕ} (w : Within p X) where
+  module _ {p : ℕ} (w : In-image p X) where
     pub holds-page : part img (512 * p) 512 ≡ cell-bytes 12 (X .page p)
     unfolding page-at
     holds-page =
@@ -66,25 +63,35 @@ module _ {img : List ℕ} {X : Image} (h : Holds img X) where
     pub holds-next : {next : ℕ} → X .page p ≡ free next → next-of (part img (512 * p) 512) ≡ next
     holds-next e = free-cell 12 (part img (512 * p) 512) (holds-cell ∙ e)
 
-    module _ {l : ℕ} {es : List Entry} (e : X .page p ≡ tree l es) where
-      pub holds-entries : Tree-read (part img (512 * p) 512) l es
-      holds-entries =
-          let s : List ℕ = part img (512 * p) 512 in
-          let c : (level-of s ≡ l) × (entries-of 12 s ≡ es) = tree-cell 12 s (holds-cell ∙ e) in
-          let size : length es ≡ min (number-of s) 24 = ap length (sym (c .1)) ∙ length-entries-of 12 s in
-          let n : number-of s ≡ length es = ap number-of (holds-page ∙ tree-written e) ∙ number-of-tree 12 l es (omega arith) (omega arith) in
-          record { level = c .0; entries = c .1; number = n; few = omega arith }
+  module _ {l p : ℕ} (t : Tree-page l p X) where
+    pub tree-read : Tree-read (part img (512 * p) 512) l (entries X p)
+    tree-read =
+        let s : List ℕ = part img (512 * p) 512 in
+        let es : List Entry = entries X p in
+        let c : (level-of s ≡ l) × (entries-of 12 s ≡ es) = tree-cell 12 s (holds-cell (t .within) ∙ t .page) in
+        let size : length es ≡ min (number-of s) 24 = ap length (sym (c .1)) ∙ length-entries-of 12 s in
+        let n : number-of s ≡ length es =
+        ap number-of (holds-page (t .within) ∙ tree-written (t .page)) ∙ number-of-tree 12 l es (omega arith) (omega arith) in
+        record { level = c .0; entries = c .1; number = n; few = omega arith }
 
-      pub holds-tree : {r : Page} → Read r (part img (512 * p) 512) → Loaded l es r
-      holds-tree read =
-          let b = holds-entries in
-          record {
-            shows = record { level = read .level ∙ b .level; entries = read .entries (omega (arith, b .number, b .few)) ∙ b .entries };
-            few = omega (arith, read .number, b .number, b .few);
-          }
+    pub holds-tree : {r : Page} → Read r (part img (512 * p) 512) → Loaded l (entries X p) r
+    holds-tree read =
+        let b = tree-read in
+        record {
+          shows = record { level = read .level ∙ b .level; entries = read .entries (omega (arith, b .number, b .few)) ∙ b .entries };
+          few = omega (arith, read .number, b .number, b .few);
+        }
 
-pub some-long : {img : List ℕ} {p : ℕ} → Some img (Within p) → 512 * p + 512 ≤ length img
+pub some-long : {img : List ℕ} {p : ℕ} → Some img (In-image p) → 512 * p + 512 ≤ length img
 some-long s = omega (arith, holds-length (s .holds), s .ready .below)
+
+-- the page's bytes, lent as s
+pub some-size : {img s : List ℕ} {p : ℕ} → Some img (In-image p) → s ≡ page-at 12 img p → length s ≡ 512
+some-size {img} {p = p} k same = ap length same ∙ page-length img p (some-long k)
+
+-- what a function asks, taken apart: some image that the bytes hold and that is ready
+pub from : {img : List ℕ} {Ready : Image → Type 0} {A : Type 0} → Some img Ready → ((X : Image) → Holds img X → Ready X → A) → A
+from s f = f (s .image) (s .holds) (s .ready)
 
 -- ---- what they hold then
 
@@ -102,10 +109,11 @@ pub put-bytes : (half : ℕ) → 1 ≤ half → (X : Image) (p : ℕ) (c : Cell)
 put-bytes half some X p c kept sized l b =
     let here : put p c X .page p ≡ c = put-at p c X in
     ap (λ d. patch (image-bytes half X) (page-size half * p) (cell-bytes half d)) (sym here)
-    ∙ put-page half some X (put p c X) p (sym (put-head p c X)) (λ q d. sym (put-other p c X q d)) kept (ap (λ d. length (cell-bytes half d)) here ∙ sized) l b
+    ∙ put-page half some X (put p c X) p (sym (put-head p c X)) (λ q d. sym (put-other p c X q d)) kept
+    (ap (λ d. length (cell-bytes half d)) here ∙ sized) l b
 
 module _ {img : List ℕ} {X : Image} (h : Holds img X) where
-  pub holds-put : {p : ℕ} {after : List ℕ} (c : Cell) → Within p X → Kept 12 c → after ≡ patch img (512 * p) (cell-bytes 12 c)
+  pub holds-put : {p : ℕ} {after : List ℕ} (c : Cell) → In-image p X → Kept 12 c → after ≡ patch img (512 * p) (cell-bytes 12 c)
       → Holds after (put p c X)
   unfolding put
   holds-put {p} c w k e =
@@ -129,41 +137,4 @@ module _ {img : List ℕ} {X : Image} (h : Holds img X) where
         head-fits = fits;
         pages-least = omega (arith, s .pages, h .pages-least);
         pages-most = omega (arith, s .pages, h .pages-most);
-      }
-
--- ---- a page that is searched
-
-module _ {img : List ℕ} {X : Image} {p t : ℕ} (h : Holds img X) (k : Sought p t X) where
-  -- its bytes, its entries
-  sought-read : Tree-read (page-at 12 img p) (k .level) (entries X p)
-  unfolding page-at
-  sought-read = holds-entries h (k .within) (k .page)
-
-  pub sought-entries : entries-of 12 (page-at 12 img p) ≡ entries X p
-  sought-entries = sought-read .entries
-
-  sought-start : (i : ℕ) → i < length (entries X p) → start-at (page-at 12 img p) i ≡ at (entries X p) i .start
-  unfolding entry-at
-  sought-start i l =
-      let s : List ℕ = page-at 12 img p in
-      let r = sought-read in
-      ap (λ (e : Entry). e .start) (sym (at-entries-of 12 s i (omega (arith, r .number)) (omega (arith, r .few))) ∙ ap (λ es. at es i) (r .entries))
-
-  pub sought-within : 512 * p + 512 ≤ length img
-  sought-within = omega (arith, holds-length h, k .within .below)
-
-  pub sought-length : length (page-at 12 img p) ≡ 512
-  unfolding page-at
-  sought-length = length-part img (512 * p) 512 sought-within
-
-  pub sought-searched : {n : ℕ} → n ≡ number-of (page-at 12 img p) → Searched (page-at 12 img p) n t
-  sought-searched {n} e =
-      let r = sought-read in
-      record {
-        compared = record { size = sought-length; number = e; some = omega (arith, r .number, k .some); most = omega (arith, r .number, r .few) };
-        rising =
-            λ i l.
-            let m : suc i < length (entries X p) = omega (arith, r .number) in
-            omega (arith, sought-start i (omega arith), sought-start (suc i) m, k .rising i m);
-        first = omega (arith, sought-start 0 (k .some), k .first);
       }

@@ -10,8 +10,8 @@ use borrow.Author.Tests.{eq-eqb, ne-eqb}
 use Rattle.page.specs.declared.Head.{Head}
 use Rattle.image.specs.Images.{Image, Cell, free, next-in}
 use Rattle.steps.specs.Supply.{put, with-supply, spare, taken, given-back, with-root, counted}
-use Rattle.store.specs.Holding.{Holds, Some, Each, Any, Within, with-head}
-use Rattle.store.specs.Supplying.{Free, Takable}
+use Rattle.store.specs.Holding.{Holds, Some, Each, Any, with-head}
+use Rattle.store.specs.Ready.{In-image, Free, Takable}
 
 -- ---- a head that was read
 
@@ -29,7 +29,12 @@ pub some-headed : {img : List ℕ} {h : Head} {Ready : Image → Type 0} → Som
 some-headed {img} {h} {Ready} s e =
     let X : Image = s .image in
     let q : X .head ≡ h = sym (e X (s .holds) tt) in
-    record { image = X; holds = subst (λ k. Holds img (with-head k X)) q (s .holds); ready = subst (λ k. Ready (with-head k X)) q (s .ready) }
+    record {
+      image = X;
+      holds = subst (λ k. Holds img (with-head k X)) q (s .holds);
+      ready = subst (λ k. Ready (with-head k X)) q
+          (s .ready);
+    }
 
 -- ---- taking a page
 
@@ -42,7 +47,8 @@ module _ (X : Image) (e : X .head .chain ≡ 0) where
   unfolding taken
   taken-marked =
       let h : Head = X .head in
-      λ j. with-head (cond (sym (eq-eqb (h .chain) 0 e) j) (with-supply (h .free) (h .chain) (add-one (h .mark) j) h) (with-supply (next-in (X .page (h .free))) (h .chain - 1) (h .mark) h)) X
+      λ j. with-head (cond (sym (eq-eqb (h .chain) 0 e) j) (with-supply (h .free) (h .chain) (add-one (h .mark) j) h)
+      (with-supply (next-in (X .page (h .free))) (h .chain - 1) (h .mark) h)) X
 
 module _ (X : Image) (e : X .head .chain ≡ 0 → ⊥) where
   pub spare-chained : X .head .free ≡ spare X
@@ -55,43 +61,48 @@ module _ (X : Image) (e : X .head .chain ≡ 0 → ⊥) where
   taken-chained {next} f n =
       let h : Head = X .head in
       let q : next ≡ next-in (X .page (h .free)) = n ∙ ap next-in (sym (f .is)) in
-      λ j. with-head (cond (sym (ne-eqb (h .chain) 0 e) j) (with-supply (h .free) (h .chain) (suc (h .mark)) h) (with-supply (q j) (h .chain - 1) (h .mark) h)) X
+      λ j. with-head (cond (sym (ne-eqb (h .chain) 0 e) j) (with-supply (h .free) (h .chain) (suc (h .mark)) h)
+      (with-supply (q j) (h .chain - 1) (h .mark) h)) X
 
 -- the page taken is one of the image's
 pub marked-below : {X : Image} → X .head .chain ≡ 0 → Takable X → X .head .mark < X .head .pages
 marked-below {X} e t = omega (arith, spare-marked X e, t .within .below)
 
-pub chained-within : {X : Image} → (X .head .chain ≡ 0 → ⊥) → Takable X → Within (X .head .free) X
-chained-within {X} e t = subst (λ p. Within p X) (sym (spare-chained X e)) (t .within)
+pub chained-within : {X : Image} → (X .head .chain ≡ 0 → ⊥) → Takable X → In-image (X .head .free) X
+chained-within {X} e t = subst (λ p. In-image p X) (sym (spare-chained X e)) (t .within)
 
 -- ---- the image keeps its pages' number
 
-module _ {q : ℕ} {X : Image} (w : Within q X) where
-  pub within-put : (p : ℕ) (c : Cell) → Within q (put p c X)
+module _ {q : ℕ} {X : Image} (w : In-image q X) where
+  pub within-put : (p : ℕ) (c : Cell) → In-image q (put p c X)
   unfolding put
   within-put p c = record { least = w .least; below = w .below }
 
-  pub within-taken : Within q (taken X)
+  pub within-taken : In-image q (taken X)
   unfolding taken with-supply
   within-taken = pick (eqb (X .head .chain) 0)
     where
-      pick : (b : Bool) → Within q (with-head (cond b (with-supply (X .head .free) (X .head .chain) (suc (X .head .mark)) (X .head)) (with-supply (next-in (X .page (X .head .free))) (X .head .chain - 1) (X .head .mark) (X .head))) X)
+      pick : (b : Bool) → In-image q (with-head
+          (cond b (with-supply (X .head .free) (X .head .chain) (suc (X .head .mark)) (X .head))
+          (with-supply (next-in (X .page (X .head .free))) (X .head .chain - 1) (X .head .mark) (X .head))) X)
       pick true = record { least = w .least; below = w .below }
       pick false = record { least = w .least; below = w .below }
 
-  pub within-given : (p : ℕ) → Within q (given-back p X)
+  pub within-given : (p : ℕ) → In-image q (given-back p X)
   unfolding given-back put with-supply
   within-given p = record { least = w .least; below = w .below }
 
-  pub within-rooted : (height p : ℕ) → Within q (with-root height p X)
+  pub within-rooted : (height p : ℕ) → In-image q (with-root height p X)
   unfolding with-root
   within-rooted height p = record { least = w .least; below = w .below }
 
 -- ---- giving one back, and counting
 
-pub given-back-is : (p : ℕ) (X : Image) → put p (free (X .head .free)) (with-head (with-supply p (X .head .chain + 1) (X .head .mark) (X .head)) X) ≡ given-back p X
+pub given-back-is : (p : ℕ) (X : Image)
+    → put p (free (X .head .free)) (with-head (with-supply p (X .head .chain + 1) (X .head .mark) (X .head)) X) ≡ given-back p X
 unfolding given-back
-given-back-is p X = ap (λ k. put p (free (X .head .free)) (with-head (with-supply p k (X .head .mark) (X .head)) X)) (add-one (X .head .chain))
+given-back-is p X = ap (λ k. put p (free (X .head .free)) (with-head (with-supply p k (X .head .mark) (X .head)) X))
+    (add-one (X .head .chain))
 
 -- the head with that many changes
 abbrev with-changes : ℕ → Head → Head

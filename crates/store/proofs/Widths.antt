@@ -20,7 +20,8 @@ use Rattle.page.proofs.Laws.Entries.{no-entry-fits}
 use Rattle.page.proofs.Laws.Listed.{listed-each}
 
 -- what an array's type says of each element, and what holds of what stands past the end, holds at every place
-module _ {A B : Type 0} (to : A → B) (own : B → List Val → Fml) (P : A → Type 0) (tells : (x : A) (vs : List Val) → shadow (own (to x) vs) → P x) (d : A) (none : P d) where
+module _ {A B : Type 0} (to : A → B) (own : B → List Val → Fml) (P : A → Type 0)
+    (tells : (x : A) (vs : List Val) → shadow (own (to x) vs) → P x) (d : A) (none : P d) where
   each-at : (xs : List A) (us : List Val) → shadow (each B own (map to xs) us) → (i : ℕ) → P (getD xs i d)
   each-at [] [] s i = none
   each-at [] (u ∷ us) s i = absurd s
@@ -35,9 +36,12 @@ module _ (p : Page) (vs : List Val) (g : Is (row the-type) p vs) where
       let arrays = g .1 .1 .1 .1 in
       record {
         start = each-at (λ x. x) _ (λ x. x < 2 ^ 32) (λ x us s. s .1) 0 (lit< tt) (p .starts) (arrays .0 .0) (arrays .0 .1 .1) i;
-        sum = each-at (λ x. x) _ (SFits w64) (λ x us s. record { sfits = s .1 }) (pos 0) (record { sfits = lit< tt }) (p .sums) (arrays .1 .0 .0) (arrays .1 .0 .1 .1) i;
-        count = each-at (λ x. x) _ (SFits w32) (λ x us s. record { sfits = s .1 }) (pos 0) (record { sfits = lit< tt }) (p .counts) (arrays .1 .1 .0 .0) (arrays .1 .1 .0 .1 .1) i;
-        child = each-at (λ x. x) _ (λ x. x < 2 ^ 32) (λ x us s. s .1) 0 (lit< tt) (p .children) (arrays .1 .1 .1 .0 .0) (arrays .1 .1 .1 .0 .1 .1) i;
+        sum = each-at (λ x. x) _ (SFits w64) (λ x us s. record { sfits = s .1 }) (pos 0) (record { sfits = lit< tt }) (p .sums)
+            (arrays .1 .0 .0) (arrays .1 .0 .1 .1) i;
+        count = each-at (λ x. x) _ (SFits w32) (λ x us s. record { sfits = s .1 }) (pos 0) (record { sfits = lit< tt }) (p .counts)
+            (arrays .1 .1 .0 .0) (arrays .1 .1 .0 .1 .1) i;
+        child = each-at (λ x. x) _ (λ x. x < 2 ^ 32) (λ x us s. s .1) 0 (lit< tt) (p .children) (arrays .1 .1 .1 .0 .0)
+            (arrays .1 .1 .1 .0 .1 .1) i;
       }
 
   pub shown-fits : Entries-fit (shown p)

@@ -32,10 +32,12 @@ Each img Ready Goes = (X : Image) → Holds img X → Ready X → Goes X
 abbrev pub Any : Image → Type 0
 Any X = Unit {0}
 
--- page p is one of the image's but the head
-pub record Within (p : ℕ) (X : Image) : Type 0 where
-  pub least : 1 ≤ p
-  pub below : p < X .head .pages
+-- The same at a level that no parameter tells: the level is in the page that is read.
+abbrev pub Some-level : List ℕ → (ℕ → Image → Type 0) → Type 0
+Some-level img Ready = Some img (λ X. (level : ℕ) × Ready level X)
+
+abbrev pub Each-level : List ℕ → (ℕ → Image → Type 0) → (ℕ → Image → Type 0) → Type 0
+Each-level img Ready Goes = (X : Image) → Holds img X → (level : ℕ) → Ready level X → Goes level X
 
 -- the decoded page has this level and these entries, as many as a written page can have
 pub record Loaded (l : ℕ) (es : List Entry) (r : Page) : Type 0 where

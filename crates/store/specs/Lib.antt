@@ -1,3 +1,2 @@
 pub mod Holding
-pub mod Supplying
-pub mod Places
+pub mod Ready

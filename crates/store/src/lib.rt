@@ -1,8 +1,17 @@
-// The bytes of an image and the small changes that the steps are made of: a page is loaded and saved, the head is read and set,
-// a page is taken and given back, the root is set, a change is counted.
-// Each contract is over every image that the bytes hold (specs/Holding.antt).
+// The bytes of an image and the small changes that the steps are made of: a page is loaded and saved, its entries are read one at a time,
+// the head is read and set, a page is taken and given back, the root is set, a change is counted.
+// Each contract is over every image that the bytes hold (specs/Holding.antt) and that is ready (specs/Ready.antt).
+use page::Entry;
+
+pub mod entries;
 pub mod heads;
 pub mod pages;
-pub mod places;
 pub mod root;
 pub mod supply;
+
+// What a search for an instant finds in a page: the number of entries, and the one that has the instant, with its index.
+pub struct Found {
+    pub count: usize,
+    pub index: usize,
+    pub entry: Entry,
+}

@@ -1,9 +1,26 @@
 // The head's numbers on the tree, and the count of changes.
 use super::heads::head_of;
 use super::heads::set_head;
+use page::Entry;
+use page::Head;
+use rule::Pair;
+ghost use mathlib.Core.Path.{_≡_};
+ghost use Rattle.rule.specs.Pairs.{none};
+ghost use Rattle.page.specs.Entries.{entry};
 ghost use Rattle.steps.specs.Supply.{with-root, counted};
 ghost use Rattle.store.specs.Holding.{Holds, Some, Each, Any};
-ghost use Rattle.store.specs.Supplying.{Countable};
+ghost use Rattle.store.specs.Ready.{Countable};
+
+// The root as an entry.
+pub fn root_entry(h: Head) -> Entry
+    ensures { λ r. ⌜ r ≡ entry 0 none (h .root) ⌝ }
+{
+    Entry {
+        start: 0,
+        pair: Pair { sum: 0, count: 0 },
+        child: h.root,
+    }
+}
 
 // The root is page p now, at that height.
 pub fn set_root(img: &mut [u8], height: u32, p: u32)

@@ -6,7 +6,7 @@ use super::pages::set_free;
 ghost use mathlib.Core.Path.{_≡_};
 ghost use Rattle.steps.specs.Supply.{spare, taken, given-back};
 ghost use Rattle.store.specs.Holding.{Holds, Some, Each};
-ghost use Rattle.store.specs.Supplying.{Takable, Givable};
+ghost use Rattle.store.specs.Ready.{Takable, Givable};
 
 // Takes a page. Its bytes stay: whoever takes it writes it.
 pub fn take(img: &mut [u8]) -> u32

@@ -4,6 +4,8 @@ ghost use mathlib.Core.Bool.{true};
 ghost use Prim.Native.Nat.{_<_, _^_};
 ghost use Rattle.calls.specs.Program.{all-digits, number-read, number-from};
 
+const MOST_DIGITS: usize = 10;
+
 // Whether all bytes are digits: no exit in the loop, since there are ten at most.
 fn all_digits(ds: &[u8]) -> bool
     ensures { λ r. ⌜ r ≡ all-digits (now (ds .entry)) ⌝ }
@@ -25,7 +27,7 @@ pub fn number_read(ds: &[u8]) -> bool
     if n < 1 {
         return false;
     }
-    if 10 < n {
+    if MOST_DIGITS < n {
         return false;
     }
     all_digits(ds)

@@ -1,5 +1,7 @@
 // A line that comes byte by byte, of any length, in a buffer of fixed size.
+use super::FED_BYTES;
 use super::Fed;
+use super::LINE_BYTES;
 use super::Parsed;
 use super::parse::parse;
 ghost use mathlib.Core.Path.{_≡_};
@@ -13,7 +15,7 @@ pub fn none_fed() -> Fed
     ensures { λ r. ⌜ Holds r [] ⌝ }
 {
     Fed {
-        bytes: [0; 36],
+        bytes: [0; FED_BYTES],
         length: 0,
     }
 }
@@ -24,7 +26,7 @@ pub fn feed(f: Fed, b: u8) -> Fed
 {
     let at = f.length;
     let mut r = f;
-    if at < 36 {
+    if at < FED_BYTES {
         r.bytes[at] = b;
         r.length = at + 1;
         return r;
@@ -37,7 +39,7 @@ pub fn parse_fed(f: Fed) -> Parsed
     ensures { λ r. ⌜ ((line : List ℕ) → Holds f line → line-of r ≡ line-from (cut-at 32 line)) ⌝ }
 {
     let n = f.length;
-    if 35 < n {
+    if LINE_BYTES < n {
         return Parsed::Unread;
     }
     let bytes = f.bytes;

@@ -1,6 +1,7 @@
 // The fields behind the sign: a value and two instants.
 use super::digits::number_from;
 use super::digits::number_read;
+use rule::limits::END_WIDE;
 ghost use mathlib.Core.Path.{_≡_};
 ghost use mathlib.Core.Bool.{true};
 ghost use Rattle.calls.specs.Program.{instant-read, value-read, value-from};
@@ -12,7 +13,7 @@ pub fn instant_read(ds: &[u8]) -> bool
     if !number_read(ds) {
         return false;
     }
-    number_from(ds) <= 4294967295
+    number_from(ds) <= END_WIDE
 }
 
 // Document 01: "v may have a minus"

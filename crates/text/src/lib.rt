@@ -4,7 +4,6 @@
 pub mod digits;
 pub mod feed;
 pub mod field;
-pub mod lines;
 pub mod parse;
 pub mod scan;
 
@@ -15,9 +14,15 @@ pub enum Parsed {
     Unread,
 }
 
-// The line that is being read, byte by byte: its first 36 bytes and how many of them there are.
-// A booking has 35 bytes at most, so that a line of any length is told from one by these.
+// The most bytes of a booking: sign, value with a minus, two instants, three spaces.
+pub const LINE_BYTES: usize = 35;
+
+// One byte more tells a longer line.
+pub const FED_BYTES: usize = LINE_BYTES + 1;
+
+// The line that is being read, byte by byte: its first bytes and how many of them there are.
+// A line of any length is told from a booking by these.
 pub struct Fed {
-    pub bytes: [u8; 36],
+    pub bytes: [u8; FED_BYTES],
     pub length: usize,
 }

@@ -10,11 +10,11 @@ use lib.ListN.{length}
 use borrow.Author.Tests.{leb-true, le-leb, ltb-true, lt-ltb}
 use Rattle.rule.specs.declared.Pair.{Pair}
 use Rattle.rule.specs.Pairs.{none, Lawful}
-use Rattle.rule.specs.Time.{END, covers}
+use Rattle.rule.specs.Time.{END, covers, overlaps}
 use Rattle.rule.proofs.Tests.{both, fails}
 use Rattle.rule.proofs.Window.{covers-is}
 use Rattle.page.specs.Entries.{entry}
-use Rattle.steps.specs.Spread.{inside, meets, start-of, took}
+use Rattle.steps.specs.Spread.{inside, start-of, took}
 use Rattle.tree.specs.Tree.{Ent, Kid, Ents, bare, pair-under, pair-in, pair-at}
 use Rattle.tree.specs.Cut.{State}
 use Rattle.tree.specs.Spread.{with-ends, spread-ent, spread-ents, spread}
@@ -64,17 +64,17 @@ module _ (s e a b : ℕ) where
   unfolding inside
   inside-is = both (leb s a) (leb b e) (leb-true s a, le-leb s a) (leb-true b e, le-leb b e)
 
-  meets-is : (meets s e a b ≡ true) ↔ ((a < e) × (s < b))
-  unfolding meets
+  meets-is : (overlaps s e a b ≡ true) ↔ ((a < e) × (s < b))
+  unfolding overlaps
   meets-is = both (ltb a e) (ltb s b) (ltb-true a e, lt-ltb a e) (ltb-true s b, lt-ltb s b)
 
   module _ (u : ℕ) (low : a ≤ u) (high : u < b) where
     inside-covers : inside s e a b ≡ true → covers s e u ≡ true
     inside-covers h = let k = inside-is .0 h in covers-is s e u .1 (omega arith)
 
-    away-covers : meets s e a b ≡ false → covers s e u ≡ false
+    away-covers : overlaps s e a b ≡ false → covers s e u ≡ false
     away-covers h =
-        fails (covers s e u) (covers-is s e u) .1 (λ k. fails (meets s e a b) meets-is .0 h (omega arith))
+        fails (covers s e u) (covers-is s e u) .1 (λ k. fails (overlaps s e a b) meets-is .0 h (omega arith))
 
     -- one that no end of [s, e) lies in
     apart-covers : Apart s a b → Apart e a b → inside s e a b ≡ false → covers s e u ≡ false
@@ -107,7 +107,7 @@ module _ (_⊕_ : Pair → Pair → Pair) (s e : ℕ) (effect : Pair) where
         go true = any .any-pair a b x (x .entry .pair ⊕ effect) q
         go false = q
     spread-shaped (suc l) a b x q =
-        go (inside s e (x .entry .start) b) (meets s e (x .entry .start) b)
+        go (inside s e (x .entry .start) b) (overlaps s e (x .entry .start) b)
         (ends-seg (λ h y. spread-ent _⊕_ s e effect l h y) (spread-start l) (λ c d y f lt p. spread-shaped l c d y p) (q .1))
       where
         Page : Ents l → Type 0
@@ -171,7 +171,7 @@ module _ (_⊕_ : Pair → Pair → Pair) (s e : ℕ) (effect : Pair) where
               let k = apart a b x q in
               took-nothing u (x .entry .pair) (apart-covers s e a b u low high (k .0) (k .1) h)
       spread-under (suc l) b x u low high q =
-          go (inside s e a b) (meets s e a b) refl refl
+          go (inside s e a b) (overlaps s e a b) refl refl
           (spread-list l u
           (λ c d y f lt p r k. spread-under l d y u (omega arith) r (subst⁻¹ (λ z. Shaped half B l z d y) f k))
           (q .1) low high)
@@ -185,7 +185,7 @@ module _ (_⊕_ : Pair → Pair → Pair) (s e : ℕ) (effect : Pair) where
           below : Ents l
           below = with-ends (λ h y. spread-ent _⊕_ s e effect l h y) b (x .kid)
 
-          go : (z w : Bool) → inside s e a b ≡ z → meets s e a b ≡ w → Effected u (pair-in _⊕_ l u (x .kid)) (pair-in _⊕_ l u below)
+          go : (z w : Bool) → inside s e a b ≡ z → overlaps s e a b ≡ w → Effected u (pair-in _⊕_ l u (x .kid)) (pair-in _⊕_ l u below)
               → Effected u (p ⊕ pair-in _⊕_ l u (x .kid)) (cond z (entry a (p ⊕ effect) (x .entry .child)) (x .entry) .pair ⊕ pair-in _⊕_ l u (cond z (x .kid) (cond w below (x .kid))))
           go true w h k r = effect-last p (pair-in _⊕_ l u (x .kid)) ∙ took-effect u (p ⊕ pair-in _⊕_ l u (x .kid)) (inside-covers s e a b u low high h)
           go false true h k r = effect-below u p (pair-in _⊕_ l u (x .kid)) (pair-in _⊕_ l u below) r

@@ -3,8 +3,8 @@ use Prim.Native.Nat.{ℕ, zero, suc}
 use mathlib.Core.Bool.{cond}
 use mathlib.Core.List.{List, [], _∷_}
 use Rattle.rule.specs.declared.Pair.{Pair}
-use Rattle.rule.specs.Time.{END}
-use Rattle.steps.specs.Spread.{inside, meets, start-of, took}
+use Rattle.rule.specs.Time.{END, overlaps}
+use Rattle.steps.specs.Spread.{inside, start-of, took}
 use Rattle.tree.specs.Tree.{Ent, Kid, Ents, bare, Tree}
 use Rattle.tree.specs.Cut.{State}
 
@@ -20,7 +20,7 @@ module _ (_⊕_ : Pair → Pair → Pair) (s e : ℕ) (effect : Pair) where
       let below = with-ends (λ h y. spread-ent l h y) hi (x .kid) in
       record {
         entry = took _⊕_ s e effect hi (x .entry);
-        kid = cond (inside s e (x .entry .start) hi) (x .kid) (cond (meets s e (x .entry .start) hi) below (x .kid));
+        kid = cond (inside s e (x .entry .start) hi) (x .kid) (cond (overlaps s e (x .entry .start) hi) below (x .kid));
       }
 
   unfoldable pub spread-ents : (l : ℕ) → ℕ → Ents l → Ents l

@@ -9,12 +9,12 @@ use native.Mathlib.Omega.{arith}
 use lib.Dec.{leb, ltb}
 use borrow.Author.Tests.{leb-false, ltb-true, le-leb, lt-leb}
 use Rattle.rule.specs.declared.Pair.{Pair}
-use Rattle.rule.specs.Time.{END}
+use Rattle.rule.specs.Time.{END, overlaps}
 use Rattle.page.specs.declared.Entry.{Entry}
 use Rattle.page.specs.Entries.{last-from, place}
 use Rattle.image.specs.Images.{Image, tree}
 use Rattle.image.specs.Sound.{times}
-use Rattle.steps.specs.Spread.{inside, meets, start-of, took, spread as spread-x}
+use Rattle.steps.specs.Spread.{inside, start-of, took, spread as spread-x}
 use Rattle.steps.specs.Change.{way, spread-names}
 use Rattle.tree.specs.Tree.{Ent, Kid, Ents, bare}
 use Rattle.tree.specs.Shape.{Seg, done, more}
@@ -95,8 +95,8 @@ ends-zero l q f (more {lo} {mid} {hi} {x} {es} e k p r) each =
     omega (arith, times-append q (f (start-of hi (bare es)) x) (over-ends f hi es))
 
 -- an entry that an effect is sent through has an end of the span inside
-partly : (s e lo hi : ℕ) → inside s e lo hi ≡ false → meets s e lo hi ≡ true → ((lo < s) × (s < hi)) ⊎ ((lo < e) × (e < hi))
-unfolding inside meets
+partly : (s e lo hi : ℕ) → inside s e lo hi ≡ false → overlaps s e lo hi ≡ true → ((lo < s) × (s < hi)) ⊎ ((lo < e) × (e < hi))
+unfolding inside overlaps
 partly s e lo hi = go (leb s lo) (leb hi e) (ltb lo e) (ltb s hi) refl refl refl refl
   where
     go : (a b c d : Bool) → leb s lo ≡ a → leb hi e ≡ b → ltb lo e ≡ c → ltb s hi ≡ d → a && b ≡ false → c && d ≡ true → ((lo < s) × (s < hi)) ⊎ ((lo < e) × (e < hi))
@@ -145,7 +145,7 @@ module _ (s e q : ℕ) where
       let none : (ps : List ℕ) → Type 0 = λ ps. times q ps ≡ 0 in
       rw st
       (cond-one none (inside s e lo hi) (λ h. times-none q)
-      (λ h. cond-one none (meets s e lo hi)
+      (λ h. cond-one none (overlaps s e lo hi)
       (λ m.
       let c : hit q (x .entry .child) ≡ 0 =
       ⊎-elim (λ p. off-here s l lo hi x off-s (p .0) (p .1)) (λ p. off-here e l lo hi x off-e (p .0) (p .1)) (partly s e lo hi h m) in

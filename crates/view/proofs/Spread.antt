@@ -5,14 +5,14 @@ use mathlib.Core.Bool.{Bool, true, false, cond}
 use mathlib.Core.List.{List, [], _∷_, _++_}
 use native.Mathlib.Omega.{arith}
 use Rattle.rule.specs.declared.Pair.{Pair}
-use Rattle.rule.specs.Time.{END}
+use Rattle.rule.specs.Time.{END, overlaps}
 use Rattle.page.specs.declared.Entry.{Entry}
 use Rattle.page.specs.declared.Head.{Head}
 use Rattle.page.specs.Entries.{entry}
 use Rattle.image.specs.Images.{Image, tree}
 use Rattle.image.specs.Sound.{times}
 use Rattle.steps.specs.Supply.{put}
-use Rattle.steps.specs.Spread.{inside, meets, start-of, took, sent, spread-entries, spread-over, spread-page, spread as spread-x}
+use Rattle.steps.specs.Spread.{inside, start-of, took, sent, spread-entries, spread-over, spread-page, spread as spread-x}
 use Rattle.steps.proofs.Supply.{put-head}
 use Rattle.tree.specs.Tree.{Ent, Kid, Ents, bare, pages-under}
 use Rattle.tree.specs.Cut.{State, root-ent}
@@ -48,7 +48,7 @@ unfoldable pub sent-in : (s e l : ℕ) → ℕ → Ent (Kid l) → List ℕ
 sent-in s e zero hi x = []
 sent-in s e (suc l) hi x =
     cond (inside s e (x .entry .start) hi) []
-    (cond (meets s e (x .entry .start) hi) (x .entry .child ∷ over-ends (λ h y. sent-in s e l h y) hi (x .kid)) [])
+    (cond (overlaps s e (x .entry .start) hi) (x .entry .child ∷ over-ends (λ h y. sent-in s e l h y) hi (x .kid)) [])
 
 -- and below the entries of a page
 abbrev pub sent-below : (s e l hi : ℕ) → Ents l → List ℕ
@@ -72,7 +72,7 @@ sent-within s e (suc l) q hi x =
     let r : times q below ≤ times-below l q (x .kid) = ends-within s e l q (λ h y. sent-within s e l q h y) hi (x .kid) in
     let few : (ps : List ℕ) → Type 0 = λ ps. times q ps ≤ times q (pages-under (suc l) x) in
     cond-one few (inside s e (x .entry .start) hi) (λ h. omega (arith, times-none q))
-    (λ h. cond-one few (meets s e (x .entry .start) hi)
+    (λ h. cond-one few (overlaps s e (x .entry .start) hi)
     (λ h. omega (arith, times-cons q (x .entry .child) below, under-suc l q x)) (λ h. omega (arith, times-none q)))
 
 module _ (_⊕_ : Pair → Pair → Pair) (s e : ℕ) (effect : Pair) where
@@ -186,13 +186,13 @@ module _ (_⊕_ : Pair → Pair → Pair) (s e : ℕ) (effect : Pair) where
   sent-none hi x X =
       let still : (Z : Image) → Type 0 = λ Z. Sent 0 X Z x (spread-ent _⊕_ s e effect 0 hi x) (sent-in s e 0 hi x) in
       let same : still X = record { shows = tt; frame = λ q h. refl; head = refl; pages = λ q. omega (arith, under-zero q x, under-zero q (spread-ent _⊕_ s e effect 0 hi x)) } in
-      cond-one still (inside s e (x .entry .start) hi) (λ h. same) (λ h. cond-one still (meets s e (x .entry .start) hi) (λ h. same) (λ h. same))
+      cond-one still (inside s e (x .entry .start) hi) (λ h. same) (λ h. cond-one still (overlaps s e (x .entry .start) hi) (λ h. same) (λ h. same))
 
   sent-up : (l hi : ℕ) (x : Ent (Kid (suc l))) (X : Image) → Shows (suc l) (X .page) x
       → PageIs l hi x X
       → SentIs (suc l) hi x X
   unfolding sent below-of spread-ent sent-in
-  sent-up l hi x X shown w = go (inside s e (x .entry .start) hi) (meets s e (x .entry .start) hi)
+  sent-up l hi x X shown w = go (inside s e (x .entry .start) hi) (overlaps s e (x .entry .start) hi)
     where
       E : Entry
       E = took _⊕_ s e effect hi (x .entry)

@@ -6,10 +6,11 @@ use Prim.Native.Nat.{ℕ, zero, suc, _<_}
 use native.Mathlib.Omega.{arith}
 use Rattle.rule.specs.declared.Pair.{Pair}
 use Rattle.rule.specs.Pairs.{same-pair}
+use Rattle.rule.specs.Time.{overlaps}
 use Rattle.page.specs.declared.Head.{Head}
 use Rattle.page.specs.Layout.{number-of, start-at}
 use Rattle.page.specs.Fit.{Place, end-at, page-fit}
-use Rattle.image.specs.Listing.{Run, Walked, nothing, stopped, then, in-turn, overlaps, walk-page, join-after, join}
+use Rattle.image.specs.Listing.{Run, Walked, nothing, stopped, then, in-turn, walk-page, join-after, join}
 
 pub data Each (P : Run → Type 0) : List Run → Type 0 where
   none : Each P []

@@ -6,13 +6,14 @@ use Prim.Native.Nat.{ℕ, zero, suc, _+_, _*_, _-_, _≤_, min}
 use native.Mathlib.Nat.{mul-add}
 use native.Mathlib.Omega.{arith}
 use lib.ListN.{length}
+use Rattle.rule.specs.Time.{overlaps}
 use Rattle.page.specs.declared.Entry.{Entry}
 use Rattle.page.specs.declared.Head.{Head}
 use Rattle.page.specs.Layout.{number-of, start-at, pair-at, child-at, entry-at, entries-of}
 use Rattle.page.specs.Fit.{Place, end-at, root-place, place-below, page-fit}
 use Rattle.fit.proofs.Laws.Pages.{page-fit-is}
 use Rattle.image.specs.Images.{page-at, pages-in}
-use Rattle.image.specs.Listing.{Walked, nothing, stopped, in-turn, overlaps, leaf-run, walk-page, walk, walk-over}
+use Rattle.image.specs.Listing.{Walked, nothing, stopped, in-turn, leaf-run, walk-page, walk, walk-over}
 use Rattle.image.specs.Sound.{tree-pages, sound}
 use Rattle.calls.specs.Calls.{runs-over}
 use Rattle.audit.proofs.Sums.{total, total-ones}

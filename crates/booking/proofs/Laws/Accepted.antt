@@ -22,8 +22,8 @@ use Rattle.calls.specs.Changes.{Side, withdraws, effect}
 use Rattle.calls.specs.Calls.{head, changed}
 use Rattle.store.specs.Holding.{Holds, Some, Each}
 use Rattle.state.proofs.From.Good.{sound-good}
-use Rattle.change.specs.Ready.{Changeable}
-use Rattle.ready.proofs.Held.{sound-holds}
+use Rattle.change.specs.Changeable.{Changeable}
+use Rattle.needs.proofs.Held.{sound-holds}
 use Rattle.ready.proofs.Changes.{changeable}
 use Rattle.demands.proofs.Change.{effective}
 use Rattle.booking.specs.declared.Judged.{Judged}

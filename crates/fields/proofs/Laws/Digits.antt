@@ -10,7 +10,7 @@ use lib.Arith.{mod-mul}
 use lib.Dec.{lit<}
 use mir.Syntax.{w8}
 use mir.Val.{Fits}
-use Rattle.fields.specs.Bytes.{Bytes, part, patch, unused}
+use Rattle.fields.specs.Bytes.{Bytes, part, unused}
 use Rattle.fields.specs.Numbers.{num, digits}
 
 -- ---- all elements are bytes
@@ -36,11 +36,6 @@ bytes-drop n s h i = rw getD-drop (h (n + i))
 pub bytes-part : (s : List ℕ) (o n : ℕ) → Bytes s → Bytes (part s o n)
 unfolding part
 bytes-part s o n h = bytes-take n (drop o s) (bytes-drop o s h)
-
-pub bytes-patch : (s : List ℕ) (o : ℕ) (bs : List ℕ) → Bytes s → Bytes bs → Bytes (patch s o bs)
-unfolding patch
-bytes-patch s o bs g h =
-    bytes-append (take o s) (bs ++ drop (o + length bs) s) (bytes-take o s g) (bytes-append bs (drop (o + length bs) s) h (bytes-drop (o + length bs) s g))
 
 pub bytes-replicate : (n b : ℕ) → b < 256 → Bytes (replicate n b)
 bytes-replicate zero b h i = lit< tt

@@ -1,12 +1,11 @@
 -- A part of a slice that is lent as `&s[a..e]` or `&mut s[a..e]`: what it shows is a `part`, and the slice that it came back to is a `patch`. Assumes nothing.
-use mathlib.Core.Path.{_≡_, sym, ap, _∙_}
+use mathlib.Core.Path.{_≡_, ap, _∙_}
 use Prim.Native.Nat.{ℕ, _+_, _-_, _≤_}
 use native.Mathlib.Omega.{arith}
 use mathlib.Core.List.{List, _++_}
 use lib.ListN.{length, take, drop}
 use borrow.Rule.Slice.PartMut.{midOf, putMid, mid-len, post-is}
 use Rattle.fields.specs.Bytes.{part, patch}
-use Rattle.fields.proofs.Laws.Parts.{length-part, length-patch, patch-patch-part}
 
 -- what the part from a to e shows
 pub lent-part : (s : List ℕ) (a e n : ℕ) → a + n ≡ e → midOf a (e - a) s ≡ part s a n
@@ -22,15 +21,3 @@ back-patch s a e ys g h l =
     let k : length (midOf a (e - a) s) ≡ e - a = mid-len a e s h in
     let d : e ≡ a + length ys = omega arith in
     ap (λ r. take a s ++ (ys ++ r)) (post-is a e s g ∙ ap (λ i. drop i s) d)
-
--- where the callee wrote bs into the part, they are written into the slice
-pub back-patch-part : (s : List ℕ) (a e n o : ℕ) (bs ys : List ℕ) → a + n ≡ e → e ≤ length s → o + length bs ≤ n
-    → ys ≡ patch (midOf a (e - a) s) o bs → putMid a (e - a) s ys ≡ patch s (a + o) bs
-back-patch-part s a e n o bs ys q h g w =
-    let m : midOf a (e - a) s ≡ part s a n = lent-part s a e n q in
-    let f : a + n ≤ length s = omega arith in
-    let p : length (part s a n) ≡ n = length-part s a n f in
-    let v : ys ≡ patch (part s a n) o bs = w ∙ ap (λ l. patch l o bs) m in
-    back-patch s a e ys (omega arith) h (ap length v ∙ length-patch (part s a n) o bs (omega arith) ∙ ap length (sym m))
-    ∙ ap (patch s a) v
-    ∙ patch-patch-part s a n o bs g f

@@ -6,7 +6,7 @@ use native.Mathlib.Numerals.{add-one}
 use native.Mathlib.Omega.{arith}
 use mathlib.Core.List.{List, [], _∷_, _++_, append-assoc, append-nil}
 use lib.ListN.{length, getD, set, take, drop, replicate, length-replicate, replicate-append-replicate, length-append, length-take, length-drop, take-append-drop}
-use lib.Seq.{length-take-le, take-length, drop-length, take-take, take-add, drop-cons, drop-drop, take-at, drop-at, take-append-le, drop-append-le, take-append-add, drop-append-add, getD-take, getD-drop, set-split, sets, sets-eq}
+use lib.Seq.{length-take-le, take-length, drop-length, take-take, take-add, drop-cons, drop-drop, take-at, drop-at, take-append-le, drop-append-le, take-append-add, drop-append-add, set-split, sets, sets-eq}
 use Rattle.fields.specs.Bytes.{part, patch}
 
 -- ---- a part
@@ -14,10 +14,6 @@ use Rattle.fields.specs.Bytes.{part, patch}
 pub length-part : (s : List ℕ) (o n : ℕ) → o + n ≤ length s → length (part s o n) ≡ n
 unfolding part
 length-part s o n h = simp (length-take, length-drop) (omega arith)
-
-pub getD-part : (s : List ℕ) (o n i : ℕ) → i < n → getD (part s o n) i 0 ≡ getD s (o + i) 0
-unfolding part
-getD-part s o n i h = getD-take n (drop o s) i 0 h ∙ getD-drop o s i 0
 
 -- the whole list is its part
 pub part-whole : (s : List ℕ) (n : ℕ) → length s ≡ n → part s 0 n ≡ s
@@ -64,14 +60,6 @@ pub part-middle : (xs ys zs : List ℕ) (o n : ℕ) → length xs ≡ o → leng
 unfolding part
 part-middle xs ys zs o n e f = ap (take n) (drop-at xs (ys ++ zs) o e) ∙ take-at ys zs n f
 
--- a list as what stands before a part, the part, and what stands after it
-around : (s : List ℕ) (a n : ℕ) → take a s ++ (part s a n ++ drop (a + n) s) ≡ s
-unfolding part
-around s a n =
-    ap (λ l. take a s ++ (take n (drop a s) ++ l)) (sym (drop-drop n a s))
-    ∙ ap (λ l. take a s ++ l) (take-append-drop n (drop a s))
-    ∙ take-append-drop a s
-
 -- ---- a patch
 
 pub length-patch : (s : List ℕ) (o : ℕ) (bs : List ℕ) → o + length bs ≤ length s → length (patch s o bs) ≡ length s
@@ -84,12 +72,7 @@ take-patch s o bs h =
     ap (take (o + length bs)) (sym (append-assoc (take o s) bs (drop (o + length bs) s)))
     ∙ take-at (take o s ++ bs) (drop (o + length bs) s) (o + length bs) (simp (length-append, length-take) (omega arith))
 
--- before a patch and after it nothing changes
-take-patch-before : (s : List ℕ) (o : ℕ) (bs : List ℕ) (i : ℕ) → i ≤ o → o ≤ length s → take i (patch s o bs) ≡ take i s
-unfolding patch
-take-patch-before s o bs i g h =
-    take-append-le i (take o s) (bs ++ drop (o + length bs) s) (simp length-take (omega arith)) ∙ take-take i o s g
-
+-- after a patch nothing changes
 drop-patch-after : (s : List ℕ) (o : ℕ) (bs : List ℕ) (i : ℕ) → o + length bs ≤ i → o ≤ length s → drop i (patch s o bs) ≡ drop i s
 unfolding patch
 drop-patch-after s o bs i g h =
@@ -102,39 +85,15 @@ drop-patch-after s o bs i g h =
     ∙ drop-drop (i - n) n s
     ∙ ap (λ k. drop k s) e
 
--- what a patch wrote stands at its place; parts before it and after it are as they were; a part inside it is a part of what was written
+-- what a patch wrote stands at its place
 pub part-patch-same : (s : List ℕ) (o : ℕ) (bs : List ℕ) (n : ℕ) → length bs ≡ n → o ≤ length s → part (patch s o bs) o n ≡ bs
 unfolding patch
 part-patch-same s o bs n e h = part-middle (take o s) bs (drop (o + length bs) s) o n (length-take-le o s h) e
 
-pub part-patch-before : (s : List ℕ) (o : ℕ) (bs : List ℕ) (i n : ℕ) → i + n ≤ o → o ≤ length s → part (patch s o bs) i n ≡ part s i n
-unfolding part
-part-patch-before s o bs i n g h =
-    sym (take-drop-take n i o (patch s o bs) g)
-    ∙ ap (λ l. take n (drop i l)) (take-patch-before s o bs o (omega arith) h)
-    ∙ take-drop-take n i o s g
-
-pub part-patch-after : (s : List ℕ) (o : ℕ) (bs : List ℕ) (i n : ℕ) → o + length bs ≤ i → o ≤ length s → part (patch s o bs) i n ≡ part s i n
-unfolding part
-part-patch-after s o bs i n g h = ap (take n) (drop-patch-after s o bs i g h)
-
-pub part-patch-inside : (s : List ℕ) (o : ℕ) (bs : List ℕ) (i n : ℕ) → i + n ≤ length bs → o ≤ length s → part (patch s o bs) (o + i) n ≡ part bs i n
-part-patch-inside s o bs i n g h = sym (part-part (patch s o bs) o (length bs) i n g) ∙ ap (λ l. part l i n) (part-patch-same s o bs (length bs) refl h)
-
--- writing nothing, a part back, the whole list
+-- writing nothing, and the whole list
 pub patch-none : (s : List ℕ) (o : ℕ) → patch s o [] ≡ s
 unfolding patch
 patch-none s o = rw add-zero (take-append-drop o s)
-
-drop-taken : (n : ℕ) (l : List ℕ) → drop (length (take n l)) l ≡ drop n l
-drop-taken zero l = refl
-drop-taken (suc n) [] = refl
-drop-taken (suc n) (x ∷ l) = drop-taken n l
-
-pub patch-part : (s : List ℕ) (a n : ℕ) → patch s a (part s a n) ≡ s
-unfolding part patch
-patch-part s a n =
-    ap (λ l. take a s ++ (part s a n ++ l)) (sym (drop-drop (length (part s a n)) a s) ∙ drop-taken n (drop a s) ∙ drop-drop n a s) ∙ around s a n
 
 pub patch-whole : (s bs : List ℕ) → length bs ≡ length s → patch s 0 bs ≡ bs
 unfolding patch
@@ -170,14 +129,6 @@ pub fill-more : (s : List ℕ) (a i b : ℕ) → a + i < length s → set (patch
 fill-more s a i b h =
     set-patch-next s a (replicate i b) (a + i) b (ap (λ k. a + k) (length-replicate i b)) h ∙ ap (patch s a) (replicate-append-replicate i 1 b)
 
--- a patch is gone where a later one covers it
-pub patch-patch-cover : (s : List ℕ) (i : ℕ) (xs : List ℕ) (o : ℕ) (ys : List ℕ)
-    → o ≤ i → i + length xs ≤ o + length ys → i ≤ length s → patch (patch s i xs) o ys ≡ patch s o ys
-unfolding patch
-patch-patch-cover s i xs o ys g k h =
-    ap (λ l. l ++ (ys ++ drop (o + length ys) (patch s i xs))) (take-patch-before s i xs o g h)
-    ∙ ap (λ l. take o s ++ (ys ++ l)) (drop-patch-after s i xs (o + length ys) k h)
-
 -- a patch of an append, within its first list or past it
 pub patch-append-left : (xs ys : List ℕ) (o : ℕ) (bs : List ℕ) → o + length bs ≤ length xs → patch (xs ++ ys) o bs ≡ patch xs o bs ++ ys
 unfolding patch
@@ -192,32 +143,3 @@ patch-append-right xs ys o bs =
     ap (λ l. l ++ (bs ++ drop (length xs + o + length bs) (xs ++ ys))) (take-append-add xs ys o)
     ∙ ap (λ l. xs ++ take o ys ++ (bs ++ l)) (ap (λ k. drop k (xs ++ ys)) (add-assoc (length xs) o (length bs)) ∙ drop-append-add xs ys (o + length bs))
     ∙ append-assoc xs (take o ys) (bs ++ drop (o + length bs) ys)
-
--- a patch inside a part that is put back
-pub patch-patch-part : (s : List ℕ) (a n o : ℕ) (bs : List ℕ) → o + length bs ≤ n → a + n ≤ length s → patch s a (patch (part s a n) o bs) ≡ patch s (a + o) bs
-unfolding patch
-patch-patch-part s a n o bs g h =
-    let p : List ℕ = part s a n in
-    let e : length p ≡ n = length-part s a n h in
-    let i : o + length bs ≤ length p = omega arith in
-    ap (λ k. take a s ++ (patch p o bs ++ drop (a + k) s)) (length-patch p o bs i ∙ e)
-    ∙ ap (λ l. take a s ++ l) (sym (patch-append-left p (drop (a + n) s) o bs i))
-    ∙ sym (patch-append-right (take a s) (p ++ drop (a + n) s) o bs)
-    ∙ ap (λ k. patch (take a s ++ (p ++ drop (a + n) s)) (k + o) bs) (length-take-le a s (omega arith))
-    ∙ ap (λ l. patch l (a + o) bs) (around s a n)
-
--- patches of places apart may change their order
-pub patch-patch-apart : (s : List ℕ) (o : ℕ) (xs : List ℕ) (p : ℕ) (ys : List ℕ) → o + length xs ≤ p → p ≤ length s → patch (patch s o xs) p ys ≡ patch (patch s p ys) o xs
-patch-patch-apart s o xs p ys g h =
-    let a : List ℕ = take p s in
-    let e : length a ≡ p = length-take-le p s h in
-    let i : o + length xs ≤ length a = omega arith in
-    let f : length (patch a o xs) ≡ p = length-patch a o xs i ∙ e in
-    ap (λ l. patch (patch l o xs) p ys) (sym (take-append-drop p s))
-    ∙ ap (λ l. patch l p ys) (patch-append-left a (drop p s) o xs i)
-    ∙ patch-append-at (patch a o xs) (drop p s) p ys f
-    ∙ sym (patch-append-left a (patch (drop p s) 0 ys) o xs i)
-    ∙ ap (λ l. patch l o xs) (sym (patch-append-at a (drop p s) p ys e) ∙ ap (λ l. patch l p ys) (take-append-drop p s))
-  where
-    patch-append-at : (l r : List ℕ) (k : ℕ) (bs : List ℕ) → length l ≡ k → patch (l ++ r) k bs ≡ l ++ patch r 0 bs
-    patch-append-at l r k bs q = ap (λ n. patch (l ++ r) n bs) (sym (add-zero (length l) ∙ q)) ∙ patch-append-right l r 0 bs

@@ -46,10 +46,6 @@ all-are-more b s a i h =
 
 -- ---- unused bytes
 
-pub unused-replicate : (n : ℕ) → replicate n 255 ≡ unused n
-unfolding unused
-unused-replicate n = refl
-
 pub length-unused : (n : ℕ) → length (unused n) ≡ n
 unfolding unused
 length-unused n = length-replicate n 255

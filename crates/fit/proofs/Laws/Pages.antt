@@ -139,11 +139,6 @@ module _ {half : ℕ} {h : Head} {at : Place} {s : List ℕ} (fit : PageFit half
       let e : i + suc d ≡ suc (i + d) = omega arith in
       omega (arith, ap (start-at s) e, rising-by d i (omega arith), fit .rising (i + d) (omega arith))
 
-  pub start-from : (i : ℕ) → i < number-of s → at .lo ≤ start-at s i
-  start-from i l =
-      let e : 0 + i ≡ i = omega arith in
-      omega (arith, ap (start-at s) e, rising-by i 0 (omega arith), fit .first)
-
   pub start-below : (i : ℕ) → i < number-of s → start-at s i < at .hi
   start-below i l =
       let e : i + (number-of s - 1 - i) ≡ number-of s - 1 = omega arith in

@@ -24,7 +24,7 @@ use Rattle.fit.proofs.Tests.{le-is}
 
 pub fewest-pos : (half : ℕ) (at : Place) → 1 ≤ half → 1 ≤ fewest half at
 unfolding fewest
-fewest-pos half at h = go (at .is-root) (eqb (at .level) 0)
+fewest-pos half at h = go (at .«is_root») (eqb (at .level) 0)
   where
     go : (t u : Bool) → 1 ≤ cond t (cond u 1 2) half
     go true true = omega arith
@@ -72,5 +72,5 @@ module _ (h : Head) (at : Place) (p : Pair) where
   pair-total e = rw e
 
   pub pair-mark : eqb (h .kind) 1 ≡ false → pair-ok h at p ≡ value-or-none p
-  unfolding pair-ok value-or-none
+  unfolding pair-ok
   pair-mark e = rw e

@@ -64,11 +64,6 @@ module _ {half : ℕ} {h : Head} {n : ℕ} {at : Place} {s : List ℕ} (way : Wa
       let a : at .counts ≤ 1 * cond (eqb (h .kind) 1) (h .changes) n = omega (arith, way .counts) in
       omega (arith, heavier (eqb (h .kind) 1) 1 n (h .changes) (at .counts) (natAbs (pair-at half s i .count)) a (λ e. omega (arith, p .total e .counts)) (λ e. value-or-none-bound _ (p .mark e) .1))
 
-  -- under an entry of a fit page, a leaf's too, nothing is out of bounds
-  pub below-bounded : h .changes ≤ most-changes → Bounded (place-below half s at i)
-  unfolding place-below
-  below-bounded c = bounded h (n + 1) _ c (omega (arith, way .level)) sums-below counts-below
-
   -- and under an inner entry is a place of the way
   pub below-way : 1 ≤ at .level → Way h (n + 1) (place-below half s at i)
   unfolding place-below

@@ -7,7 +7,6 @@ use native.Mathlib.Omega.{arith}
 use lib.ListN.{length}
 use Rattle.page.specs.Layout.{number-of}
 use Rattle.page.specs.Fit.{page-fit}
-use Rattle.fit.specs.Places.{place-of}
 use Rattle.fit.proofs.Laws.Pages.{page-fit-is}
 use Rattle.image.specs.Listing.{Walked, nothing, stopped, in-turn}
 use Rattle.runs.specs.declared.Run.{Run}
@@ -38,23 +37,23 @@ module _ (img : List ℕ) (q : Task) (on : Spot) where
   -- where there is room to write, the page is fit
   pub room-known : {run : Run} {out : List ℕ} → Room (q .writing) run (page-walk img q on) out → Known img q on
   unfolding stopped
-  room-known room = record { known = λ w. go (page-fit 12 (q .head) (place-of (on .at)) (bytes-at img on)) refl (room .fit w) }
+  room-known room = record { known = λ w. go (page-fit 12 (q .head) (on .at) (bytes-at img on)) refl (room .fit w) }
     where
-      go : (b : Bool) → page-fit 12 (q .head) (place-of (on .at)) (bytes-at img on) ≡ b → page-walk img q on .fit ≡ true → b ≡ true
+      go : (b : Bool) → page-fit 12 (q .head) (on .at) (bytes-at img on) ≡ b → page-walk img q on .fit ≡ true → b ≡ true
       go true e f = refl
       go false e f = absurd (false≢true (sym (ap (λ (w : Walked). w .fit) (page-stopped img q on e)) ∙ f))
 
   pub opened-unfit : opened.Unfit ≡ opened-at img q on → page-walk img q on ≡ stopped
   unfolding opened-at
-  opened-unfit e = page-stopped img q on (go (page-fit 12 (q .head) (place-of (on .at)) (bytes-at img on)) e)
+  opened-unfit e = page-stopped img q on (go (page-fit 12 (q .head) (on .at) (bytes-at img on)) e)
     where
       go : (b : Bool) → opened.Unfit ≡ cond b (opened.Entries (number-of (bytes-at img on))) opened.Unfit → b ≡ false
       go true f = let z : _≡_ {A = ℕ} 0 1 = cc in absurd (omega arith)
       go false f = refl
 
-  opened-fit : {n : ℕ} → opened.Entries n ≡ opened-at img q on → (page-fit 12 (q .head) (place-of (on .at)) (bytes-at img on) ≡ true) × (n ≡ number-of (bytes-at img on))
+  opened-fit : {n : ℕ} → opened.Entries n ≡ opened-at img q on → (page-fit 12 (q .head) (on .at) (bytes-at img on) ≡ true) × (n ≡ number-of (bytes-at img on))
   unfolding opened-at
-  opened-fit {n} e = go (page-fit 12 (q .head) (place-of (on .at)) (bytes-at img on)) e
+  opened-fit {n} e = go (page-fit 12 (q .head) (on .at) (bytes-at img on)) e
     where
       go : (b : Bool) → opened.Entries n ≡ cond b (opened.Entries (number-of (bytes-at img on))) opened.Unfit → (b ≡ true) × (n ≡ number-of (bytes-at img on))
       go true f = (refl, cc)
@@ -62,7 +61,7 @@ module _ (img : List ℕ) (q : Task) (on : Spot) where
 
   -- The loop after i of the n entries of a fit page, from run and out on: r and left are the open run and the output.
   pub record Turning (run : Run) (out : List ℕ) (n i : ℕ) (r : Run) (left : List ℕ) : Type 0 where
-    pub fit : page-fit 12 (q .head) (place-of (on .at)) (bytes-at img on) ≡ true
+    pub fit : page-fit 12 (q .head) (on .at) (bytes-at img on) ≡ true
     pub number : n ≡ number-of (bytes-at img on)
     pub most : n ≤ 24
     pub whole : page-walk img q on ≡ in-turn n (entry-walk img q on)
@@ -76,7 +75,7 @@ module _ (img : List ℕ) (q : Task) (on : Spot) where
       record {
         fit = f .0;
         number = f .1;
-        most = omega (arith, f .1, page-fit-is 12 (q .head) (place-of (on .at)) (bytes-at img on) .0 (f .0) .most);
+        most = omega (arith, f .1, page-fit-is 12 (q .head) (on .at) (bytes-at img on) .0 (f .0) .most);
         whole = w;
         room = rw w at room;
         so-far = walking-none (entry-walk img q on) (q .writing) run out n;

@@ -10,7 +10,6 @@ use Rattle.rule.specs.Pairs.{none, combine}
 use Rattle.rule.proofs.Laws.{lawful}
 use Rattle.page.specs.Layout.{number-of, start-at, pair-at, child-at}
 use Rattle.page.specs.Fit.{place-below, page-fit}
-use Rattle.fit.specs.Places.{place-of}
 use Rattle.image.specs.Listing as image
 use Rattle.image.specs.Listing.{nothing, stopped, then, in-turn, under, leaf-run, walk-page, walk}
 use Rattle.listing.specs.declared.Task.{Task}
@@ -72,7 +71,7 @@ module _ (img : List ℕ) (q : Task) (on : Spot) where
 
   -- the walk from the page under the i-th entry
   abbrev deeper : ℕ → ℕ → image.Walked
-  deeper i l = walk 12 (q .head) img (q .a) (q .b) l (place-below 12 s (place-of (on .at)) i) (child-at 12 s i)
+  deeper i l = walk 12 (q .head) img (q .a) (q .b) l (place-below 12 s (on .at) i) (child-at 12 s i)
 
   -- what an entry gives, with the pairs above combined into it, is its walk
   module _ (i : ℕ) where
@@ -101,21 +100,21 @@ module _ (img : List ℕ) (q : Task) (on : Spot) where
             ∙ ap (λ k. under (combine (q .head .kind)) (below .above) (deeper i k)) down
         go false = refl
 
-  pub page-stopped : page-fit 12 (q .head) (place-of (on .at)) s ≡ false → page-walk img q on ≡ stopped
+  pub page-stopped : page-fit 12 (q .head) (on .at) s ≡ false → page-walk img q on ≡ stopped
   unfolding page-walk walk walk-page under stopped
   page-stopped e = go (on .at .level)
     where
-      go : (l : ℕ) → total (walk 12 (q .head) img (q .a) (q .b) l (place-of (on .at)) (on .page)) ≡ stopped
+      go : (l : ℕ) → total (walk 12 (q .head) img (q .a) (q .b) l (on .at) (on .page)) ≡ stopped
       go zero = rw e
       go (suc l) = rw e
 
-  pub page-in-turn : page-fit 12 (q .head) (place-of (on .at)) s ≡ true → page-walk img q on ≡ in-turn (number-of s) (entry-walk img q on)
+  pub page-in-turn : page-fit 12 (q .head) (on .at) s ≡ true → page-walk img q on ≡ in-turn (number-of s) (entry-walk img q on)
   unfolding page-walk walk walk-page
   page-in-turn e = go (on .at .level) refl
     where
       turns : (f : ℕ → image.Walked) → ((i : ℕ) → total (f i) ≡ entry-walk img q on i) → total (in-turn (number-of s) f) ≡ in-turn (number-of s) (entry-walk img q on)
       turns f h = under-turn (combine (q .head .kind)) (on .above) (number-of s) f ∙ ap (in-turn (number-of s)) (λ j i. h i j)
 
-      go : (l : ℕ) → on .at .level ≡ l → total (walk 12 (q .head) img (q .a) (q .b) l (place-of (on .at)) (on .page)) ≡ in-turn (number-of s) (entry-walk img q on)
+      go : (l : ℕ) → on .at .level ≡ l → total (walk 12 (q .head) img (q .a) (q .b) l (on .at) (on .page)) ≡ in-turn (number-of s) (entry-walk img q on)
       go zero d = rw e (turns _ (λ i. leaf-met i d))
       go (suc l) d = rw e (turns _ (λ i. inner-met i l d))

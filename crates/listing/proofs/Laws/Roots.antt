@@ -7,6 +7,7 @@ use native.Mathlib.Nat.{suc-mul, mul-le-mul-right}
 use native.Mathlib.Omega.{arith}
 use lib.ListN.{length, length-append, length-map}
 use Rattle.rule.specs.declared.Pair.{Pair}
+use Rattle.rule.specs.Time.{overlaps}
 use Rattle.page.specs.declared.Head.{Head}
 use Rattle.fields.specs.Bytes.{patch}
 use Rattle.page.specs.Layout.{number-of, start-at, child-at, head-of, joined}
@@ -15,7 +16,7 @@ use Rattle.fit.proofs.Laws.Heads.{head-fit-is}
 use Rattle.fit.proofs.Laws.Pages.{page-fit-is}
 use Rattle.image.specs.Images.{page-at, pages-in}
 use Rattle.image.specs.Listing as image
-use Rattle.image.specs.Listing.{nothing, stopped, then, in-turn, under, leaf-run, overlaps, walk-page, walk, walk-over, run-bytes, join}
+use Rattle.image.specs.Listing.{nothing, stopped, then, in-turn, under, leaf-run, walk-page, walk, walk-over, run-bytes, join}
 use Rattle.runs.specs.declared.Run.{Run}
 use Rattle.runs.specs.Open.{no-run}
 use Rattle.runs.proofs.Laws.Entries.{written-join, output-join}

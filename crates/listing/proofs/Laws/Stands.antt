@@ -17,7 +17,7 @@ use Rattle.fields.proofs.Laws.Parts.{length-part}
 use Rattle.page.specs.declared.Head.{Head}
 use Rattle.page.specs.Layout.{number-of, pair-at}
 use Rattle.page.specs.Fit.{Place, root-place, place-below, most-changes}
-use Rattle.fit.specs.Places.{place-of, Bounded}
+use Rattle.fit.specs.Places.{Bounded}
 use Rattle.fit.proofs.Laws.Pages.{PageFit, page-fit-is}
 use Rattle.fit.proofs.Laws.Ways.{root-way, way-bounded, below-way}
 use Rattle.image.specs.Images.{page-at, pages-in}
@@ -72,12 +72,12 @@ module _ {img : List ℕ} {q : Task} {on : Spot} (sits : Sits img q on) where
   unfolding page-at
   page-length = length-part img (512 * on .page) 512 page-within
 
-  pub sits-bounded : Bounded (place-of (on .at))
+  pub sits-bounded : Bounded (on .at)
   sits-bounded = way-bounded (sits .way) (sits .changes)
 
   module _ {i : ℕ} (inside : Inside img q on i) where
-    pub fit-facts : PageFit 12 (q .head) (place-of (on .at)) (bytes-at img on)
-    fit-facts = page-fit-is 12 (q .head) (place-of (on .at)) (bytes-at img on) .0 (inside .fit)
+    pub fit-facts : PageFit 12 (q .head) (on .at) (bytes-at img on)
+    fit-facts = page-fit-is 12 (q .head) (on .at) (bytes-at img on) .0 (inside .fit)
 
     entry-within : (i < 24) × (number-of (bytes-at img on) ≤ 24)
     entry-within = omega (arith, fit-facts .most, inside .within)

@@ -2,14 +2,13 @@
 use mathlib.Core.Path.{_≡_, refl, ap}
 use mathlib.Core.Bool.{Bool, true, false, cond, true≢false, false≢true}
 use mathlib.Core.List.{List}
-use Prim.Native.Nat.{ℕ, zero, suc, _+_, _*_, _-_, _≤_}
+use Prim.Native.Nat.{ℕ, zero, suc, _*_, _-_, _≤_}
 use native.Mathlib.Omega.{arith}
 use lib.Dec.{eqb}
 use lib.IntN.{natAbs}
 use Rattle.rule.specs.declared.Pair.{Pair}
 use Rattle.rule.specs.Time.{most-value}
 use Rattle.rule.specs.Pairs.{none, combine}
-use Rattle.rule.specs.Bounds.{value-or-none}
 use Rattle.page.specs.declared.Head.{Head}
 use Rattle.page.specs.Entries.{place}
 use Rattle.page.specs.Layout.{pair-at, child-at, entries-of, head-of}
@@ -114,14 +113,6 @@ module _ (half : ℕ) (img : List ℕ) (t : ℕ) where
   unfolding look-up
   look-up-pages l e = omega (arith, look-told half head img t (head .height - 1) (root-place head) (head .root) .pages e)
 
-  pub look-up-most : 1 ≤ head .height → look-up half img t .pages ≤ head .height
-  unfolding look-up
-  look-up-most l = omega (arith, look-told half head img t (head .height - 1) (root-place head) (head .root) .most)
-
-  pub look-up-unfit : look-up half img t .fit ≡ false → look-up half img t .pair ≡ none
-  unfolding look-up
-  look-up-unfit = look-told half head img t (head .height - 1) (root-place head) (head .root) .unfit
-
   module _ (some : 1 ≤ half) (fit : look-up half img t .fit ≡ true) where
     root-paired : Paired head (root-place head) (look-up half img t .pair)
     unfolding look-up
@@ -130,10 +121,3 @@ module _ (half : ℕ) (img : List ℕ) (t : ℕ) where
     -- kind 1
     pub look-up-sum : eqb (head .kind) 1 ≡ true → natAbs (look-up half img t .pair .sum) ≤ most-value * head .changes
     look-up-sum e = omega (arith, root-paired .total e .sums)
-
-    pub look-up-count : eqb (head .kind) 1 ≡ true → natAbs (look-up half img t .pair .count) ≤ head .changes
-    look-up-count e = omega (arith, root-paired .total e .counts)
-
-    -- kinds 2 and 3
-    pub look-up-value : eqb (head .kind) 1 ≡ false → value-or-none (look-up half img t .pair) ≡ true
-    look-up-value = root-paired .mark

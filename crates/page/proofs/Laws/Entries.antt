@@ -10,7 +10,7 @@ use Rattle.fields.specs.Bytes.{Bytes, part, patch}
 use Rattle.fields.proofs.Laws.Parts.{patch-patch-next}
 use Rattle.fields.specs.Numbers.{u32-bytes, i32-bytes, i64-bytes}
 use Rattle.fields.proofs.Laws.Digits.{bytes-append}
-use Rattle.fields.proofs.Laws.Places.{Field, u32, i32, i64}
+use Rattle.fields.proofs.Laws.Places.{u32, i32, i64}
 use Rattle.page.specs.declared.Entry.{Entry}
 use Rattle.page.specs.Entries.{no-entry}
 use Rattle.page.specs.Layout.{start-place, entry-place, start-at, pair-at, child-at, entry-at, entry-bytes}
@@ -73,15 +73,6 @@ module _ (half : ℕ) (s : List ℕ) (i : ℕ) where
       let o : ℕ = entry-place half i in
       part-pieces s o 8 (o + 8) 8 refl (i64 .bytes-at s o b (omega arith))
       (part-pieces s (o + 8) 4 (o + 12) 4 (omega arith) (i32 .bytes-at s (o + 8) b (omega arith)) (u32 .bytes-at s (o + 12) b (omega arith)))
-
-  pub entry-at-fits : Bytes s → Entry-fits (entry-at half s i)
-  unfolding entry-at start-at pair-at child-at
-  entry-at-fits b = record {
-    start = u32 .at-fits s (start-place i) b;
-    sum = i64 .at-fits s (entry-place half i) b;
-    count = i32 .at-fits s (entry-place half i + 8) b;
-    child = u32 .at-fits s (entry-place half i + 12) b;
-  }
 
 -- an entry's three numbers in its place of the array, written one after the other
 pub patch-entry : (s : List ℕ) (o : ℕ) (e : Entry) → o + 16 ≤ length s

@@ -28,10 +28,6 @@ module _ {A : Type 0} where
           let e : n ≡ i = omega arith in
           getD-at (listed n f) (f n) [] d i (length-listed n f ∙ e) ∙ ap f e
 
-  pub listed-none : (f : ℕ → A) → listed 0 f ≡ []
-  unfolding listed
-  listed-none f = refl
-
   -- a loop's step: one value more
   pub listed-more : (n : ℕ) (f : ℕ → A) → listed (n + 1) f ≡ listed n f ++ (f n ∷ [])
   unfolding listed

@@ -11,16 +11,16 @@ use Rattle.fields.specs.Bytes.{Bytes, part, patch, unused, all-are}
 use Rattle.fields.specs.Numbers.{u32-bytes}
 use Rattle.fields.proofs.Laws.Parts.{length-part, part-whole, part-middle, part-append-left}
 use Rattle.fields.proofs.Laws.Digits.{bytes-append, bytes-unused}
-use Rattle.fields.proofs.Laws.Places.{Field, u32}
+use Rattle.fields.proofs.Laws.Places.{u32}
 use Rattle.fields.proofs.Laws.Tests.{length-unused, unused-add, all-are-unused, unused-all-are}
 use Rattle.page.specs.declared.Entry.{Entry}
 use Rattle.page.specs.Entries.{at, no-entry}
 use Rattle.page.specs.Layout.{capacity, start-place, entry-place, page-size, level-of, number-of, entry-at, entries-of, unused-ok, listed, entry-bytes, with-entry, tree-bytes}
 use Rattle.page.specs.Widths.{Entry-fits, Entries-fit}
-use Rattle.page.proofs.Laws.Listed.{length-listed, getD-listed, listed-more, listed-same, listed-getD, listed-each}
+use Rattle.page.proofs.Laws.Listed.{length-listed, getD-listed, listed-more, listed-same, listed-getD}
 use Rattle.page.proofs.Laws.Joined.{run, run-none, bytes-run, length-run, part-run, part-run-past, run-parts, patch-run}
 use Rattle.page.proofs.Laws.Pieces.{part-pieces, part-second, part-third, patch-second, patch-third}
-use Rattle.page.proofs.Laws.Entries.{start-bytes, length-start-bytes, bytes-start-bytes, length-entry-bytes, bytes-entry-bytes, entry-at-bytes, start-bytes-at, entry-bytes-at, entry-at-fits, no-entry-fits}
+use Rattle.page.proofs.Laws.Entries.{start-bytes, length-start-bytes, bytes-start-bytes, length-entry-bytes, bytes-entry-bytes, entry-at-bytes, start-bytes-at, entry-bytes-at}
 
 -- ---- the three pieces
 
@@ -215,10 +215,6 @@ length-entries-of half s = length-listed (min (number-of s) (capacity half)) (λ
 pub at-entries-of : (half : ℕ) (s : List ℕ) (i : ℕ) → i < number-of s → i < capacity half → at (entries-of half s) i ≡ entry-at half s i
 unfolding entries-of
 at-entries-of half s i g h = getD-listed (min (number-of s) (capacity half)) (λ j. entry-at half s j) no-entry i (omega arith)
-
-pub entries-of-fit : (half : ℕ) (s : List ℕ) → Bytes s → Entries-fit (entries-of half s)
-unfolding entries-of
-entries-of-fit half s b = listed-each Entry-fits (min (number-of s) (capacity half)) (λ i. entry-at half s i) no-entry no-entry-fits (λ i. entry-at-fits half s i b)
 
 -- what the test for unused bytes says of the parts that it looks at
 pub record Unused (half : ℕ) (s : List ℕ) (n : ℕ) : Type 0 where

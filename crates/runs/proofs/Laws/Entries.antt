@@ -31,15 +31,6 @@ unfolding stepped-all output-after-all
 output-after-all-append r [] ys out = refl
 output-after-all-append r (x ∷ xs) ys out = output-after-all-append (stepped r x) xs ys (output-after r x out)
 
-pub stepped-all-more : (r : Run) (xs : List image.Run) (x : image.Run) → stepped-all r (xs ++ (x ∷ [])) ≡ stepped (stepped-all r xs) x
-unfolding stepped-all
-stepped-all-more r xs x = stepped-all-append r xs (x ∷ [])
-
-pub output-after-all-more : (r : Run) (xs : List image.Run) (x : image.Run) (out : List ℕ)
-    → output-after-all r (xs ++ (x ∷ [])) out ≡ output-after (stepped-all r xs) x (output-after-all r xs out)
-unfolding output-after-all
-output-after-all-more r xs x out = output-after-all-append r xs (x ∷ []) out
-
 -- ---- the runs that begin
 
 -- the run that begins at one entry, if one does, where r is open before it
@@ -122,17 +113,8 @@ begun-first (x ∷ xs) = ap (λ l. x ∷ l) (begun-open (record { start = x .sta
 
 -- ---- so what is counted and written
 
-pub written-join-after : (r : Run) (xs : List image.Run) → 0 < r .written → stepped-all r xs .written ≡ r .written + length (join-after (r .pair) xs)
-written-join-after r xs h = written-begun r xs ∙ ap (λ l. r .written + length l) (begun-open r xs h)
-
 pub written-join : (xs : List image.Run) → stepped-all no-run xs .written ≡ length (join xs)
 written-join xs = omega (arith, written-begun no-run xs, ap length (begun-first xs))
-
-pub output-join-after : (r : Run) (xs : List image.Run) (out : List ℕ) → 0 < r .written → 16 * (r .written + length (join-after (r .pair) xs)) ≤ length out
-    → output-after-all r xs out ≡ patch out (16 * r .written) (joined run-bytes (join-after (r .pair) xs))
-output-join-after r xs out h room =
-    let e : begun r xs ≡ join-after (r .pair) xs = begun-open r xs h in
-    output-begun r xs out (omega (arith, ap length e)) ∙ ap (λ l. patch out (16 * r .written) (joined run-bytes l)) e
 
 pub output-join : (xs : List image.Run) (out : List ℕ) → 16 * length (join xs) ≤ length out → output-after-all no-run xs out ≡ patch out 0 (joined run-bytes (join xs))
 output-join xs out room =

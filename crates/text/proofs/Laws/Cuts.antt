@@ -30,15 +30,6 @@ pub ahead-none : (b : ℕ) (s : List ℕ) → ahead b (drop (length s) s) ≡ 0
 unfolding ahead
 ahead-none b s = ap (ahead b) (drop-length s)
 
-pub ahead-within : (b : ℕ) (s : List ℕ) → ahead b s ≤ length s
-unfolding ahead
-ahead-within b [] = omega arith
-ahead-within b (x ∷ xs) = step (eqb x b) (ahead-within b xs)
-  where
-    step : (t : Bool) → ahead b xs ≤ length xs → cond t 0 (suc (ahead b xs)) ≤ suc (length xs)
-    step true h = omega arith
-    step false h = omega arith
-
 -- ---- a list cut there
 
 -- at a byte: what stands before it, and what is cut behind it

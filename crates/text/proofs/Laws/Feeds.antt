@@ -1,5 +1,5 @@
 -- What is kept of a line that comes byte by byte. Assumes nothing.
-use mathlib.Core.Path.{_≡_, refl, sym, ap, _∙_}
+use mathlib.Core.Path.{_≡_, sym, ap, _∙_}
 use Prim.Native.Nat.{ℕ, _+_, _≤_, _<_}
 use native.Mathlib.Numerals.{add-one}
 use native.Mathlib.Omega.{arith}
@@ -37,10 +37,3 @@ module _ {f : Fed} {line : List ℕ} (h : Holds f line) where
 
   pub fed-long : 35 < f .length → 35 < length line
   fed-long k = omega (arith, h .count)
-
-  pub fed-some : 0 < f .length → 0 < length line
-  fed-some k = omega (arith, h .count)
-
-pub fed-none : (line : List ℕ) {f : Fed} → Holds f line → f .length ≡ 0 → line ≡ []
-fed-none [] h k = refl
-fed-none (x ∷ xs) h k = absurd (omega (arith, h .count))

@@ -1,19 +1,17 @@
--- The lines of a text: by the places of its newlines, and as they come byte by byte. Assumes nothing.
+-- The lines of a text, as they come byte by byte. Assumes nothing.
 use mathlib.Core.Path.{_≡_, refl, sym, ap, _∙_}
 use mathlib.Core.Bool.{Bool, true, false, cond}
-use Prim.Native.Nat.{ℕ, suc, _+_, _-_, _≤_, _<_}
+use Prim.Native.Nat.{ℕ, suc, _+_, _<_}
 use native.Mathlib.Numerals.{add-one}
 use native.Mathlib.Omega.{arith}
 use mathlib.Core.List.{List, [], _∷_, _++_}
-use lib.ListN.{length, take, drop, length-append, length-drop}
-use lib.Seq.{take-at, drop-append-add, drop-length, append-snoc}
+use lib.ListN.{length, take, drop, length-append}
+use lib.Seq.{take-at, drop-append-add, append-snoc}
 use lib.Dec.{eqb}
 use borrow.Author.Tests.{ne-eqb}
-use borrow.Rule.Slice.PartMut.{midOf}
 use Rattle.calls.specs.Program.{cut-at, without-empty-last, lines-of}
-use Rattle.text.specs.Reading.{ahead, Found}
+use Rattle.text.specs.Reading.{ahead}
 use Rattle.text.proofs.Laws.Cuts.{Pieces, cut-there, cut-whole, cut-some}
-use Rattle.text.proofs.Laws.Lines.{field-there, field-last}
 
 -- a piece that others follow is a line; the last one is, unless it is empty
 with-others : (l : List ℕ) {ms : List (List ℕ)} → Pieces ms → without-empty-last (l ∷ ms) ≡ l ∷ without-empty-last ms
@@ -24,25 +22,9 @@ alone : (l : List ℕ) → 0 < length l → without-empty-last (l ∷ []) ≡ l 
 unfolding without-empty-last
 alone l h = ap (λ t. cond t [] (l ∷ [])) (ne-eqb (length l) 0 (λ e. omega arith))
 
--- ---- a text that is all there
-
-module _ (s : List ℕ) {from place : ℕ} (f : Found s 10 from place) (l : from ≤ length s) where
-  pub line-there : place < length s → lines-of (drop from s) ≡ midOf from (place - from) s ∷ lines-of (drop (place + 1) s)
-  unfolding lines-of
-  line-there h = ap without-empty-last (field-there s f l h) ∙ with-others (midOf from (place - from) s) (cut-some 10 (drop (place + 1) s))
-
-  pub line-last : length s ≤ place → from < length s → lines-of (drop from s) ≡ drop from s ∷ []
-  unfolding lines-of
-  line-last h k =
-      let n : 0 < length (drop from s) = simp length-drop (omega arith) in
-      ap without-empty-last (field-last s f l h) ∙ alone (drop from s) n
-
 pub no-line : lines-of [] ≡ []
 unfolding lines-of without-empty-last cut-at
 no-line = refl
-
-pub lines-end : (s : List ℕ) → lines-of (drop (length s) s) ≡ []
-lines-end s = ap lines-of (drop-length s) ∙ no-line
 
 -- ---- a text that comes byte by byte: what came since the last newline, and what is still to come
 

@@ -10,7 +10,6 @@ use borrow.Fn.Kinds.{In}
 use borrow.Fn.PlainCycle.{Measures, is, falls, and}
 use Rattle.page.specs.Layout.{number-of}
 use Rattle.page.specs.Fit.{page-fit}
-use Rattle.fit.specs.Places.{place-of}
 use Rattle.audit.proofs.Walks.{standing-within, standing-size, standing-bounded, entry-reads, below-level, below-counted, below-standing, page-unfit, leaf-counted, tested, Passing, passing-none, passing-inner, passing-more, passing-stops, passing-most, passing-all}
 use Rattle.audit.proofs.walk.audit_entry.Reads as audit-entry
 use Rattle.audit.proofs.walk.audit_entry.Kinds as audit-entry-kinds
@@ -46,7 +45,7 @@ abbrev audit-page-below : ℕ → In 1 audit-page-kinds.ps
 audit-page-below t = and 1 audit-page-kinds.ps (falls 1 audit-page-kinds.ps _<_ μ-audit-page t) audit-page.Pre
 
 abbrev Inv-loop : audit-page-lts.InvT-loop
-Inv-loop img h at p pages₀ n i₀ pages i = Passing img h (place-of at) p n pages i
+Inv-loop img h at p pages₀ n i₀ pages i = Passing img h at p n pages i
 
 abbrev μ-loop : audit-page-lts.MeasureT-loop
 μ-loop img h at p pages₀ n i₀ pages i = n - i
@@ -118,11 +117,11 @@ pub +audit-entry+audit-page-spec : {M : Type 1} → statement M
     (λ c.
     let fit = c .before in
     let args = fit .before .before .before .args in
-    page-unfit 12 (args .h) (args .img .now) (place-of (args .at)) (args .p) (tested 12 _ _ _ _ (fit .before .page-at .ensures) (fit .page-fit .ensures) (not-true _ (c .if1 .taken))))
+    page-unfit 12 (args .h) (args .img .now) (args .at) (args .p) (tested 12 _ _ _ _ (fit .before .page-at .ensures) (fit .page-fit .ensures) (not-true _ (c .if1 .taken))))
     (λ c.
     let fit = c .before .before .before in
     let args = fit .before .before .before .args in
-    leaf-counted 12 (args .h) (args .img .now) (place-of (args .at)) (args .p) (c .if2 .taken)
+    leaf-counted 12 (args .h) (args .img .now) (args .at) (args .p) (c .if2 .taken)
     (tested 12 _ _ _ _ (fit .before .page-at .ensures) (fit .page-fit .ensures) (not-false _ (c .before .before .if1 .left))))
     (λ c κs. standing-size (c .before .before .before .before .before .before .pre .1) (c .before .before .before .before .page-at .ensures))
     (λ c. search needs)

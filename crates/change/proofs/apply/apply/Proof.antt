@@ -32,7 +32,8 @@ count-change-requires c κs =
     let d = f .before .before .before .before in
     let b = d .before .before .before .before in
     let a = b .before .before .before .before in
-    some-count _ _ _ _ (a .cut .ensures) (b .cut2 .ensures) (d .spread .ensures) (f .heal .ensures) (g .heal2 .ensures) (a .before .before .before .pre)
+    some-count _ _ _ _ (a .cut .ensures) (b .cut2 .ensures) (d .spread .ensures) (f .heal .ensures) (g .heal2 .ensures)
+    (a .before .before .before .pre)
 
 returns : tie.Need-returns
 returns c =
@@ -42,7 +43,8 @@ returns c =
     let d = f .before .before .before .before in
     let b = d .before .before .before .before in
     let a = b .before .before .before .before in
-    changed _ _ _ _ (a .cut .ensures) (b .cut2 .ensures) (d .spread .ensures) (f .heal .ensures) (g .heal2 .ensures) (k .count-change .ensures)
+    changed _ _ _ _ (a .cut .ensures) (b .cut2 .ensures) (d .spread .ensures) (f .heal .ensures) (g .heal2 .ensures)
+    (k .count-change .ensures)
 
 pub apply-spec : {M : Type 1} → statement M
 apply-spec =

@@ -4,78 +4,74 @@ use Prim.Native.Nat.{_<_}
 use native.Mathlib.Omega.{arith}
 use borrow.Author.Needs.{needs}
 use Rattle.rule.specs.Time.{END}
-use Rattle.steps.specs.Cut.{cut}
+use Rattle.image.specs.Images.{Image}
+use Rattle.steps.specs.Cut.{root-entry}
 use Rattle.store.specs.Holding.{Holds}
-use Rattle.store.proofs.Supplying.{by-head, Headed, some-headed}
-use Rattle.cut.specs.Ready.{Cuttable}
+use Rattle.store.proofs.Holding.{from}
+use Rattle.cut.specs.Answers.{Cut-as}
+use Rattle.cut.specs.Cuttable.{Entry-cuttable, from-root, Root-cuttable, Cuttable}
 use Rattle.cut.proofs.Settling.{told}
-use Rattle.cut.proofs.Raising.{cut-end, root-cut, root-same, root-raisable, root-two}
+use Rattle.cut.proofs.Raising.{cut-end, root-ready, root-cut, root-same, root-raisable, root-two}
 use Rattle.cut.proofs.cut.cut.Statement.{statement}
 use Rattle.cut.proofs.cut.cut.Tie as tie
 
--- the function's start
-abbrev started : tie.After-head-of → tie.Start
-started c = c .before .before .before .before
+-- the head that was read, and the function's start
+abbrev read : tie.After-root-entry → tie.After-head-of
+read c = c .before .before
 
-headed : (c : tie.After-head-of) → Headed (started c .args .img .now) (c .head-of .result) (Cuttable (started c .args .t))
-headed c = some-headed (started c .pre) (c .head-of .ensures)
+abbrev started : tie.After-root-entry → tie.Start
+started c = read c .before .before .before .before
 
-inside : (c : tie.Else1) → c .before .before .args .t < END
-inside c = omega (arith, c .if1 .left)
+inside : (c : tie.After-root-entry) → started c .args .t < END
+inside c = omega (arith, read c .before .before .if1 .left)
+
+-- the root as an entry, of every image that the bytes hold, and what it becomes
+module _ (c : tie.After-root-entry) (X : Image) (h : Holds (started c .args .img .now) X) (r : Cuttable (started c .args .t) X) where
+  root : Root-cuttable (started c .args .t) X
+  root = r .root (inside c)
+
+  ready : Entry-cuttable (read c .head-of .result .height) (c .root-entry .result) (started c .args .t) X
+  ready = root-ready (started c .args .t) X (read c .head-of .ensures X h tt) (c .root-entry .ensures) root
+
+grew : (c : tie.After-cut-entry) (X : Image) → Holds (started (c .before) .args .img .now) X → Cuttable (started (c .before) .args .t) X
+    → Cut-as (root-entry X) (from-root (started (c .before) .args .t) X) (c .cut-entry .result) (c .cut-entry .last .0)
+grew c X h r =
+    let entry = c .before in
+    root-cut (started entry .args .t) X (read entry .head-of .ensures X h tt) (entry .root-entry .ensures)
+    (c .cut-entry .ensures X h (ready entry X h r))
 
 returns : tie.Need-returns
 returns c X h r =
     let t = c .before .before .args .t in
     subst (Holds _) (sym (cut-end t X (omega (arith, c .if1 .taken)))) h
 
-cut-page-requires : tie.Need-cut-page-requires
-cut-page-requires c κs =
-    let read = c .before .before in
-    let k = headed read in
-    let root = k .ready .root (inside (read .before .before)) in
-    (record { image = _; holds = k .holds; ready = root .page }, omega (arith, root .low))
+cut-entry-requires : tie.Need-cut-entry-requires
+cut-entry-requires c κs = from (started c .pre) (λ X h r. record { image = X; holds = h; ready = ready c X h r })
 
 returns-2 : tie.Need-returns-2
 returns-2 c X h r =
     let call = c .before .before .before .before in
-    let read = call .before .before .before in
-    let else = read .before .before in
-    let args = else .before .before .args in
-    by-head (λ Y. Holds (args .img .now) Y → Cuttable (args .t) Y → Holds (call .cut-page .last .0) (cut 12 (args .t) Y))
-    (read .head-of .ensures X h tt)
-    (λ k ready.
-    let root = ready .root (inside else) in
-    let r = told (c .enum-told .given .1) (root-cut (args .t) _ (root .some) (call .cut-page .ensures _ k (root .page))) in
-    root-same (args .t) _ (inside else) r)
-    h r
+    root-same _ X (inside (call .before)) (told (c .enum-told .given .1) (grew call X h r))
 
 raise-requires : tie.Need-raise-requires
 raise-requires c κs =
     let known = c .before .before in
     let call = known .before .before .before .before in
-    let read = call .before .before .before in
-    let else = read .before .before in
-    let k = headed read in
-    let root = k .ready .root (inside else) in
-    let t = else .before .before .args .t in
-    let r = told (known .start .given .1) (root-cut t _ (root .some) (call .cut-page .ensures _ (k .holds) (root .page))) in
-    record { image = _; holds = r .holds; ready = root-raisable _ _ r root }
+    from (started (call .before) .pre)
+    (λ X h r.
+    let g = told (known .start .given .1) (grew call X h r) in
+    let head = read (call .before) .head-of .ensures X h tt in
+    record { image = _; holds = g .holds; ready = root-raisable _ X head g (root (call .before) X h r) })
 
 returns-3 : tie.Need-returns-3
 returns-3 c X h r =
     let raising = c .before .before in
     let known = raising .before .before .before in
     let call = known .before .before .before .before in
-    let read = call .before .before .before in
-    let else = read .before .before in
-    let args = else .before .before .args in
-    by-head (λ Y. Holds (args .img .now) Y → Cuttable (args .t) Y → Holds (raising .raise .last .0) (cut 12 (args .t) Y))
-    (read .head-of .ensures X h tt)
-    (λ k ready.
-    let root = ready .root (inside else) in
-    let r = told (known .start .given .1) (root-cut (args .t) _ (root .some) (call .cut-page .ensures _ k (root .page))) in
-    root-two _ _ r (inside else) (raising .raise .ensures _ (r .holds) (root-raisable _ _ r root)))
-    h r
+    let g = told (known .start .given .1) (grew call X h r) in
+    let head = read (call .before) .head-of .ensures X h tt in
+    root-two _ X head g (inside (call .before))
+    (raising .raise .ensures _ (g .holds) (root-raisable _ X head g (root (call .before) X h r)))
 
 pub cut-spec : {M : Type 1} → statement M
 cut-spec =
@@ -83,8 +79,8 @@ cut-spec =
     (tie.spec
     returns
     (λ c κs. search needs)
-    (λ c. omega (arith, headed (c .before .before) .ready .root (inside (c .before .before .before .before)) .some))
-    cut-page-requires
+    (λ c κs. search needs)
+    cut-entry-requires
     (λ c. search needs)
     (λ c. search needs)
     (λ c. search needs)

@@ -8,7 +8,7 @@ use Rattle.steps.specs.Cut.{raised}
 use Rattle.edit.proofs.Edits.{shows-number}
 use Rattle.store.specs.Holding.{Holds}
 use Rattle.store.proofs.Supplying.{by-head, Headed, some-headed, within-rooted}
-use Rattle.cut.specs.Ready.{Raisable}
+use Rattle.cut.specs.Cuttable.{Raisable}
 use Rattle.cut.proofs.Settling.{spare-within}
 use Rattle.cut.proofs.Raising.{raised-holds}
 use Rattle.cut.proofs.root.raise.Statement.{statement}

@@ -2,10 +2,23 @@
 use mathlib.Core.Path.{ap}
 use native.Mathlib.Omega.{arith}
 use borrow.Author.Needs.{needs}
+use Rattle.image.specs.Images.{Image}
+use Rattle.store.specs.Ready.{Takable}
 use Rattle.store.proofs.Supplying.{within-put, within-taken}
-use Rattle.cut.proofs.Settling.{left-number, right-number, spare-within, split-makes}
+use Rattle.cut.specs.Cuttable.{Settlable}
+use Rattle.cut.proofs.Settling.{left-number, right-number, spare-within, split-as}
 use Rattle.cut.proofs.settle.split.Statement.{statement}
 use Rattle.cut.proofs.settle.split.Tie as tie
+
+-- there are 25 entries, so a page can be taken
+room : (c : tie.Start) {X : Image} → Settlable (c .args .e .child) (c .args .page .number) X → Takable X
+room c r = r .room (omega (arith, c .pre .1))
+
+take-requires : tie.Need-take-requires
+take-requires c κs =
+    let start = c .before .before in
+    let s = start .pre .0 in
+    record { image = _; holds = s .holds; ready = room start (s .ready) }
 
 save-requires : tie.Need-save-requires
 save-requires c κs =
@@ -14,7 +27,7 @@ save-requires c κs =
     let start = taking .before .before .before in
     let s = start .pre .0 in
     let left = first .first-of .ensures in (
-      record { image = _; holds = taking .take .ensures _ (s .holds) (s .ready .takable) .1; ready = within-taken (s .ready .within) },
+      record { image = _; holds = taking .take .ensures _ (s .holds) (room start (s .ready)) .1; ready = within-taken (s .ready .within) },
       (omega (arith, left .level), omega (arith, left-number (start .args .page) (start .pre .1 .1) left)),
     )
 
@@ -25,12 +38,12 @@ save-requires-2 c κs =
     let taking = saved .before .before .before .before .before in
     let start = taking .before .before .before in
     let s = start .pre .0 in
-    let q = taking .take .ensures _ (s .holds) (s .ready .takable) in
+    let q = taking .take .ensures _ (s .holds) (room start (s .ready)) in
     let right = rest .rest-of .ensures in (
       record {
         image = _;
         holds = saved .save .ensures _ (q .1) (within-taken (s .ready .within));
-        ready = within-put (spare-within (q .0) (s .ready .takable)) _ _;
+        ready = within-put (spare-within (q .0) (room start (s .ready))) _ _;
       },
       (omega (arith, right .level), omega (arith, right-number (start .args .page) (start .pre .1 .1) right)),
     )
@@ -49,16 +62,17 @@ returns c X h r =
     let saved = rest .before .before .before in
     let first = saved .before .before in
     let taking = first .before .before .before in
-    let q = taking .take .ensures X h (r .takable) in
-    split-makes _ _ _ _ (first .first-of .ensures) (rest .rest-of .ensures) (q .0) (ap (λ e. e .start) (c .entry-at .ensures))
+    let start = taking .before .before .before in
+    let q = taking .take .ensures X h (room start r) in
+    split-as (start .args .e) _ _ _ (first .first-of .ensures) (rest .rest-of .ensures) (q .0) (ap (λ e. e .start) (c .entry-at .ensures))
     (saved2 .save2 .ensures _ (saved .save .ensures _ (q .1) (within-taken (r .within)))
-    (within-put (spare-within (q .0) (r .takable)) _ _))
+    (within-put (spare-within (q .0) (room start r)) _ _))
 
 pub split-spec : {M : Type 1} → statement M
 split-spec =
     tie.close
     (tie.spec
-    (λ c κs. search needs)
+    take-requires
     (λ c κs. search needs)
     save-requires
     (λ c κs. search needs)

@@ -3,20 +3,33 @@ use native.Mathlib.Omega.{arith}
 use borrow.Author.Needs.{needs}
 use mir.Syntax.{w32, w64}
 use mir.Val.{SFits}
-use mir.Facts.{toZ-ofZ}
+use mir.Facts.{toZ-ofZ, sfits-widen}
 use Rattle.page.specs.Fit.{place-below}
 use Rattle.fit.proofs.places.place_below.Statement.{statement}
 use Rattle.fit.proofs.places.place_below.Tie as tie
 
+cast-magnitude : tie.Need-cast-magnitude
+cast-magnitude c =
+    let g : SFits w32 (c .before .before .before .before .before .before .before .before .pair-at .result .count) = search needs in
+    rw (toZ-ofZ g) (sfits-widen tt g)
+
 returns : tie.Need-returns
 unfolding place-below
 returns c =
-    let at = c .before .before .before .before .before .before .before .before .before in
-    let f : SFits w64 (at .pair-at .result .sum) = search needs in
-    let g : SFits w32 (at .pair-at .result .count) = search needs in
-    let sum = rw (toZ-ofZ f) at (c .before .before .before .before .magnitude .ensures .0) in
-    let count = rw (toZ-ofZ g) at (c .before .magnitude32 .ensures .0) in
-    rw (sum, count, at .pair-at .ensures, c .before .before .before .before .before .before .before .start-at .ensures, c .before .before .before .before .before .before .end-at .ensures)
+    let count = c .before in
+    let sum = count .before .before .before .before in
+    let end = sum .before .before in
+    let pair = end .before .before .before in
+    let f : SFits w64 (pair .pair-at .result .sum) = search needs in
+    let g : SFits w32 (pair .pair-at .result .count) = search needs in
+    let w : SFits w64 (pair .pair-at .result .count) = sfits-widen tt g in
+    rw (
+      rw (toZ-ofZ f) at (sum .magnitude .ensures .0),
+      rw (toZ-ofZ g, toZ-ofZ w) at (count .magnitude2 .ensures .0),
+      pair .pair-at .ensures,
+      end .before .start-at .ensures,
+      end .end-at .ensures,
+    )
 
 pub place-below-spec : {M : Type 1} → statement M
 place-below-spec =
@@ -28,6 +41,7 @@ place-below-spec =
     (λ c κs. search needs)
     (λ c κs. search needs)
     (λ c. omega arith)
+    cast-magnitude
     (λ c κs. search needs)
     (λ c. omega arith)
     returns)

@@ -6,7 +6,7 @@ use borrow.Author.Needs.{needs}
 use borrow.Author.Tests.{eq-eqb, ne-eqb, not-true, not-false}
 use Rattle.page.specs.Layout.{level-of, unused-ok}
 use Rattle.page.specs.Fit.{page-fit, number-ok, starts-ok}
-use Rattle.fit.specs.Places.{place-of, Compared}
+use Rattle.fit.specs.Places.{Compared}
 use Rattle.fit.proofs.Tests.{passes, fails}
 use Rattle.fit.proofs.Laws.Parts.{compared}
 use Rattle.fit.proofs.tree_page.page_fit.Statement.{statement}
@@ -16,10 +16,10 @@ use Rattle.fit.proofs.tree_page.page_fit.Tie as tie
 level : (c : tie.Else1) → eqb (level-of (c .before .before .before .before .args .s .now)) (c .before .before .before .before .args .at .level) ≡ true
 level c = eq-eqb _ _ (sym (c .before .before .level-of .ensures) ∙ c .if1 .left)
 
-number : (c : tie.Else2) → number-ok 12 (place-of (c .before .before .before .before .before .before .args .at)) (c .before .before .before .before .before .before .args .s .now) ≡ true
+number : (c : tie.Else2) → number-ok 12 (c .before .before .before .before .before .before .args .at) (c .before .before .before .before .before .before .args .s .now) ≡ true
 number c = sym (c .before .number-ok .ensures) ∙ not-false _ (c .if2 .left)
 
-starts : (c : tie.Else3) → starts-ok (place-of (c .before .before .before .before .before .before .before .before .before .args .at)) (c .before .before .before .before .before .before .before .before .before .args .s .now) ≡ true
+starts : (c : tie.Else3) → starts-ok (c .before .before .before .before .before .before .before .before .before .args .at) (c .before .before .before .before .before .before .before .before .before .args .s .now) ≡ true
 starts c = sym (c .before .starts-ok .ensures) ∙ not-false _ (c .if3 .left)
 
 unused : (c : tie.Else4) → unused-ok 12 (c .before .before .before .before .before .before .before .before .before .before .before .args .s .now) ≡ true
@@ -28,7 +28,7 @@ unused c = sym (c .before .unused-ok .ensures) ∙ not-false _ (c .if4 .left)
 entries : (c : tie.After-number-of) → Compared (c .before .before .before .before .before .before .before .args .s .now) (c .number-of .result)
 entries c =
     let start = c .before .before .before .before .before .before .before in
-    compared (place-of (start .args .at)) (start .args .s .now) (start .pre .0) (c .number-of .ensures) (number (c .before))
+    compared (start .args .at) (start .args .s .now) (start .pre .0) (c .number-of .ensures) (number (c .before))
 
 returns : tie.Need-returns
 unfolding page-fit

@@ -1,20 +1,21 @@
 -- `heal_page` calls itself on the child page and meets its contract: the measure is the level, which falls. Assumes nothing.
-use mathlib.Core.Path.{subst}
+use mathlib.Core.Path.{subst, subst⁻¹}
 use Prim.Native.Nat.{ℕ, _<_}
 use borrow.Author.Needs.{needs}
 use borrow.Fn.Kinds.{In}
 use borrow.Fn.PlainCycle.{Measures, is, falls, and}
 use native.Mathlib.Omega.{arith}
+use Rattle.rule.specs.Pairs.{combine}
+use Rattle.steps.specs.Heal.{heal-page as heal}
 use Rattle.store.specs.Holding.{Holds}
-use Rattle.siblings.proofs.Families.{from}
-use Rattle.heal.proofs.Ways.{leaf-ready, leaf-done, inner-sought, inner-parent, inner-went, inner-below, inner-settles, inner-done}
+use Rattle.store.proofs.Holding.{from}
+use Rattle.heal.proofs.Ways.{leaf-ready, inner, inner-below, inner-settles, inner-done}
 use Rattle.heal.proofs.heal.heal_page.Reads as heal-page
 use Rattle.heal.proofs.heal.heal_page.Kinds as heal-page-kinds
 use Rattle.heal.proofs.heal.+heal_page.Lts-heal_page as heal-page-lts
 use Rattle.heal.proofs.heal.settle.Reads as settle-reads
 use Rattle.heal.proofs.leaf.heal_leaf.Reads as heal-leaf-reads
-use Rattle.heal.proofs.reading.child_at.Reads as child-at-reads
-use Rattle.store.proofs.places.place_of.Reads as place-of-reads
+use Rattle.store.proofs.entries.find_entry.Reads as find-entry-reads
 use Rattle.heal.proofs.heal.+heal_page.{statement}
 use Rattle.heal.proofs.heal.+heal_page.Tie.{close}
 
@@ -34,70 +35,70 @@ pub +heal-page-spec : {M : Type 1} → statement M
     heal-page-lts.spec (
       heal-leaf-reads.Asked,
       heal-leaf-reads.Learnt,
-      place-of-reads.Asked,
-      place-of-reads.Learnt,
-      child-at-reads.Asked,
-      child-at-reads.Learnt,
+      find-entry-reads.Asked,
+      find-entry-reads.Learnt,
       heal-page-below t,
       heal-page.Post,
       settle-reads.Asked,
       settle-reads.Learnt,
     ) (heal-page-at t) heal-page.Post
+    -- heal-leaf-requires
     (λ c κs.
-    let args = c .before .before .before .args in
-    from (c .before .before .before .pre .1)
+    let start = c .before .before .before in
+    let args = start .args in
+    from (start .pre .1)
     (λ X h s. record { image = X; holds = h; ready = leaf-ready (args .kind) (args .t) (args .p) X (c .before .if1 .taken) s }))
+    -- same-length
     (λ c. search needs)
+    -- returns
     (λ c X h s.
-    let args = c .before .before .before .before .before .before .args in
-    let e = c .before .before .before .before .if1 .taken in
-    let left = c .before .before .heal-leaf .ensures X h (leaf-ready (args .kind) (args .t) (args .p) X e s) in
-    subst (Holds _) (leaf-done (args .kind) (args .t) (args .p) X e) left)
+    let leaf = c .before .before in
+    let then = leaf .before .before in
+    let args = then .before .before .args in
+    let e = then .if1 .taken in
+    subst⁻¹ (λ l. Holds (leaf .heal-leaf .last .0) (heal 12 (combine (args .kind)) (args .t) l (args .p) X)) e
+    (leaf .heal-leaf .ensures X h (leaf-ready (args .kind) (args .t) (args .p) X e s) (args .kind)))
+    -- find-entry-requires
     (λ c κs.
-    let args = c .before .before .before .args in
-    from (c .before .before .before .pre .1)
-    (λ X h s. record { image = X; holds = h; ready = inner-sought (args .kind) (args .t) (args .p) X (c .before .if1 .left) s }))
+    let start = c .before .before .before in
+    let args = start .args in
+    from (start .pre .1)
+    (λ X h s. record { image = X; holds = h; ready = (_, inner (args .kind) (args .t) (args .p) X (c .before .if1 .left) s .searchable) }))
+    -- sub-heal-page
+    (λ c. omega (arith, c .before .before .before .before .if1 .left))
+    -- heal-page-requires
     (λ c κs.
-    let args = c .before .before .before .before .before .args in
-    from (c .before .before .before .before .before .pre .1)
-    (λ X h s.
-    let found = c .before .place-of .ensures X h in
-    let ready = inner-parent (args .kind) (args .t) (args .p) X (c .before .before .before .if1 .left) s found in
-    record { image = X; holds = h; ready = ready }))
-    (λ c. omega (arith, c .before .before .before .before .before .if1 .left))
-    (λ c κs.
-    let child = c .before in
-    let place = child .before .before in
-    let e = place .before .before .if1 .left in
-    let start = place .before .before .before .before in
+    let found = c .before .before in
+    let e = found .before .before .if1 .left in
+    let start = found .before .before .before .before in
     let args = start .args in
     from (start .pre .1)
     (λ X h s.
-    let g = inner-went (args .kind) (args .t) (args .p) X e s (place .place-of .ensures X h) (child .child-at .ensures X h) in
+    let g = found .find-entry .ensures X h _ (inner (args .kind) (args .t) (args .p) X e s .searchable) in
     let ready = inner-below (args .kind) (args .t) (args .p) X e g s in
     (omega (arith, start .pre .0, e), record { image = X; holds = h; ready = ready })))
-    (λ c. omega (arith, c .before .before .before .before .before .before .before .before .before .if1 .left))
+    -- settle-requires
     (λ c κs.
     let below = c .before .before .before in
-    let child = below .before .before in
-    let place = child .before .before in
-    let e = place .before .before .if1 .left in
-    let start = place .before .before .before .before in
+    let found = below .before .before .before in
+    let e = found .before .before .if1 .left in
+    let start = found .before .before .before .before in
     let args = start .args in
     from (start .pre .1)
     (λ X h s.
-    let g = inner-went (args .kind) (args .t) (args .p) X e s (place .place-of .ensures X h) (child .child-at .ensures X h) in
+    let g = found .find-entry .ensures X h _ (inner (args .kind) (args .t) (args .p) X e s .searchable) in
     let holds = below .heal-page .ensures X h (inner-below (args .kind) (args .t) (args .p) X e g s) in
-    record { image = _; holds = holds; ready = inner-settles (args .kind) (args .t) (args .p) X e g s }))
+    record { image = _; holds = holds; ready = (_, inner-settles (args .kind) (args .t) (args .p) X e g s) }))
+    -- same-length-2
     (λ c. search needs)
+    -- returns-2
     (λ c X h s.
     let settled = c .before .before in
     let below = settled .before .before .before .before in
-    let child = below .before .before in
-    let place = child .before .before in
-    let e = place .before .before .if1 .left in
-    let args = place .before .before .before .before .args in
-    let g = inner-went (args .kind) (args .t) (args .p) X e s (place .place-of .ensures X h) (child .child-at .ensures X h) in
+    let found = below .before .before .before in
+    let e = found .before .before .if1 .left in
+    let args = found .before .before .before .before .args in
+    let g = found .find-entry .ensures X h _ (inner (args .kind) (args .t) (args .p) X e s .searchable) in
     let holds = below .heal-page .ensures X h (inner-below (args .kind) (args .t) (args .p) X e g s) in
     subst (Holds _) (inner-done (args .kind) (args .t) (args .p) X e g)
-    (settled .settle .ensures _ holds (inner-settles (args .kind) (args .t) (args .p) X e g s))))
+    (settled .settle .ensures _ holds _ (inner-settles (args .kind) (args .t) (args .p) X e g s))))

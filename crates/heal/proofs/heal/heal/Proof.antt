@@ -8,8 +8,8 @@ use Rattle.page.specs.declared.Head.{Head}
 use Rattle.image.specs.Images.{Image}
 use Rattle.steps.specs.Heal.{heal-page}
 use Rattle.store.specs.Holding.{Holds}
-use Rattle.siblings.proofs.Families.{from}
-use Rattle.heal.specs.Ready.{Page-healable, Shrinkable, Healable}
+use Rattle.store.proofs.Holding.{from}
+use Rattle.heal.specs.Healable.{Page-healable, Shrinkable, Healable}
 use Rattle.heal.proofs.Roots.{healed-is}
 use Rattle.heal.proofs.heal.heal.Statement.{statement}
 use Rattle.heal.proofs.heal.heal.Tie as tie

@@ -1,5 +1,5 @@
 -- `heal::shrink::lower` meets its contract: the root's entry is read, its page is written, and the root is given back. Assumes nothing.
-use mathlib.Core.Path.{_≡_, sym, ap, subst}
+use mathlib.Core.Path.{_≡_, ap, subst, subst⁻¹}
 use Prim.Native.Nat.{ℕ, _-_}
 use borrow.Author.Needs.{needs}
 use native.Mathlib.Omega.{arith}
@@ -7,91 +7,98 @@ use Rattle.rule.specs.Pairs.{combine}
 use Rattle.page.specs.declared.Head.{Head}
 use Rattle.page.specs.Entries.{at}
 use Rattle.image.specs.Images.{Image}
-use Rattle.steps.specs.Supply.{entries}
+use Rattle.steps.specs.Supply.{entries, put, given-back}
 use Rattle.steps.specs.Heal.{pushed}
-use Rattle.store.specs.Holding.{Holds, Loaded}
-use Rattle.store.specs.Supplying.{Givable}
-use Rattle.siblings.specs.Ready.{Sinkable}
-use Rattle.siblings.proofs.Families.{from, loaded-number, loaded-at, pushed-read}
-use Rattle.siblings.proofs.Outcomes.{givable-put}
-use Rattle.heal.specs.Ready.{Lowers}
-use Rattle.heal.proofs.Roots.{read-root, read-number, read-entry, lowered-is}
+use Rattle.store.specs.Holding.{Holds, Each, Loaded}
+use Rattle.store.specs.Ready.{Has-entry, Push-ready, Givable}
+use Rattle.store.proofs.Holding.{from}
+use Rattle.store.proofs.Chains.{then, some-then}
+use Rattle.heal.specs.Healable.{Lowerable}
+use Rattle.heal.proofs.Families.{pushed-read}
+use Rattle.heal.proofs.Outcomes.{page-cell, givable-put}
+use Rattle.heal.proofs.Roots.{read-entry, lowered-is}
 use Rattle.heal.proofs.shrink.lower.Statement.{statement}
 use Rattle.heal.proofs.shrink.lower.Tie as tie
 
-load-requires : tie.Need-load-requires
-load-requires c κs =
-    from (c .before .before .before .before .pre)
-    (λ X h s.
-    let t = read-root X (c .before .head-of .ensures X h tt) (s .root) in
-    record { image = X; holds = h; ready = t .within })
+-- ---- the root's entry, of every image that the bytes hold
 
-entry-at-requires : tie.Need-entry-at-requires
-entry-at-requires c κs =
-    from (c .before .before .before .before .before .pre)
-    (λ X h s.
-    let e = c .before .before .head-of .ensures X h tt in
-    let t = read-root X e (s .root) in
-    let n = c .load .ensures X h (t .within) _ _ (t .page) in
-    let one = read-number X e (loaded-number n) in
-    (omega (arith, s .one), omega (arith, n .few)))
+abbrev start : tie.After-head-of → tie.Start
+start c = c .before .before .before
 
-abbrev start : tie.After-entry-at → tie.Start
-start c = c .before .before .before .before .before .before
+module _ (c : tie.After-head-of) (X : Image) (h : Holds (start c .args .img .now) X) (s : Lowerable X) where
+  head : c .head-of .result ≡ X .head
+  head = c .head-of .ensures X h tt
 
--- the root's entry, of every image that the bytes hold
-module _ (c : tie.After-entry-at) (X : Image) (h : Holds (start c .args .img .now) X) (s : Lowers X) where
-  head : c .before .before .before .head-of .result ≡ X .head
-  head = c .before .before .before .head-of .ensures X h tt
+  root : Has-entry (X .head .height - 1) (c .head-of .result .root) 0 X
+  root = subst⁻¹ (λ (k : Head). Has-entry (X .head .height - 1) (k .root) 0 X) head (s .root)
 
-  found : c .entry-at .result ≡ at (entries X (X .head .root)) 0
-  found =
-      let t = read-root X head (s .root) in
-      read-entry X head 0 (loaded-at 0 (c .before .load .ensures X h (t .within) _ _ (t .page)) (c .entry-at .ensures))
+  goes : Givable (c .head-of .result .root) X
+  goes = record { within = root .treed .within; room = s .room }
 
-  sinks : Sinkable (X .head .height - 2) (c .entry-at .result) X
-  sinks = subst (λ e. Sinkable (X .head .height - 2) e X) (sym found) (s .lowers .child)
+abbrev read : tie.After-entry-of → tie.After-head-of
+read c = c .before .before
 
-  goes : Givable (c .before .before .before .head-of .result .root) X
-  goes = record { within = read-root X head (s .root) .within; room = s .lowers .room }
+module _ (c : tie.After-entry-of) (X : Image) (h : Holds (start (read c) .args .img .now) X) (s : Lowerable X) where
+  found : c .entry-of .result ≡ at (entries X (X .head .root)) 0
+  found = read-entry X (head (read c) X h s) 0 (c .entry-of .ensures X h _ (root (read c) X h s))
 
-abbrev entry : tie.After-pushed → tie.After-entry-at
+  child : Push-ready (X .head .height - 2) (c .entry-of .result) X
+  child = subst⁻¹ (λ e. Push-ready (X .head .height - 2) e X) found (s .child)
+
+abbrev entry : tie.After-pushed → tie.After-entry-of
 entry c = c .before .before
 
-module _ (c : tie.After-pushed) (X : Image) (h : Holds (start (entry c) .args .img .now) X) (s : Lowers X) where
-  abbrev kind : ℕ
-  kind = start (entry c) .args .kind
+module _ (c : tie.After-pushed) (X : Image) (h : Holds (start (read (entry c)) .args .img .now) X) (s : Lowerable X) where
+  page : Loaded (X .head .height - 2)
+      (pushed (combine (start (read (entry c)) .args .kind)) X (at (entries X (X .head .root)) 0)) (c .pushed .result)
+  page = pushed-read (start (read (entry c)) .args .kind) (found (entry c) X h s) (c .pushed .ensures X h (X .head .height - 2)) (s .child)
 
-  page : Loaded (X .head .height - 2) (pushed (combine kind) X (at (entries X (X .head .root)) 0)) (c .pushed .result)
-  page = pushed-read kind (found (entry c) X h s) (c .pushed .ensures X h tt (X .head .height - 2)) (s .lowers .child)
+entry-of-requires : tie.Need-entry-of-requires
+entry-of-requires c κs =
+    from (start (c .before) .pre) (λ X h s. record { image = X; holds = h; ready = (_, root (c .before) X h s) })
 
 pushed-requires : tie.Need-pushed-requires
 pushed-requires c κs =
-    let at = c .before in
-    from (start at .pre) (λ X h s. record { image = X; holds = h; ready = record { level = _; ready = sinks at X h s } })
+    from (start (read (c .before)) .pre) (λ X h s. record { image = X; holds = h; ready = (_, child (c .before) X h s) })
+
+-- ---- what is written
 
 save-requires : tie.Need-save-requires
 save-requires c κs =
     let made = c .before in
-    from (start (entry made) .pre)
-    (λ X h s.
-    let n = page made X h s in (
-      record { image = X; holds = h; ready = sinks (entry made) X h s .treed .within },
-      (omega (arith, n .shows .level, s .lowers .low), n .few),
-    ))
+    let at = entry made in (
+      some-then (λ X h s. h) (λ X h s. child at X h s .treed .within) (start (read at) .pre),
+      from (start (read at) .pre)
+          (λ X h s. let n = page made X h s in (omega (arith, n .shows .level, s .low), n .few)),
+    )
+
+abbrev made : tie.After-save → tie.After-pushed
+made c = c .before .before
+
+abbrev written : tie.After-pushed → Image → Image
+written c X = put (entry c .entry-of .result .child) (page-cell (c .pushed .result)) X
+
+one : (c : tie.After-save) → Each (start (read (entry (made c))) .args .img .now) Lowerable
+    (λ X. Holds (c .save .last .0) (written (made c) X))
+one c = then (λ X h s. h) (λ X h s. child (entry (made c)) X h s .treed .within) (c .save .ensures)
 
 give-back-requires : tie.Need-give-back-requires
 give-back-requires c κs =
     let saved = c .before .before .before in
-    let at = entry (saved .before .before) in
-    from (start at .pre)
-    (λ X h s.
-    let written = saved .save .ensures X h (sinks at X h s .treed .within) in
-    record { image = _; holds = written; ready = givable-put (goes at X h s) _ _ })
+    let at = read (entry (made saved)) in
+    some-then (one saved) (λ X h s. givable-put (goes at X h s) _ _) (start at .pre)
+
+abbrev saved : tie.After-give-back → tie.After-save
+saved c = c .before .before .before .before
+
+two : (c : tie.After-give-back) → Each (start (read (entry (made (saved c)))) .args .img .now) Lowerable
+    (λ X. Holds (c .give-back .last .0) (given-back (read (entry (made (saved c))) .head-of .result .root) (written (made (saved c)) X)))
+two c = then (one (saved c)) (λ X h s. givable-put (goes (read (entry (made (saved c)))) X h s) _ _) (c .give-back .ensures)
 
 sub-set-root : tie.Need-sub-set-root
 sub-set-root c =
-    let at = c .before .before .before .before .before .before .before .before .before .before .before .before in
+    let given = c .before .before .before .before in
+    let at = read (entry (made (saved given))) in
     from (start at .pre)
     (λ X h s.
     let e = ap (λ (k : Head). k .height) (head at X h s) in
@@ -100,32 +107,23 @@ sub-set-root c =
 set-root-requires : tie.Need-set-root-requires
 set-root-requires c κs =
     let given = c .before .before .before .before in
-    let saved = given .before .before .before .before in
-    let at = entry (saved .before .before) in
-    from (start at .pre)
-    (λ X h s.
-    let written = saved .save .ensures X h (sinks at X h s .treed .within) in
-    record { image = _; holds = given .give-back .ensures _ written (givable-put (goes at X h s) _ _); ready = tt })
+    some-then (two given) (λ X h s. tt) (start (read (entry (made (saved given)))) .pre)
 
 returns : tie.Need-returns
 returns c X h s =
     let rooted = c .before .before in
     let given = rooted .before .before .before .before .before in
-    let saved = given .before .before .before .before in
-    let made = saved .before .before in
-    let at = entry made in
-    let written = saved .save .ensures X h (sinks at X h s .treed .within) in
-    let back = given .give-back .ensures _ written (givable-put (goes at X h s) _ _) in
-    subst (Holds _) (lowered-is (start at .args .kind) X (head at X h s) (found at X h s) (page made X h s .shows))
-    (rooted .set-root .ensures _ back tt)
+    let at = made (saved given) in
+    subst (Holds _)
+    (lowered-is (start (read (entry at)) .args .kind) X (head (read (entry at)) X h s) (found (entry at) X h s) (page at X h s .shows))
+    (then (two given) (λ X h s. tt) (rooted .set-root .ensures) X h s)
 
 pub lower-spec : {M : Type 1} → statement M
 lower-spec =
     tie.close
     (tie.spec
     (λ c κs. search needs)
-    load-requires
-    entry-at-requires
+    entry-of-requires
     pushed-requires
     save-requires
     give-back-requires

@@ -2,7 +2,7 @@
 use mathlib.Core.Path.{ap₂, _∙_}
 use native.Mathlib.Omega.{arith}
 use borrow.Author.Needs.{needs}
-use Rattle.image.specs.Listing.{overlaps}
+use Rattle.rule.specs.Time.{overlaps}
 use Rattle.listing.proofs.Laws.Stands.{Lent, lent}
 use Rattle.listing.proofs.entries.meets.Statement.{statement}
 use Rattle.listing.proofs.entries.meets.Tie as tie

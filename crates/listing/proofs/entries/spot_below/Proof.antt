@@ -4,8 +4,6 @@ use native.Mathlib.Omega.{arith}
 use borrow.Author.Needs.{needs}
 use Rattle.page.specs.Layout.{child-at}
 use Rattle.page.specs.Fit.{place-below}
-use Rattle.fit.specs.Places.{place-of}
-use Rattle.listing.specs.Walks.{place-from}
 use Rattle.listing.proofs.Laws.Stands.{Lent, lent, sits-bounded}
 use Rattle.listing.proofs.entries.spot_below.Statement.{statement}
 use Rattle.listing.proofs.entries.spot_below.Tie as tie
@@ -24,9 +22,9 @@ returns c =
     let down = c .before .before in
     let lend = down .before .before in
     let args = lend .before .before .args in
-    let at = down .place-below .ensures ∙ ap (λ s. place-below 12 s (place-of (args .on .at)) (args .i)) (lend .page-at .ensures) in
+    let at = down .place-below .ensures ∙ ap (λ s. place-below 12 s (args .on .at) (args .i)) (lend .page-at .ensures) in
     let page = c .before .child-at .ensures ∙ ap (λ s. child-at 12 s (args .i)) (lend .page-at .ensures) in
-    λ j. record { at = place-from (at j); page = page j; above = c .total-at .ensures j }
+    λ j. record { at = at j; page = page j; above = c .total-at .ensures j }
 
 pub spot-below-spec : {M : Type 1} → statement M
 spot-below-spec =

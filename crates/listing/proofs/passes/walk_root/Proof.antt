@@ -1,28 +1,23 @@
 -- `listing::passes::walk_root` meets its contract: it is the walk from the root's spot. Assumes nothing.
-use mathlib.Core.Path.{_≡_, ap}
 use borrow.Author.Needs.{needs}
-use Rattle.page.specs.Fit.{root-place}
-use Rattle.listing.specs.Walks.{place-from}
 use Rattle.lent.proofs.Laws.{opened-ranges}
 use Rattle.listing.proofs.Laws.Stands.{sits-root}
 use Rattle.listing.proofs.Laws.Roots.{root-walk}
 use Rattle.listing.proofs.passes.walk_root.Statement.{statement}
 use Rattle.listing.proofs.passes.walk_root.Tie as tie
 
-placed : (c : tie.After-root-place) → c .root-place .result ≡ place-from (root-place (c .before .before .before .args .q .head))
-placed c = ap place-from (c .root-place .ensures)
-
 walk-page-requires : tie.Need-walk-page-requires
 walk-page-requires c κs =
     let start = c .before .before .before .before in
     let q = start .args .q in
-    (rw (placed (c .before)) (sits-root q (start .pre .0)), rw (placed (c .before), root-walk q (start .pre .0)) (start .pre .1))
+    let root = c .before .root-place .ensures in
+    (rw root (sits-root q (start .pre .0)), rw (root, root-walk q (start .pre .0)) (start .pre .1))
 
 returns : tie.Need-returns
 returns c =
     let call = c .before .before in
     let start = call .before .before .before .before .before in
-    rw (placed (call .before .before), root-walk (start .args .q) (start .pre .0)) at (call .walk-page .ensures)
+    rw (call .before .before .root-place .ensures, root-walk (start .args .q) (start .pre .0)) at (call .walk-page .ensures)
 
 pub walk-root-spec : {M : Type 1} → statement M
 walk-root-spec =

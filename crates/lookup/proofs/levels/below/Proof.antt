@@ -5,7 +5,6 @@ use lib.ListN.{length}
 use borrow.Author.Needs.{needs}
 use Rattle.page.specs.Fit.{place-below}
 use Rattle.page.specs.Layout.{number-of}
-use Rattle.fit.specs.Places.{place-of}
 use Rattle.lent.proofs.Laws.{page-length}
 use Rattle.lookup.proofs.levels.below.Statement.{statement}
 use Rattle.lookup.proofs.levels.below.Tie as tie
@@ -20,7 +19,7 @@ place-below-requires c κs =
 returns : tie.Need-returns
 returns c =
     let args = c .before .before .before .args in
-    c .place-below .ensures ∙ ap (λ s. place-below 12 s (place-of (args .at)) (args .i)) (c .before .page-at .ensures)
+    c .place-below .ensures ∙ ap (λ s. place-below 12 s (args .at) (args .i)) (c .before .page-at .ensures)
 
 pub below-spec : {M : Type 1} → statement M
 below-spec = tie.close (tie.spec (λ c κs. search needs) place-below-requires returns)

@@ -2,7 +2,6 @@
 use mathlib.Core.Path.{ap, _∙_}
 use lib.ListN.{length}
 use borrow.Author.Needs.{needs}
-use Rattle.fit.specs.Places.{place-of}
 use Rattle.lent.proofs.Laws.{page-length}
 use Rattle.lookup.specs.Levels.{level-answer}
 use Rattle.lookup.proofs.levels.level_answer.Statement.{statement}
@@ -16,7 +15,7 @@ page-answer-requires c κs =
 returns : tie.Need-returns
 returns c =
     let args = c .before .before .before .args in
-    c .page-answer .ensures ∙ ap (level-answer 12 (args .h) (place-of (args .at)) (args .t)) (c .before .page-at .ensures)
+    c .page-answer .ensures ∙ ap (level-answer 12 (args .h) (args .at) (args .t)) (c .before .page-at .ensures)
 
 pub level-answer-spec : {M : Type 1} → statement M
 level-answer-spec = tie.close (tie.spec (λ c κs. search needs) page-answer-requires returns)

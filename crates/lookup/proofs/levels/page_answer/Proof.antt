@@ -6,17 +6,16 @@ use native.Mathlib.Omega.{arith}
 use borrow.Author.Needs.{needs}
 use borrow.Author.Tests.{not-true, not-false}
 use Rattle.page.specs.Fit.{page-fit}
-use Rattle.fit.specs.Places.{place-of}
 use Rattle.fit.proofs.Laws.Pages.{PageFit, page-fit-is, entry-first}
 use Rattle.lookup.proofs.Laws.Finds.{place-within}
 use Rattle.lookup.proofs.Laws.Levels.{level-unfit, level-found, fit-searched}
 use Rattle.lookup.proofs.levels.page_answer.Statement.{statement}
 use Rattle.lookup.proofs.levels.page_answer.Tie as tie
 
-tested : (c : tie.Else1) → page-fit 12 (c .before .before .before .args .h) (place-of (c .before .before .before .args .at)) (c .before .before .before .args .s .now) ≡ true
+tested : (c : tie.Else1) → page-fit 12 (c .before .before .before .args .h) (c .before .before .before .args .at) (c .before .before .before .args .s .now) ≡ true
 tested c = sym (c .before .page-fit .ensures) ∙ not-false _ (c .if1 .left)
 
-fit : (c : tie.Else1) → PageFit 12 (c .before .before .before .args .h) (place-of (c .before .before .before .args .at)) (c .before .before .before .args .s .now)
+fit : (c : tie.Else1) → PageFit 12 (c .before .before .before .args .h) (c .before .before .before .args .at) (c .before .before .before .args .s .now)
 fit c = page-fit-is _ _ _ _ .0 (tested c)
 
 -- an entry was found

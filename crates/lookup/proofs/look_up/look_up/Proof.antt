@@ -5,7 +5,6 @@ use Prim.Native.Nat.{_+_}
 use native.Mathlib.Omega.{arith}
 use borrow.Author.Needs.{needs}
 use Rattle.page.specs.Fit.{Place, place-below, page-fit}
-use Rattle.fit.specs.Places.{place-of}
 use Rattle.image.specs.Images.{page-at}
 use Rattle.lookup.specs.Answers.{looked}
 use Rattle.lookup.specs.declared.Looked.the-variants.{Answered}
@@ -16,17 +15,17 @@ use Rattle.lookup.proofs.look_up.look_up.Statement.{statement}
 use Rattle.lookup.proofs.look_up.look_up.Tie as tie
 
 abbrev Inv-loop : tie.InvT-loop
-Inv-loop img h t at₀ p₀ so-far₀ pages₀ at p so-far pages = Walk img h t (place-of at) p so-far pages
+Inv-loop img h t at₀ p₀ so-far₀ pages₀ at p so-far pages = Walk img h t at p so-far pages
 
 abbrev μ-loop : tie.MeasureT-loop
 μ-loop img h t at₀ p₀ so-far₀ pages₀ at p so-far pages = at .level
 
 -- the entry that the page answered with
-entry : (c : tie.After-found Inv-loop μ-loop) → Found 12 (c .before .before .before .before .before .before .args .h) (place-of (c .before .before .before .loop .at)) (c .before .before .before .before .before .before .args .t) (page-at 12 (c .before .before .before .before .before .before .args .img .now) (c .before .before .before .loop .p)) (c .found .given .0 .0) (c .found .given .0 .1 .0) (c .found .given .0 .1 .1 .0)
+entry : (c : tie.After-found Inv-loop μ-loop) → Found 12 (c .before .before .before .before .before .before .args .h) (c .before .before .before .loop .at) (c .before .before .before .before .before .before .args .t) (page-at 12 (c .before .before .before .before .before .before .args .img .now) (c .before .before .before .loop .p)) (c .found .given .0 .0) (c .found .given .0 .1 .0) (c .found .given .0 .1 .1 .0)
 entry c = found-level _ _ _ _ _ (sym (c .found .given .1) ∙ c .before .before .level-answer .ensures)
 
 -- or that it is unfit
-unfit : (c : tie.After-enum-told Inv-loop μ-loop) → page-fit 12 (c .before .before .before .before .before .before .args .h) (place-of (c .before .before .before .loop .at)) (page-at 12 (c .before .before .before .before .before .before .args .img .now) (c .before .before .before .loop .p)) ≡ false
+unfit : (c : tie.After-enum-told Inv-loop μ-loop) → page-fit 12 (c .before .before .before .before .before .before .args .h) (c .before .before .before .loop .at) (page-at 12 (c .before .before .before .before .before .before .args .img .now) (c .before .before .before .loop .p)) ≡ false
 unfit c = unfit-level _ _ _ (c .before .before .before .before .before .before .args .t) _ (sym (c .enum-told .given .1) ∙ c .before .before .level-answer .ensures)
 
 loop-holds : tie.Need-loop-holds Inv-loop μ-loop

@@ -19,6 +19,7 @@ settle-spec =
     tie.close
     (tie.spec
     (λ c. search needs)
+    (λ c. search needs)
     (λ c. sym (settle-few 12 (c .before .before .args .n) (c .before .before .args .below) (c .if1 .taken)))
     (λ c. search needs)
     returns-2)

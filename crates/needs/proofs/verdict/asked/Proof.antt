@@ -1,9 +1,18 @@
 -- `needs::verdict::asked` meets its contract: the root of a sound image leads on. Assumes nothing.
 use native.Mathlib.Omega.{arith}
 use borrow.Author.Needs.{needs}
+use Rattle.fields.proofs.Laws.Digits.{bytes-of}
+use Rattle.needs.specs.Leads.{Leads}
 use Rattle.needs.proofs.Opening.{opened-leads, asked-first, asked-both}
 use Rattle.needs.proofs.verdict.asked.Statement.{statement}
 use Rattle.needs.proofs.verdict.asked.Tie as tie
+
+leads : (c : tie.After-root-entry) → let start = c .before .before in
+    Leads (start .args .img .now) (start .args .s) (start .args .h .height) (c .root-entry .result)
+leads c =
+    let start = c .before .before in
+    opened-leads (start .pre .0) (bytes-of (start .args .img .now) (c .before .shared-slice-known .given)) (start .args .s)
+    (c .root-entry .ensures)
 
 returns : tie.Need-returns
 returns c =
@@ -24,9 +33,7 @@ asked-spec =
     tie.close
     (tie.spec
     (λ c κs. search needs)
-    (λ c κs. opened-leads (c .before .before .before .pre .0) (c .before .before .before .args .s) (c .before .root-entry .ensures))
+    (λ c κs. leads (c .before))
     returns
-    (λ c κs.
-    let start = c .before .before .before in
-    (opened-leads (start .pre .0) (start .args .s) (c .before .root-entry .ensures), start .pre .1))
+    (λ c κs. (leads (c .before), c .before .before .before .pre .1))
     returns-2)

@@ -5,7 +5,7 @@ use borrow.Author.Needs.{needs}
 use borrow.Fn.Kinds.{In}
 use borrow.Fn.PlainCycle.{Measures, is, falls, and}
 use Rattle.image.specs.Images.{image-of}
-use Rattle.needs.proofs.Below.{met-most, met-leads, leads-on, later-fit, both-leaf, both-same, both-apart}
+use Rattle.needs.proofs.Below.{fit-some, fit-found, found-most, found-leads, leads-on, later-fit, both-leaf, both-same, both-apart}
 use Rattle.needs.proofs.Below.{small-leaf, small-both, small-apart}
 use Rattle.needs.proofs.walk.both.Reads as both
 use Rattle.needs.proofs.walk.both.Kinds as both-kinds
@@ -14,7 +14,7 @@ use Rattle.needs.proofs.parts.leaf_need.Reads as leaf-need-reads
 use Rattle.needs.proofs.parts.settle.Reads as settle-reads
 use Rattle.needs.proofs.parts.together.Reads as together-reads
 use Rattle.needs.proofs.walk.apart.Reads as apart-reads
-use Rattle.needs.proofs.walk.met.Reads as met-reads
+use Rattle.store.proofs.entries.find_entry.Reads as find-entry-reads
 use Rattle.needs.proofs.walk.+both.{statement}
 use Rattle.needs.proofs.walk.+both.Tie.{close}
 
@@ -37,8 +37,8 @@ pub +both-spec : {M : Type 1} → statement M
       leaf-need-reads.Learnt,
       together-reads.Asked,
       together-reads.Learnt,
-      met-reads.Asked,
-      met-reads.Learnt,
+      find-entry-reads.Asked,
+      find-entry-reads.Learnt,
       both-below t,
       both.Post,
       settle-reads.Asked,
@@ -58,64 +58,84 @@ pub +both-spec : {M : Type 1} → statement M
     both-leaf 12 (args .s) (args .t) (image-of 12 (args .img .now)) (args .level) (args .e) (leaf .if1 .taken)
     (second .before .leaf-need .ensures) (second .leaf-need2 .ensures)
     (c .together .ensures))
+    -- find-entry-requires
     (λ c κs.
     let start = c .before .before in
     let args = start .args in
-    (args .level - 1, leads-on (args .img .now) (args .s) (args .level) (args .e) (start .pre .1 .0) (c .if1 .left)))
+    fit-some (leads-on (args .img .now) (args .s) (args .level) (args .e) (start .pre .1 .0) (c .if1 .left)))
+    -- find-entry-requires-2
     (λ c κs.
-    let start = c .before .before .before in
-    let args = start .args in (
-      args .level - 1,
-      later-fit (leads-on (args .img .now) (args .s) (args .level) (args .e) (start .pre .1 .0) (c .before .if1 .left))
-          (start .pre .1 .1),
-    ))
-    (λ c. omega (arith, c .before .before .before .before .before .if1 .left))
+    let else = c .before in
+    let start = else .before .before in
+    let args = start .args in
+    let k = leads-on (args .img .now) (args .s) (args .level) (args .e) (start .pre .1 .0) (else .if1 .left) in
+    fit-some (later-fit k (start .pre .1 .1)))
+    -- sub-both
+    (λ c. let first = c .before .before .before .before in omega (arith, first .before .if1 .left))
+    -- both-requires
     (λ c κs.
     let first = c .before .before .before .before in
-    let start = first .before .before .before in
+    let else = first .before in
+    let start = else .before .before in
     let args = start .args in
-    let k = leads-on (args .img .now) (args .s) (args .level) (args .e) (start .pre .1 .0) (first .before .if1 .left) in
-    (omega (arith, start .pre .0, first .before .if1 .left), (met-leads k (first .met .ensures), start .pre .1 .1)))
+    let k = leads-on (args .img .now) (args .s) (args .level) (args .e) (start .pre .1 .0) (else .if1 .left) in
+    (omega (arith, start .pre .0, else .if1 .left), (found-leads k (fit-found k (first .find-entry .ensures)), start .pre .1 .1)))
+    -- settle-requires
     (λ c κs.
     let first = c .before .before .before .before .before in
-    let start = first .before .before .before in
+    let else = first .before in
+    let start = else .before .before in
     let args = start .args in
-    let k = leads-on (args .img .now) (args .s) (args .level) (args .e) (start .pre .1 .0) (first .before .if1 .left) in (
-      met-most k (first .met .ensures),
-      small-both 12 (image-of 12 (args .img .now)) (args .level - 1) (first .met .result .entry) (omega (arith, k .low)) (args .s) (args .t)
-          (c .both .ensures),
+    let k = leads-on (args .img .now) (args .s) (args .level) (args .e) (start .pre .1 .0) (else .if1 .left) in (
+      found-most k (fit-found k (first .find-entry .ensures)),
+      small-both 12 (image-of 12 (args .img .now)) (args .level - 1) (first .find-entry .result .entry) (omega (arith, k .low))
+          (args .s) (args .t) (c .both .ensures),
     ))
+    -- returns-2
     (λ c.
     let same = c .before .before in
     let second = same .before .before .before in
     let first = second .before in
-    let args = first .before .before .before .args in
-    both-same 12 (args .s) (args .t) (image-of 12 (args .img .now)) (args .level) (args .e) (first .before .if1 .left) (first .met .ensures)
-    (second .met2 .ensures)
+    let else = first .before in
+    let start = else .before .before in
+    let args = start .args in
+    let k = leads-on (args .img .now) (args .s) (args .level) (args .e) (start .pre .1 .0) (else .if1 .left) in
+    both-same 12 (args .s) (args .t) (image-of 12 (args .img .now)) (args .level) (args .e) (else .if1 .left)
+    (fit-found k (first .find-entry .ensures)) (fit-found (later-fit k (start .pre .1 .1)) (second .find-entry2 .ensures))
     (same .if2 .taken) (c .before .both .ensures) (c .settle .ensures))
-    (λ c. omega (arith, c .before .before .before .before .before .if1 .left))
+    -- sub-apart
+    (λ c. let first = c .before .before .before .before in omega (arith, first .before .if1 .left))
+    -- apart-requires
     (λ c κs.
     let second = c .before .before .before in
     let first = second .before in
-    let start = first .before .before .before in
+    let else = first .before in
+    let start = else .before .before in
     let args = start .args in
-    let k = leads-on (args .img .now) (args .s) (args .level) (args .e) (start .pre .1 .0) (first .before .if1 .left) in
-    (met-leads k (first .met .ensures), met-leads (later-fit k (start .pre .1 .1)) (second .met2 .ensures)))
+    let k = leads-on (args .img .now) (args .s) (args .level) (args .e) (start .pre .1 .0) (else .if1 .left) in
+    let j = later-fit k (start .pre .1 .1) in
+    (found-leads k (fit-found k (first .find-entry .ensures)), found-leads j (fit-found j (second .find-entry2 .ensures))))
+    -- settle-requires-2
     (λ c κs.
     let second = c .before .before .before .before in
     let first = second .before in
-    let start = first .before .before .before in
+    let else = first .before in
+    let start = else .before .before in
     let args = start .args in
-    let k = leads-on (args .img .now) (args .s) (args .level) (args .e) (start .pre .1 .0) (first .before .if1 .left) in (
-      met-most k (first .met .ensures),
-      small-apart 12 (args .s) (args .t) (image-of 12 (args .img .now)) (args .level - 1) (first .met .result .entry)
-          (second .met2 .result .entry) (omega (arith, k .low)) (c .apart .ensures),
+    let k = leads-on (args .img .now) (args .s) (args .level) (args .e) (start .pre .1 .0) (else .if1 .left) in (
+      found-most k (fit-found k (first .find-entry .ensures)),
+      small-apart 12 (args .s) (args .t) (image-of 12 (args .img .now)) (args .level - 1) (first .find-entry .result .entry)
+          (second .find-entry2 .result .entry) (omega (arith, k .low)) (c .apart .ensures),
     ))
+    -- returns-3
     (λ c.
     let other = c .before .before in
     let second = other .before .before .before in
     let first = second .before in
-    let args = first .before .before .before .args in
-    both-apart 12 (args .s) (args .t) (image-of 12 (args .img .now)) (args .level) (args .e) (first .before .if1 .left)
-    (first .met .ensures) (second .met2 .ensures)
+    let else = first .before in
+    let start = else .before .before in
+    let args = start .args in
+    let k = leads-on (args .img .now) (args .s) (args .level) (args .e) (start .pre .1 .0) (else .if1 .left) in
+    both-apart 12 (args .s) (args .t) (image-of 12 (args .img .now)) (args .level) (args .e) (else .if1 .left)
+    (fit-found k (first .find-entry .ensures)) (fit-found (later-fit k (start .pre .1 .1)) (second .find-entry2 .ensures))
     (other .if2 .left) (c .before .apart .ensures) (c .settle2 .ensures)))

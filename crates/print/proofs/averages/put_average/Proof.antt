@@ -22,7 +22,7 @@ returns c =
     let sign = number .before .before .before .before .before in
     let told = sign .before .before in
     let fits : SFits w64 (told .before .average .given .0 .0) = search needs in
-    put-as (signed-average (number .before .magnitude .ensures) (told .before .average .given .1 ∙ ap Hundredths (sym (toZ-ofZ fits))))
+    put-as (signed-average (number .before .magnitude .ensures .0) (told .before .average .given .1 ∙ ap Hundredths (sym (toZ-ofZ fits))))
     (put-then (sign .put-sign .ensures) (number .put-hundredths .ensures))
 
 returns-2 : tie.Need-returns-2

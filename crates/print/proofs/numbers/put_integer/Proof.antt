@@ -27,7 +27,7 @@ returns : tie.Need-returns
 returns c =
     let number = c .before .before in
     let s = number .before .before .before .before .before in
-    let size = number .before .magnitude .ensures ∙ ap natAbs (toZ-ofZ (entry s .fits .z)) in
+    let size = number .before .magnitude .ensures .0 ∙ ap natAbs (toZ-ofZ (entry s .fits .z)) in
     put-as (ap (λ n. sign-text (entry s .args .z) ++ decimal n) size ∙ integer-signed (entry s .args .z))
     (put-then (sign s) (number .put-decimal .ensures))
 

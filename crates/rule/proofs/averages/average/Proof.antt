@@ -30,7 +30,7 @@ counts : (c : tie.Else1) → no-average (c .before .before .before .args .kind) 
 counts c = rw (toZ-ofZ (count-fits (c .before))) at (c .if1 .left)
 
 size : (c : tie.After-magnitude) → c .magnitude .result ≡ natAbs (c .before .before .before .before .args .pair .sum)
-size c = rw (toZ-ofZ (sum-fits (c .before .before))) at (c .magnitude .ensures)
+size c = rw (toZ-ofZ (sum-fits (c .before .before))) at (c .magnitude .ensures .0)
 
 reached : (c : tie.Then2) → natAbs (c .before .before .before .before .before .args .pair .sum) ≤ most-sum
 reached c = omega (arith, size (c .before))

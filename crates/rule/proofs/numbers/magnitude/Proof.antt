@@ -1,8 +1,8 @@
 -- `rule::numbers::magnitude` meets its contract: each number on the way fits. Assumes nothing.
-use Prim.Native.Nat.{_<_, _^_}
+use Prim.Native.Nat.{ℕ, _<_, _≤_, _^_}
 use mathlib.Core.Path.{_≡_, _∙_}
 use native.Mathlib.Omega.{arith}
-use lib.IntN.{pos, natAbs, _+ℤ_, _-ℤ_}
+use lib.IntN.{ℤ, pos, natAbs, _+ℤ_, _-ℤ_}
 use lib.Signed.{natAbs-le}
 use borrow.Author.Needs.{needs}
 use mir.Syntax.{w64}
@@ -44,11 +44,15 @@ cast-result-2 c =
     rw (toZ-ofZ (s .fits .z))
     (not-negative (s .args .z) (rw (toZ-ofZ (s .fits .z)) at (c .if1 .left)), omega (arith, natAbs-le (s .args .z) (s .fits .z .sfits)))
 
+-- a number of 64 bits has an absolute value of at most 2 ^ 63
+sized : {r : ℕ} (z : ℤ) → SFits w64 z → r ≡ natAbs z → (r ≡ natAbs z) × (r ≤ 2 ^ 63)
+sized z f e = (e, omega (arith, e, natAbs-le z (f .sfits)))
+
 returns : tie.Need-returns
-returns c = rw (turned c) (way c .less)
+returns c = sized (c .before .args .z) (c .before .fits .z) (rw (turned c) (way c .less))
 
 returns-2 : tie.Need-returns-2
-returns-2 c = search needs
+returns-2 c = sized (c .before .args .z) (c .before .fits .z) (search needs)
 
 pub magnitude-spec : {M : Type 1} → statement M
 magnitude-spec =

@@ -12,7 +12,7 @@ magnitude-requires c κs = search needs
 
 returns : tie.Need-returns
 unfolding value-ok
-returns c = ap (λ n. leb n 1000000) (rw (toZ-ofZ (c .before .fits .v)) at (c .magnitude .ensures))
+returns c = ap (λ n. leb n 1000000) (rw (toZ-ofZ (c .before .fits .v)) at (c .magnitude .ensures .0))
 
 pub in-range-spec : {M : Type 1} → statement M
 in-range-spec = tie.close (tie.spec magnitude-requires returns)

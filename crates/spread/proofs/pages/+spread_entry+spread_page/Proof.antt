@@ -20,7 +20,7 @@ use Rattle.edit.proofs.entry.entry_at.Reads as entry-at-reads
 use Rattle.edit.proofs.entry.replace.Reads as replace-reads
 use Rattle.spread.proofs.entries.end_of.Reads as end-of-reads
 use Rattle.spread.proofs.entries.inside.Reads as inside-reads
-use Rattle.spread.proofs.entries.meets.Reads as meets-reads
+use Rattle.rule.proofs.time.overlaps.Reads as overlaps-reads
 use Rattle.spread.proofs.entries.took.Reads as took-reads
 use Rattle.store.proofs.pages.load.Reads as load-reads
 use Rattle.store.proofs.pages.save.Reads as save-reads
@@ -59,8 +59,8 @@ pub +spread-entry+spread-page-spec : {M : Type 1} → statement M
     spread-entry-lts.spec (
       inside-reads.Asked,
       inside-reads.Learnt,
-      meets-reads.Asked,
-      meets-reads.Learnt,
+      overlaps-reads.Asked,
+      overlaps-reads.Learnt,
       spread-page-below t,
       spread-page.Post,
     ) (spread-entry-at t) spread-entry.Post
@@ -70,13 +70,13 @@ pub +spread-entry+spread-page-spec : {M : Type 1} → statement M
     (λ c κs. search needs)
     -- returns-2
     (λ c X h r. subst (Holds _) (sent-inside _ _ _ _ X (sym (c .before .inside .ensures) ∙ c .if2 .taken)) h)
-    -- meets-requires
+    -- overlaps-requires
     (λ c κs. search needs)
     -- returns-3
     (λ c X h r.
     let out = c .before .before in
     let apart = sym (out .before .inside .ensures) ∙ out .if2 .left in
-    subst (Holds _) (sent-apart _ _ _ _ X apart (sym (c .before .meets .ensures) ∙ not-true _ (c .if3 .taken))) h)
+    subst (Holds _) (sent-apart _ _ _ _ X apart (sym (c .before .overlaps .ensures) ∙ not-true _ (c .if3 .taken))) h)
     -- sub-spread-page
     (λ c. omega (arith, c .before .before .before .before .before .if1 .left))
     -- spread-page-requires
@@ -86,7 +86,7 @@ pub +spread-entry+spread-page-spec : {M : Type 1} → statement M
     let inner = out .before .before in
     let start = inner .before .before in
     let apart = sym (out .before .inside .ensures) ∙ out .if2 .left in
-    let meets = sym (met .before .meets .ensures) ∙ not-false _ (met .if3 .left) in
+    let meets = sym (met .before .overlaps .ensures) ∙ not-false _ (met .if3 .left) in
     let s = start .pre .1 .1 in (
       omega (arith, start .pre .0, inner .if1 .left),
       (
@@ -107,7 +107,7 @@ pub +spread-entry+spread-page-spec : {M : Type 1} → statement M
     let out = met .before .before in
     let some = out .before .before .if1 .left in
     let apart = sym (out .before .inside .ensures) ∙ out .if2 .left in
-    let meets = sym (met .before .meets .ensures) ∙ not-false _ (met .if3 .left) in
+    let meets = sym (met .before .overlaps .ensures) ∙ not-false _ (met .if3 .left) in
     subst (Holds _) (sent-below _ _ _ _ X some apart meets) (call .spread-page .ensures X h (ready-below _ _ _ _ X some apart meets r))))
     λ t. spread-page-lts.spec (
       load-reads.Asked,
@@ -126,7 +126,7 @@ pub +spread-entry+spread-page-spec : {M : Type 1} → statement M
       save-reads.Learnt,
     ) (spread-page-at t) spread-page.Post Inv-loop μ-loop
     -- load-requires
-    (λ c κs. let s = c .before .before .pre .1 .1 in record { image = s .image; holds = s .holds; ready = s .ready .within })
+    (λ c κs. let s = c .before .before .pre .1 .1 in record { image = s .image; holds = s .holds; ready = s .ready .treed .within })
     -- loop-holds
     (λ c. turns.none _ _ _ _ (c .before .before .before .pre .1 .1) (c .load .ensures))
     -- entry-at-requires

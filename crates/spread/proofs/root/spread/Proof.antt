@@ -4,7 +4,7 @@ use native.Mathlib.Omega.{arith}
 use Rattle.steps.specs.Spread.{spread}
 use Rattle.store.specs.Holding.{Holds}
 use Rattle.store.proofs.Supplying.{by-head, Headed, some-headed}
-use Rattle.spread.specs.Ready.{spread-by, Spreadable}
+use Rattle.spread.specs.Spreadable.{spread-by, Spreadable}
 use Rattle.spread.proofs.root.spread.Statement.{statement}
 use Rattle.spread.proofs.root.spread.Tie as tie
 

@@ -1,18 +1,22 @@
--- `store::heads::head_of` meets its contract: the part lent is the head's page. Assumes nothing.
-use mathlib.Core.Path.{refl, ap, _∙_}
+-- `store::heads::head_of` meets its contract: page 0 is the head's page. Assumes nothing.
+use mathlib.Core.Path.{ap, _∙_}
 use native.Mathlib.Omega.{arith}
+use lib.ListN.{length}
 use Rattle.page.specs.Layout.{head-of}
-use Rattle.fields.proofs.Laws.Lent.{lent-part}
+use Rattle.image.specs.Images.{page-at}
+use Rattle.lent.proofs.Laws.{page-length}
 use Rattle.store.proofs.Holding.{holds-length, holds-head}
 use Rattle.store.proofs.heads.head_of.Statement.{statement}
 use Rattle.store.proofs.heads.head_of.Tie as tie
 
+read-head-requires : tie.Need-read-head-requires
+read-head-requires c κs =
+    let start = c .before .before in
+    omega (arith, ap length (c .page-at .ensures) ∙ page-length (start .args .img .now) 0 (omega (arith, holds-length (start .pre .holds))))
+
 returns : tie.Need-returns
-returns c X h any =
-    let img = c .before .before .before .args .img .now in
-    c .read-head .ensures ∙ ap head-of (lent-part img 0 512 512 refl) ∙ holds-head h
+unfolding page-at
+returns c X h any = c .read-head .ensures ∙ ap head-of (c .before .page-at .ensures) ∙ holds-head h
 
 pub head-of-spec : {M : Type 1} → statement M
-head-of-spec =
-    tie.close
-    (tie.spec (λ c. omega arith) (λ c. omega arith) (λ c. omega (arith, holds-length (c .before .pre .holds))) (λ c κs. omega arith) returns)
+head-of-spec = tie.close (tie.spec (λ c κs. omega (arith, holds-length (c .before .pre .holds))) read-head-requires returns)

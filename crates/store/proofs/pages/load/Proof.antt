@@ -1,8 +1,18 @@
 -- `store::pages::load` meets its contract: the page's bytes are those of the tree page. Assumes nothing.
-use Rattle.store.proofs.Holding.{some-long, holds-tree}
+use mathlib.Core.Path.{subst}
+use mathlib.Core.List.{List}
+use Prim.Native.Nat.{ℕ}
+use Rattle.page.specs.Decoded.{Read}
+use Rattle.image.specs.Images.{page-at}
+use Rattle.store.proofs.Holding.{some-long, some-size, holds-tree}
 use Rattle.store.proofs.pages.load.Statement.{statement}
 use Rattle.store.proofs.pages.load.Tie as tie
 
+returns : tie.Need-returns
+unfolding page-at
+returns c X h l t = holds-tree h t
+    (subst (λ (s : List ℕ). Read (c .read-page .result) s) (c .before .page-at .ensures) (c .read-page .ensures))
+
 pub load-spec : {M : Type 1} → statement M
 load-spec =
-    tie.close (tie.spec (λ c κs. some-long (c .before .pre)) (λ c X h w l es e. holds-tree h w e (c .read-page-at .ensures)))
+    tie.close (tie.spec (λ c κs. some-long (c .before .pre)) (λ c κs. some-size (c .before .before .pre) (c .page-at .ensures)) returns)

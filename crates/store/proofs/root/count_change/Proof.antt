@@ -5,7 +5,7 @@ use native.Mathlib.Numerals.{add-one}
 use native.Mathlib.Omega.{arith}
 use Rattle.steps.specs.Supply.{counted}
 use Rattle.store.specs.Holding.{Holds}
-use Rattle.store.specs.Supplying.{Countable}
+use Rattle.store.specs.Ready.{Countable}
 use Rattle.store.proofs.Supplying.{by-head, Headed, some-headed, counted-is}
 use Rattle.store.proofs.root.count_change.Statement.{statement}
 use Rattle.store.proofs.root.count_change.Tie as tie
@@ -18,7 +18,8 @@ unfolding counted
 returns c X h r =
     let set = c .before .before in
     let read = set .before .before .before in
-    by-head (λ Y. Holds (read .before .before .before .args .img .now) Y → Holds (set .set-head .last .0) (counted Y)) (read .head-of .ensures X h tt)
+    by-head (λ Y. Holds (read .before .before .before .args .img .now) Y → Holds (set .set-head .last .0) (counted Y))
+    (read .head-of .ensures X h tt)
     (λ k. subst (Holds _) (counted-is _) (set .set-head .ensures _ k (record { pages = refl }))) h
 
 pub count-change-spec : {M : Type 1} → statement M

@@ -20,7 +20,8 @@ returns c X h any =
     let set = c .before .before in
     let read = set .before .before in
     let args = read .before .before .before .args in
-    by-head (λ Y. Holds (args .img .now) Y → Holds (set .set-head .last .0) (with-root (args .height) (args .p) Y)) (read .head-of .ensures X h tt)
+    by-head (λ Y. Holds (args .img .now) Y → Holds (set .set-head .last .0) (with-root (args .height) (args .p) Y))
+    (read .head-of .ensures X h tt)
     (λ k. set .set-head .ensures _ k (record { pages = refl })) h
 
 pub set-root-spec : {M : Type 1} → statement M

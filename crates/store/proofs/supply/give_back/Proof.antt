@@ -1,16 +1,18 @@
--- `store::supply::give_back` meets its contract: the head that was read leads to the page, and the page to the one that was first. Assumes nothing.
+-- `store::supply::give_back` meets its contract: the head that was read leads to the page, and the page to the one that was first.
+-- Assumes nothing.
 use mathlib.Core.Path.{refl, subst}
 use borrow.Author.Needs.{needs}
 use native.Mathlib.Omega.{arith}
 use Rattle.steps.specs.Supply.{with-supply, given-back}
 use Rattle.image.specs.Images.{Image}
-use Rattle.store.specs.Holding.{Holds, Within}
-use Rattle.store.specs.Supplying.{Givable}
+use Rattle.store.specs.Holding.{Holds}
+use Rattle.store.specs.Ready.{Givable}
 use Rattle.store.proofs.Supplying.{by-head, Headed, some-headed, given-back-is}
 use Rattle.store.proofs.supply.give_back.Statement.{statement}
 use Rattle.store.proofs.supply.give_back.Tie as tie
 
-headed : (c : tie.After-head-of) → Headed (c .before .before .before .args .img .now) (c .head-of .result) (Givable (c .before .before .before .args .p))
+headed : (c : tie.After-head-of)
+    → Headed (c .before .before .before .args .img .now) (c .head-of .result) (Givable (c .before .before .before .args .p))
 headed c = some-headed (c .before .before .before .pre) (c .head-of .ensures)
 
 set-free-requires : tie.Need-set-free-requires
@@ -30,10 +32,12 @@ returns c X h r =
     let set = freed .before .before .before .before in
     let read = set .before .before .before in
     let args = read .before .before .before .args in
-    by-head (λ Y. Holds (args .img .now) Y → Givable (args .p) Y → Holds (freed .set-free .last .0) (given-back (args .p) Y)) (read .head-of .ensures X h tt)
+    by-head (λ Y. Holds (args .img .now) Y → Givable (args .p) Y → Holds (freed .set-free .last .0) (given-back (args .p) Y))
+    (read .head-of .ensures X h tt)
     (λ k g.
     subst (Holds _) (given-back-is (args .p) _)
-    (freed .set-free .ensures _ (set .set-head .ensures _ k (record { pages = refl })) (record { least = g .within .least; below = g .within .below })))
+    (freed .set-free .ensures _ (set .set-head .ensures _ k (record { pages = refl }))
+    (record { least = g .within .least; below = g .within .below })))
     h r
 
 pub give-back-spec : {M : Type 1} → statement M

@@ -1,12 +1,14 @@
--- `store::supply::take` meets its contract: with no chain the high mark goes on, else the chain begins behind its first page. Assumes nothing.
+-- `store::supply::take` meets its contract: with no chain the high mark goes on, else the chain begins behind its first page. Assumes
+-- nothing.
 use mathlib.Core.Path.{_≡_, refl, subst}
 use Prim.Native.Nat.{_≤_}
 use borrow.Author.Needs.{needs}
 use native.Mathlib.Omega.{arith}
 use Rattle.steps.specs.Supply.{with-supply, spare, taken}
-use Rattle.store.specs.Holding.{Holds, Within}
-use Rattle.store.specs.Supplying.{Takable}
-use Rattle.store.proofs.Supplying.{by-head, Headed, some-headed, spare-marked, taken-marked, spare-chained, taken-chained, marked-below, chained-within}
+use Rattle.store.specs.Holding.{Holds}
+use Rattle.store.specs.Ready.{Takable}
+use Rattle.store.proofs.Supplying.{by-head, Headed, some-headed, spare-marked, taken-marked, spare-chained, taken-chained}
+use Rattle.store.proofs.Supplying.{marked-below, chained-within}
 use Rattle.store.proofs.supply.take.Statement.{statement}
 use Rattle.store.proofs.supply.take.Tie as tie
 
@@ -24,8 +26,15 @@ returns c X h r =
     let set = c .before .before in
     let then = set .before .before in
     let read = then .before .before in
-    by-head (λ Y. Holds (read .before .before .before .args .img .now) Y → (read .head-of .result .mark ≡ spare Y) × Holds (set .set-head .last .0) (taken Y)) (read .head-of .ensures X h tt)
-    (λ k. (spare-marked _ (then .if1 .taken), subst (Holds _) (taken-marked _ (then .if1 .taken)) (set .set-head .ensures _ k (record { pages = refl }))))
+    by-head
+    (λ Y. Holds (read .before .before .before .args .img .now) Y
+    → (read .head-of .result .mark ≡ spare Y) × Holds (set .set-head .last .0) (taken Y))
+    (read .head-of .ensures X h tt)
+    (λ k. (
+      spare-marked _ (then .if1 .taken),
+      subst (Holds _) (taken-marked _ (then .if1 .taken))
+          (set .set-head .ensures _ k (record { pages = refl })),
+    ))
     h
 
 next-free-requires : tie.Need-next-free-requires
@@ -40,12 +49,15 @@ returns-2 c X h r =
     let next = set .before .before .before in
     let else = next .before .before in
     let read = else .before .before in
-    by-head (λ Y. Holds (read .before .before .before .args .img .now) Y → Takable Y → (read .head-of .result .free ≡ spare Y) × Holds (set .set-head2 .last .0) (taken Y))
+    by-head
+    (λ Y. Holds (read .before .before .before .args .img .now) Y → Takable Y
+    → (read .head-of .result .free ≡ spare Y) × Holds (set .set-head2 .last .0) (taken Y))
     (read .head-of .ensures X h tt)
     (λ k t.
     let some : 1 ≤ read .head-of .result .chain = omega (arith, else .if1 .left) in (
       spare-chained _ (else .if1 .left),
-      subst (Holds _) (taken-chained _ (else .if1 .left) (t .front some) (next .next-free .ensures _ k (chained-within (else .if1 .left) t) _ (t .front some .is)))
+      subst (Holds _) (taken-chained _ (else .if1 .left) (t .front some)
+          (next .next-free .ensures _ k (chained-within (else .if1 .left) t) _ (t .front some .is)))
           (set .set-head2 .ensures _ k (record { pages = refl })),
     ))
     h r
@@ -61,6 +73,11 @@ take-spec =
     returns
     next-free-requires
     (λ c. omega arith)
-    (λ c κs. record { image = _; holds = headed (c .before .before .before .before .before .before) .holds; ready = record { pages = refl } })
+    (λ c κs. record {
+      image = _;
+      holds = headed
+          (c .before .before .before .before .before .before) .holds;
+      ready = record { pages = refl };
+    })
     (λ c. omega arith)
     returns-2)

@@ -1,0 +1,41 @@
+-- Images that a change can be made to: each step finds the image ready that the one before left. Assumes nothing.
+use Prim.Native.Nat.{ℕ}
+use Rattle.rule.specs.declared.Pair.{Pair}
+use Rattle.rule.specs.Pairs.{combine}
+use Rattle.image.specs.Images.{Image}
+use Rattle.steps.specs.Cut.{cut}
+use Rattle.steps.specs.Spread.{spread}
+use Rattle.steps.specs.Heal.{heal}
+use Rattle.store.specs.Ready.{Countable}
+use Rattle.cut.specs.Cuttable.{Cuttable}
+use Rattle.spread.specs.declared.Task.{Task}
+use Rattle.spread.specs.Spreadable.{Spreadable}
+use Rattle.heal.specs.Healable.{Healable}
+
+module _ (kind s e : ℕ) (effect : Pair) where
+  abbrev pub task : Task
+  task = record { kind = kind; s = s; e = e; effect = effect }
+
+  -- the image after A, B, C, D and E
+  abbrev pub after-A : Image → Image
+  after-A X = cut 12 s X
+
+  abbrev pub after-B : Image → Image
+  after-B X = cut 12 e (after-A X)
+
+  abbrev pub after-C : Image → Image
+  after-C X = spread (combine kind) s e effect (after-B X)
+
+  abbrev pub after-D : Image → Image
+  after-D X = heal 12 (combine kind) s (after-C X)
+
+  abbrev pub after-E : Image → Image
+  after-E X = heal 12 (combine kind) e (after-D X)
+
+  pub record Changeable (X : Image) : Type 0 where
+    pub for-A : Cuttable s X
+    pub for-B : Cuttable e (after-A X)
+    pub for-C : Spreadable task (after-B X)
+    pub for-D : Healable kind s (after-C X)
+    pub for-E : Healable kind e (after-D X)
+    pub for-count : Countable (after-E X)

@@ -1,0 +1,130 @@
+-- `cut_entry` calls itself on the entry of the page below and meets its contract: the level falls. Assumes nothing.
+use Prim.Native.Nat.{ℕ, _<_}
+use native.Mathlib.Omega.{arith}
+use borrow.Author.Needs.{needs}
+use borrow.Fn.Kinds.{In}
+use borrow.Fn.PlainCycle.{Measures, is, falls, and}
+use Rattle.cut.proofs.Settling.{told}
+use Rattle.cut.proofs.Cutting.{leaf-as, page-cuttable, read, read-cuttable, read-below, read-same, read-settlable, read-two}
+use Rattle.cut.proofs.entries.cut_entry.Reads as cut-entry
+use Rattle.cut.proofs.entries.cut_entry.Kinds as cut-entry-kinds
+use Rattle.cut.proofs.entries.+cut_entry.Lts-cut_entry as cut-entry-lts
+use Rattle.cut.proofs.entries.cut_leaf_entry.Reads as cut-leaf-entry-reads
+use Rattle.cut.proofs.settle.double.Reads as double-reads
+use Rattle.store.proofs.entries.find_entry.Reads as find-entry-reads
+use Rattle.store.proofs.pages.load.Reads as load-reads
+use Rattle.cut.proofs.entries.+cut_entry.{statement}
+use Rattle.cut.proofs.entries.+cut_entry.Tie.{close}
+
+abbrev μ-cut-entry : Measures 1 cut-entry-kinds.ps ℕ
+μ-cut-entry κs a = a .1 .0
+
+-- what it is given at the measure t, and what a call of it asks below t
+abbrev cut-entry-at : ℕ → In 1 cut-entry-kinds.ps
+cut-entry-at t = and 1 cut-entry-kinds.ps (is 1 cut-entry-kinds.ps μ-cut-entry t) cut-entry.Pre
+
+abbrev cut-entry-below : ℕ → In 1 cut-entry-kinds.ps
+cut-entry-below t = and 1 cut-entry-kinds.ps (falls 1 cut-entry-kinds.ps _<_ μ-cut-entry t) cut-entry.Pre
+
+pub +cut-entry-spec : {M : Type 1} → statement M
++cut-entry-spec =
+    close μ-cut-entry
+    (λ t.
+    cut-entry-lts.spec (
+      cut-leaf-entry-reads.Asked,
+      cut-leaf-entry-reads.Learnt,
+      load-reads.Asked,
+      load-reads.Learnt,
+      find-entry-reads.Asked,
+      find-entry-reads.Learnt,
+      cut-entry-below t,
+      cut-entry.Post,
+      double-reads.Asked,
+      double-reads.Learnt,
+    ) (cut-entry-at t) cut-entry.Post
+    -- cut-leaf-entry-requires
+    (λ c κs. search needs)
+    -- returns
+    (λ c X h r. let args = c .before .before .before .args in leaf-as (args .e) (args .t) (c .before .if1 .taken)
+    (c .cut-leaf-entry .ensures) h)
+    -- load-requires
+    (λ c κs.
+    let else = c .before in
+    let start = else .before .before in
+    let s = start .pre .1 in
+    record {
+      image = _;
+      holds = s .holds;
+      ready = page-cuttable (start .args .e) (else .if1 .left)
+          (s .ready) .0 .searchable .treed .within;
+    })
+    -- find-entry-requires
+    (λ c κs.
+    let else = c .before .before .before in
+    let start = else .before .before in
+    let s = start .pre .1 in
+    record { image = _; holds = s .holds; ready = (_, page-cuttable (start .args .e) (else .if1 .left) (s .ready) .0 .searchable) })
+    -- sub-cut-entry
+    (λ c. omega arith)
+    -- cut-entry-requires
+    (λ c κs.
+    let found = c .before in
+    let load = found .before .before in
+    let else = load .before .before in
+    let start = else .before .before in
+    let s = start .pre .1 in
+    let d = else .if1 .left in
+    let k = read (page-cuttable (start .args .e) d (s .ready) .0) (s .holds) (load .load .ensures) (found .find-entry .ensures) in (
+      omega (arith, start .pre .0, d),
+      record { image = _; holds = s .holds; ready = read-cuttable (start .args .e) d k (s .ready) },
+    ))
+    -- enum-known-start
+    (λ c. search needs)
+    -- enum-told
+    (λ c. search needs)
+    -- same-length-2
+    (λ c. search needs)
+    -- returns-2
+    (λ c X h r.
+    let call = c .before .before .before .before in
+    let found = call .before .before in
+    let load = found .before .before in
+    let else = load .before .before in
+    let e = else .before .before .args .e in
+    let d = else .if1 .left in
+    let k = read (page-cuttable e d r .0) h (load .load .ensures) (found .find-entry .ensures) in
+    let b = call .cut-entry .ensures X h (read-cuttable e d k r) in
+    read-same e d k (told (c .enum-told .given .1) (read-below e d k b)))
+    -- double-requires
+    (λ c κs.
+    let known = c .before .before in
+    let call = known .before .before .before .before in
+    let found = call .before .before in
+    let load = found .before .before in
+    let else = load .before .before in
+    let start = else .before .before in
+    let s = start .pre .1 in
+    let e = start .args .e in
+    let d = else .if1 .left in
+    let r = page-cuttable e d (s .ready) .0 in
+    let k = read r (s .holds) (load .load .ensures) (found .find-entry .ensures) in
+    let b = told (known .start .given .1) (read-below e d k (call .cut-entry .ensures _ (s .holds) (read-cuttable e d k (s .ready)))) in (
+      record { image = _; holds = b .holds; ready = read-settlable e d k b r },
+      (omega (arith, k .loaded .shows .level, r .low), k .inside, k .loaded .few),
+    ))
+    -- same-length-3
+    (λ c. search needs)
+    -- returns-3
+    (λ c X h r.
+    let doubled = c .before .before in
+    let known = doubled .before .before .before in
+    let call = known .before .before .before .before in
+    let found = call .before .before in
+    let load = found .before .before in
+    let else = load .before .before in
+    let e = else .before .before .args .e in
+    let d = else .if1 .left in
+    let ready = page-cuttable e d r .0 in
+    let k = read ready h (load .load .ensures) (found .find-entry .ensures) in
+    let b = told (known .start .given .1) (read-below e d k (call .cut-entry .ensures X h (read-cuttable e d k r))) in
+    read-two e d k b (doubled .double .ensures _ (b .holds) (read-settlable e d k b ready))))

@@ -1,0 +1,48 @@
+-- Images that can be cut: what steps A and B ask of each page that they read or write, in the image as the definition has it then.
+-- Assumes nothing.
+use Prim.Native.Nat.{ℕ, zero, suc, _≤_, _<_}
+use lib.ListN.{length}
+use Rattle.rule.specs.Time.{END}
+use Rattle.page.specs.declared.Entry.{Entry}
+use Rattle.image.specs.Images.{Image}
+use Rattle.steps.specs.Supply.{entries}
+use Rattle.steps.specs.Cut.{Cutting, cut-entry, root-entry}
+use Rattle.store.specs.Ready.{In-image, Searchable, entry-for, Takable}
+
+-- a page that gained an entry can be written with n entries: "25 entries split"
+pub record Settlable (p n : ℕ) (X : Image) : Type 0 where
+  pub within : In-image p X
+  pub room : 25 ≤ n → Takable X
+
+-- what becomes of the entry of page p that has t, and the image then: page p is of level l
+abbrev pub below : ℕ → ℕ → ℕ → Image → Cutting
+below l p t X = cut-entry 12 t l (entry-for t p X) X
+
+-- Page p of level l can be searched for t, and if the entry there becomes two in a page of 24, a page can be taken then.
+pub record Page-cuttable (l p t : ℕ) (X : Image) : Type 0 where
+  pub searchable : Searchable l p t X
+  pub low : l < 255
+  pub room : 1 < length (below l p t X .became) → 24 ≤ length (entries X p) → Takable (below l p t X .image)
+
+-- so is each page on the way down from an entry; a leaf's leads nowhere
+unfoldable pub Entry-cuttable : ℕ → Entry → ℕ → Image → Type 0
+Entry-cuttable zero e t X = Unit {0}
+Entry-cuttable (suc l) e t X = Page-cuttable l (e .child) t X × Entry-cuttable l (entry-for t (e .child) X) t X
+
+-- a page can be taken for a new root, whose level is one that a page can have
+pub record Raisable (X : Image) : Type 0 where
+  pub takable : Takable X
+  pub low : X .head .height < 255
+
+-- the root as an entry, cut at t
+abbrev pub from-root : ℕ → Image → Cutting
+from-root t X = cut-entry 12 t (X .head .height) (root-entry X) X
+
+pub record Root-cuttable (t : ℕ) (X : Image) : Type 0 where
+  pub low : X .head .height < 255
+  pub entry : Entry-cuttable (X .head .height) (root-entry X) t X
+  pub room : 1 < length (from-root t X .became) → Takable (from-root t X .image)
+
+-- "nothing if t is END": then nothing is asked
+pub record Cuttable (t : ℕ) (X : Image) : Type 0 where
+  pub root : t < END → Root-cuttable t X

@@ -1,0 +1,51 @@
+-- `heal::parents::shared` meets its contract: the right entry is put in its place, then the left one. Assumes nothing.
+use mathlib.Core.Path.{ap}
+use mathlib.Core.List.{[], _∷_}
+use Prim.Native.Nat.{suc}
+use borrow.Author.Needs.{needs}
+use native.Mathlib.Numerals.{add-one}
+use native.Mathlib.Omega.{arith}
+use Rattle.page.specs.declared.Entry.{Entry}
+use Rattle.page.specs.Decoded.{shown}
+use Rattle.page.specs.Entries.{at, splice}
+use Rattle.page.proofs.Laws.Decoded.{length-shown}
+use Rattle.edit.specs.Shows.{Shows}
+use Rattle.edit.proofs.Edits.{shows-number, shows-as}
+use Rattle.heal.specs.Siblings.{emptied}
+use Rattle.heal.proofs.Parts.{length-splice}
+use Rattle.heal.proofs.Outcomes.{above-shows}
+use Rattle.heal.proofs.parents.shared.Statement.{statement}
+use Rattle.heal.proofs.parents.shared.Tie as tie
+
+abbrev start : tie.After-emptied → tie.Start
+start c = c .before .before
+
+-- the page with its right entry
+right : (c : tie.After-emptied) → Shows (start c .args .parent .level)
+    (splice (suc (start c .args .l)) (emptied (start c .args .start) (at (shown (start c .args .parent)) (suc (start c .args .l))) ∷ [])
+    (shown (start c .args .parent)))
+    (c .emptied .result)
+right c =
+    let args = start c .args in
+    shows-as (c .emptied .ensures)
+    (ap (λ i. splice i (emptied (args .start) (at (shown (args .parent)) i) ∷ []) (shown (args .parent))) (add-one (args .l)))
+
+emptied-requires-2 : tie.Need-emptied-requires-2
+emptied-requires-2 c κs =
+    let args = start c .args in
+    let n = length-shown (args .parent) in
+    let b = at (shown (args .parent)) (suc (args .l)) in
+    omega (arith, shows-number (right c), length-splice (suc (args .l)) (emptied (args .start) b ∷ []) (shown (args .parent)) (omega arith))
+
+returns : tie.Need-returns
+returns c =
+    let first = c .before in
+    let args = start first .args in
+    let n = length-shown (args .parent) in
+    above-shows (args .l) _ (shown (args .parent)) (omega arith) (ap (λ (e : Entry). e .start) (first .before .entry-at .ensures))
+    (right first) (c .emptied2 .ensures)
+
+pub shared-spec : {M : Type 1} → statement M
+shared-spec =
+    tie.close
+    (tie.spec (λ c κs. search needs) (λ c. search needs) (λ c κs. search needs) emptied-requires-2 returns)

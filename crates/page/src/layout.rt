@@ -1,0 +1,80 @@
+// Where the numbers of a page stand. Document 01, "The page"; docs/FORMAT.md.
+// All that follows from the capacity of a page is derived here: half of it is the one number that differs between chips.
+
+// "it has 12 to 24 entries"
+pub const HALF: usize = 12;
+
+pub const CAPACITY: usize = 2 * HALF;
+
+// The same, as the number of entries of a page has them.
+pub const FEWEST_ENTRIES: u32 = HALF as u32;
+
+pub const MOST_ENTRIES: u32 = CAPACITY as u32;
+
+// Entries of a decoded page: one more than a written page has, for the entry that makes it split.
+pub const SLOTS: usize = CAPACITY + 1;
+
+// A tree page: level and number of entries, unused bytes, starts, entries.
+pub const LEVEL_OFFSET: usize = 0;
+
+pub const ENTRY_COUNT_OFFSET: usize = 4;
+
+pub const GAP_OFFSET: usize = 8;
+
+pub const STARTS_OFFSET: usize = 32;
+
+pub const START_BYTES: usize = 4;
+
+pub const ENTRIES_OFFSET: usize = STARTS_OFFSET + START_BYTES * CAPACITY;
+
+pub const ENTRY_BYTES: usize = 16;
+
+pub const PAGE_BYTES: usize = ENTRIES_OFFSET + ENTRY_BYTES * CAPACITY;
+
+// The unused bytes before the starts, and all bytes behind the two numbers.
+pub const GAP_BYTES: usize = STARTS_OFFSET - GAP_OFFSET;
+
+pub const BODY_BYTES: usize = PAGE_BYTES - GAP_OFFSET;
+
+// Within an entry: sum, count, child.
+pub const COUNT_IN_ENTRY: usize = 8;
+
+pub const CHILD_IN_ENTRY: usize = 12;
+
+// A free page: this level, and the page behind it in the chain.
+pub const FREE_LEVEL: u32 = 255;
+
+pub const NEXT_OFFSET: usize = 4;
+
+// The head: nine numbers, the rest unused.
+pub const HEAD_PAGES: usize = 0;
+
+pub const HEAD_HEIGHT: usize = 4;
+
+pub const HEAD_ROOT: usize = 8;
+
+pub const HEAD_FREE: usize = 12;
+
+pub const HEAD_CHAIN: usize = 16;
+
+pub const HEAD_MARK: usize = 20;
+
+pub const HEAD_KIND: usize = 24;
+
+pub const HEAD_WINDOW: usize = 28;
+
+pub const HEAD_CHANGES: usize = 32;
+
+pub const HEAD_BYTES: usize = 36;
+
+pub const HEAD_REST: usize = PAGE_BYTES - HEAD_BYTES;
+
+// "The image is n pages of 512 bytes, n from 2 to 1,024."
+pub const FEWEST_PAGES: usize = 2;
+
+pub const MOST_PAGES: usize = 1024;
+
+// "height (1 to 4)", "high mark (lowest page never used, 2 to n)"
+pub const MOST_HEIGHT: u32 = 4;
+
+pub const LEAST_MARK: u32 = 2;
