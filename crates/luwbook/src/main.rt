@@ -67,6 +67,22 @@ fn write_first(out: &[u8], n: usize) -> bool
     told(io::write_all(STDOUT_FILENO, &out[..n]))
 }
 
+// Room for what a piece prints, for the runs of a listing and for their text. Each is made by itself: a proof of the functions below then
+// computes no list of so many zeros.
+fn piece_room() -> [u8; PIECE_BYTES * REFUSED_LINE] {
+    [0u8; PIECE_BYTES * REFUSED_LINE]
+}
+
+fn runs_room() -> [u8; LIST_BYTES]
+    ensures { λ r. ⌜ length r ≡ 22656 ⌝ }
+{
+    [0u8; LIST_BYTES]
+}
+
+fn listing_room() -> [u8; ENDING_BYTES] {
+    [0u8; ENDING_BYTES]
+}
+
 // Runs what was read, and writes what that prints: at most 55 bytes for each. A line's number has to fit.
 fn run_some(img: &mut [u8], r: Reading, piece: &[u8]) -> Progress
     requires { ⌜ length (now piece) ≤ 4096 ⌝ }
@@ -76,7 +92,7 @@ fn run_some(img: &mut [u8], r: Reading, piece: &[u8]) -> Progress
     if r.number > LAST_LINE {
         return stopped(r, true);
     }
-    let mut out = [0u8; PIECE_BYTES * REFUSED_LINE];
+    let mut out = piece_room();
     let q = run_piece(img, &mut out, flushed(r), piece);
     let at = q.at;
     let written = write_first(&out, at);
@@ -146,13 +162,13 @@ fn finish(img: &mut [u8], p: Progress) -> bool
     if r.number > LAST_LINE {
         return false;
     }
-    let mut out = [0u8; ENDING_BYTES];
+    let mut out = listing_room();
     let q = run_last(img, &mut out, flushed(r));
     let at = q.at;
     if !write_first(&out, at) {
         return false;
     }
-    let mut list = [0u8; LIST_BYTES];
+    let mut list = runs_room();
     let end = put_listing(img, &mut list, &mut out);
     write_first(&out, end)
 }

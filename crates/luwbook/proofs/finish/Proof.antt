@@ -1,7 +1,5 @@
 -- `luwbook::finish` meets its contract. Assumes nothing.
 use mathlib.Core.Bool.{false≢true}
-use Prim.Native.Nat.{ℕ}
-use lib.ListN.{length-replicate}
 use borrow.Author.Needs.{needs}
 use Rattle.luwbook.specs.Reached.{by-last}
 use Rattle.luwbook.proofs.Laws.{writable, runs-writable, shown}
@@ -14,7 +12,8 @@ returns c = λ e. absurd (false≢true e)
 write-first-requires : tie.Need-write-first-requires
 write-first-requires c κs =
     let ran = c .before .before .before .before in
-    let was = ran .before .before .before .before .before .before .before .before .pre .1 in
+    let room = ran .before .before .before .before in
+    let was = room .before .before .before .before .before .pre .1 in
     writable (shown (ran .before .flushed .ensures .0) (ran .run-last .ensures .0) (was .stands) .printed) (by-last (was .reached))
 
 returns-2 : tie.Need-returns-2
@@ -23,32 +22,25 @@ returns-2 c = λ e. absurd (false≢true e)
 write-first-requires-2 : tie.Need-write-first-requires-2
 write-first-requires-2 c κs =
     let put = c .before .before .before in
-    let ran = put .before .before .before .before .before .before .before .before .before .before in
-    let was = ran .before .before .before .before .before .before .before .before .pre .1 in
+    let list = put .before .before .before .before in
+    let wrote = list .before .before in
+    let ran = wrote .before .before .before .before .before in
+    let room = ran .before .before .before .before in
+    let was = room .before .before .before .before .before .pre .1 in
     runs-writable _ (was .reached) (shown (ran .before .flushed .ensures .0) (ran .run-last .ensures .0) (was .stands) .image)
-    (length-replicate {A = ℕ} 22656 0) (put .put-listing .ensures)
+    (list .runs-room .ensures) (put .put-listing .ensures)
 
 returns-3 : tie.Need-returns-3
 returns-3 c =
-    let ran = c .before .before .before .before .before .before .before .before .before .before .before .before .before .before in
+    let put = c .before .before .before .before in
+    let list = put .before .before .before .before in
+    let wrote = list .before .before in
+    let ran = wrote .before .before .before .before .before in
     λ e g s. shown (ran .before .flushed .ensures .0) (ran .run-last .ensures .0) s .image
 
 pub finish-spec : {M : Type 1} → statement M
 finish-spec =
     tie.close
-    (tie.spec
-    returns
-    (λ c. search needs)
-    (λ c κs. search needs)
-    (λ c κs. search needs)
-    (λ c. search needs)
-    write-first-requires
-    (λ c. search needs)
-    returns-2
-    (λ c. search needs)
-    (λ c. search needs)
-    (λ c κs. search needs)
-    (λ c. search needs)
-    write-first-requires-2
-    (λ c. search needs)
-    returns-3)
+    (tie.spec returns (λ c κs. search needs) (λ c. search needs) (λ c κs. search needs) (λ c κs. search needs)
+    (λ c. search needs) write-first-requires (λ c. search needs) returns-2 (λ c κs. search needs) (λ c. search needs)
+    (λ c. search needs) (λ c κs. search needs) (λ c. search needs) write-first-requires-2 (λ c. search needs) returns-3)

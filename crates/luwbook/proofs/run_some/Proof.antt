@@ -12,8 +12,8 @@ returns c = ran-failed (λ l. omega (arith, c .before .if1 .taken)) (c .stopped 
 write-first-requires : tie.Need-write-first-requires
 write-first-requires c κs =
     let ran = c .before .before .before .before in
-    let start = ran .before .before .before .before .before .before .before .before in
-    let was = start .pre .1 in
+    let room = ran .before .before .before .before in
+    let was = room .before .before .before .before .before .pre .1 in
     writable (shown (ran .before .flushed .ensures .0) (ran .run-piece .ensures .0) (was .stands) .printed) (by-piece (was .reached) _)
 
 returns-2 : tie.Need-returns-2
@@ -26,13 +26,5 @@ returns-2 c =
 pub run-some-spec : {M : Type 1} → statement M
 run-some-spec =
     tie.close
-    (tie.spec
-    (λ c κs. search needs)
-    returns
-    (λ c. search needs)
-    (λ c κs. search needs)
-    (λ c κs. search needs)
-    (λ c. search needs)
-    write-first-requires
-    (λ c. search needs)
-    returns-2)
+    (tie.spec (λ c κs. search needs) returns (λ c κs. search needs) (λ c. search needs) (λ c κs. search needs)
+    (λ c κs. search needs) (λ c. search needs) write-first-requires (λ c. search needs) returns-2)

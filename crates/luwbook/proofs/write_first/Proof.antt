@@ -14,9 +14,4 @@ returns-2 c = λ z. absurd (c .before .before .before .if1 .left z)
 pub write-first-spec : {M : Type 1} → statement M
 write-first-spec =
     tie.close
-    (tie.spec
-    (λ c. search needs)
-    slice-aggregate-write-all
-    (λ c κs. search needs)
-    (λ c. search needs)
-    returns-2)
+    (tie.spec (λ c. search needs) slice-aggregate-write-all (λ c κs. search needs) (λ c. search needs) returns-2)

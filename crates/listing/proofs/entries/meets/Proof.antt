@@ -20,9 +20,7 @@ returns c =
 pub meets-spec : {M : Type 1} → statement M
 meets-spec =
     tie.close
-    (tie.spec
-    (λ c κs. search needs)
+    (tie.spec (λ c κs. search needs)
     (λ c κs. omega (arith, known c))
     (λ c κs. let l = known (c .before) in (l .size, (l .within, l .number)))
-    (λ c κs. search needs)
-    returns)
+    (λ c κs. search needs) returns)

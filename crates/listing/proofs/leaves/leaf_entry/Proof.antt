@@ -32,11 +32,5 @@ returns-2 c =
 pub leaf-entry-spec : {M : Type 1} → statement M
 leaf-entry-spec =
     tie.close
-    (tie.spec
-    (λ c κs. search needs)
-    returns
-    (λ c κs. search needs)
-    (λ c κs. search needs)
-    run-met-requires
-    (λ c. search needs)
-    returns-2)
+    (tie.spec (λ c κs. search needs) returns (λ c κs. search needs) (λ c κs. search needs) run-met-requires
+    (λ c. search needs) returns-2)

@@ -35,11 +35,6 @@ returns c = turning-all _ _ _ (c .before .loop .inv) (c .loop-test .left)
 pub leaf-page-spec : {M : Type 1} → statement M
 leaf-page-spec =
     tie.close
-    (tie.spec Inv-loop μ-loop
-    loop-holds
-    leaf-entry-requires
-    (λ c. omega arith)
-    (λ c. omega arith)
-    loop-again
+    (tie.spec Inv-loop μ-loop loop-holds leaf-entry-requires (λ c. omega arith) (λ c. omega arith) loop-again
     (λ c. c .before .loop .inv .so-far .same)
     returns)

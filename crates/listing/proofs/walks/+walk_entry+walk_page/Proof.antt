@@ -80,15 +80,11 @@ pub +walk-entry+walk-page-spec : {M : Type 1} → statement M
     λ t. walk-page-lts.spec
     (opened-reads.Asked, opened-reads.Learnt, leaf-page-reads.Asked, leaf-page-reads.Learnt, walk-entry-below t, walk-entry.Post)
     (walk-page-at t)
-    walk-page.Post
-    walk-page-Inv-loop
-    walk-page-μ-loop
+    walk-page.Post walk-page-Inv-loop walk-page-μ-loop
     -- opened-requires
     (λ c κs. let pre = c .before .before .pre .1 in (pre .0, room-known _ _ _ (pre .1)))
-    -- enum-known-n
-    (λ c. search needs)
-    -- enum-told
-    (λ c. search needs)
+    -- enum-known-n, enum-told
+    (λ c. search needs) (λ c. search needs)
     -- returns
     (λ c. rw (opened-unfit _ _ _ (sym (c .enum-told .given .1) ∙ c .before .before .opened .ensures)) (does-stopped _ _ _))
     -- leaf-page-requires
@@ -112,10 +108,8 @@ pub +walk-entry+walk-page-spec : {M : Type 1} → statement M
     let start = loop .before .before .before .before .before .before .before .before .before in
     let l = c .before .loop-test .taken in
     (omega (arith, start .pre .0), (start .pre .1 .0, (turning-inside _ _ _ (loop .loop .inv) l, (omega (arith, loop .before .if1 .left), turning-room _ _ _ (loop .loop .inv) l)))))
-    -- enum-known-next
-    (λ c. search needs)
-    -- enum-told-2
-    (λ c. search needs)
+    -- enum-known-next, enum-told-2
+    (λ c. search needs) (λ c. search needs)
     -- same-length-2
     (λ c. omega (arith, c .before .before .before .before .walk-entry .kept))
     -- returns-3
@@ -123,10 +117,8 @@ pub +walk-entry+walk-page-spec : {M : Type 1} → statement M
     let call = c .before .before .before .before in
     let inside = call .before .before in
     turning-unfit _ _ _ (inside .before .loop .inv) (inside .loop-test .taken) (rw (c .enum-told2 .given .1) at (call .walk-entry .ensures)))
-    -- add-i
-    (λ c. omega arith)
-    -- loop-less
-    (λ c. omega arith)
+    -- add-i, loop-less
+    (λ c. omega arith) (λ c. omega arith)
     -- loop-again
     (λ c.
     let call = c .before .before .before .before .before in

@@ -38,13 +38,6 @@ returns-4 c =
 pub luw-audit-spec : {M : Type 1} → statement M
 luw-audit-spec =
     tie.close
-    (tie.spec
-    (λ c κs. search needs)
-    returns
-    returns-2
-    (λ c κs. search needs)
+    (tie.spec (λ c κs. search needs) returns returns-2 (λ c κs. search needs)
     (λ c κs. fits (c .before .before .before .before .before))
-    (λ c. search needs)
-    returns-3
-    (λ c. search needs)
-    returns-4)
+    (λ c. search needs) returns-3 (λ c. search needs) returns-4)

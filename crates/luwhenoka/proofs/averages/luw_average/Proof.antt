@@ -31,9 +31,6 @@ returns-2 c = average-refused _ _ (c .before .before .luw-instant .ensures) (c .
 pub luw-average-spec : {M : Type 1} → statement M
 luw-average-spec =
     tie.close
-    (tie.spec
-    (λ c κs. search needs)
+    (tie.spec (λ c κs. search needs)
     (λ c κs. average-fits _ _ (c .before .before .luw-instant .ensures) (c .if1 .taken))
-    (λ c κs. search needs)
-    returns
-    returns-2)
+    (λ c κs. search needs) returns returns-2)

@@ -32,14 +32,7 @@ returns-3 c =
 pub luw-format-spec : {M : Type 1} → statement M
 luw-format-spec =
     tie.close
-    (tie.spec
-    (λ c κs. search needs)
-    (λ c κs. search needs)
-    (λ c κs. search needs)
-    (λ c. search needs)
-    returns
-    (λ c. search needs)
-    returns-2
+    (tie.spec (λ c κs. search needs) (λ c κs. search needs) (λ c κs. search needs) (λ c. search needs) returns
+    (λ c. search needs) returns-2
     (λ c κs. fits (c .before .before))
-    (λ c. search needs)
-    returns-3)
+    (λ c. search needs) returns-3)

@@ -16,18 +16,23 @@ use Rattle.luwhenoka.proofs.Laws.Instants.{instant-16, instant-12, inst
 use Rattle.luwhenoka.proofs.instants.luw_instant.Statement.{statement}
 use Rattle.luwhenoka.proofs.instants.luw_instant.Tie as tie
 
-fits : (c : tie.Else1) → length-ok 12 (c .before .before .before .args .img .now) ≡ true
+-- where the length had been found to fit, and the call's own start
+abbrev sized : tie.After-h → tie.Else1
+sized c = c .before .before .before .before
+
+abbrev began : tie.Else1 → tie.Start
+began c = c .before .before .before
+
+fits : (c : tie.Else1) → length-ok 12 (began c .args .img .now) ≡ true
 fits c = sym (c .before .length-fits .ensures) ∙ not-false _ (c .if1 .left)
 
-before-end : (c : tie.Else2) → c .before .before .before .before .args .t < END
+before-end : (c : tie.Else2) → began (c .before) .args .t < END
 before-end c = omega (arith, c .if2 .left)
 
-headed : (c : tie.After-h) → Opened (c .before .before .before .before .before .before .before .args .img .now) (c .h .given .0 .0)
-headed c =
-    let read = c .before .before in
-    opened _ (fits (read .before .before)) (sym (c .h .given .1) ∙ read .open-head .ensures)
+headed : (c : tie.After-h) → Opened (began (sized c) .args .img .now) (c .h .given .0 .0)
+headed c = opened _ (fits (sized c)) (sym (c .h .given .1) ∙ c .before .before .open-head .ensures)
 
-head-fits : (c : tie.After-h) → head-ok 12 (c .before .before .before .before .before .before .before .args .img .now) ≡ true
+head-fits : (c : tie.After-h) → head-ok 12 (began (sized c) .args .img .now) ≡ true
 unfolding head-ok
 head-fits c = headed c .fit
 
@@ -44,7 +49,9 @@ returns-3 c =
     let told = c .before in
     let read = told .before .before in
     c .refused3 .ensures
-    ∙ ap instant-answer (instant-head _ _ (fits (read .before .before)) (before-end (read .before)) (shut _ (sym (told .enum-told .given .1) ∙ read .open-head .ensures)))
+    ∙ ap instant-answer
+    (instant-head _ _ (fits (read .before .before)) (before-end (read .before))
+    (shut _ (sym (told .enum-told .given .1) ∙ read .open-head .ensures)))
 
 returns-4 : tie.Need-returns-4
 unfolding looked
@@ -71,21 +78,8 @@ returns-5 c =
 pub luw-instant-spec : {M : Type 1} → statement M
 luw-instant-spec =
     tie.close
-    (tie.spec
-    (λ c κs. search needs)
-    (λ c κs. search needs)
-    returns
-    (λ c κs. search needs)
-    returns-2
+    (tie.spec (λ c κs. search needs) (λ c κs. search needs) returns (λ c κs. search needs) returns-2
     (λ c κs. fits (c .before))
-    (λ c. search needs)
-    (λ c. search needs)
-    (λ c κs. search needs)
-    returns-3
+    (λ c. search needs) (λ c. search needs) (λ c κs. search needs) returns-3
     (λ c κs. headed (c .before))
-    (λ c. search needs)
-    (λ c κs. search needs)
-    (λ c. search needs)
-    (λ c κs. search needs)
-    returns-4
-    returns-5)
+    (λ c. search needs) (λ c κs. search needs) (λ c. search needs) (λ c κs. search needs) returns-4 returns-5)

@@ -24,25 +24,33 @@ kept : {r : ListingAnswer} (n : ℕ) (out : List ℕ) → r ≡ record { number 
 unfolding listed
 kept n out e = ap (λ (r : ListingAnswer). record { number = r .number; runs = r .runs; output = out }) e
 
--- any number that b can hold is at most END
-ends : (c : tie.Else2) → c .before .before .before .before .before .args .b ≤ END
-ends c = omega (arith, c .before .before .before .before .before .fits .b)
+-- where the length had been found to fit, and the call's own start
+abbrev sized : tie.After-h → tie.Else1
+sized c = c .before .before .before .before
 
-fits : (c : tie.Else1) → length-ok 12 (c .before .before .before .before .args .img .now) ≡ true
+abbrev began : tie.Else1 → tie.Start
+began c = c .before .before .before .before
+
+-- any number that b can hold is at most END
+ends : (c : tie.Else2) → began (c .before) .args .b ≤ END
+ends c = omega (arith, began (c .before) .fits .b)
+
+fits : (c : tie.Else1) → length-ok 12 (began c .args .img .now) ≡ true
 fits c = sym (c .before .length-fits .ensures) ∙ not-false _ (c .if1 .left)
 
-headed : (c : tie.After-h) → Opened (c .before .before .before .before .before .before .before .before .args .img .now) (c .h .given .0 .0)
-headed c =
-    let read = c .before .before in
-    opened _ (fits (read .before .before)) (sym (c .h .given .1) ∙ read .open-head .ensures)
+headed : (c : tie.After-h) → Opened (began (sized c) .args .img .now) (c .h .given .0 .0)
+headed c = opened _ (fits (sized c)) (sym (c .h .given .1) ∙ c .before .before .open-head .ensures)
 
-head-fits : (c : tie.After-h) → head-ok 12 (c .before .before .before .before .before .before .before .before .args .img .now) ≡ true
+head-fits : (c : tie.After-h) → head-ok 12 (began (sized c) .args .img .now) ≡ true
 unfolding head-ok
 head-fits c = headed c .fit
 
 -- the first pass found every page fit, and this many runs
+abbrev at-first : tie.After-runs → tie.Start
+at-first c = began (sized (c .before .before .before .before))
+
 passed : (c : tie.After-runs)
-    → Counted-as (c .before .before .before .before .before .before .before .before .before .before .before .before .args .img .now) (c .before .before .before .before .before .before .before .before .before .before .before .before .args .a) (c .before .before .before .before .before .before .before .before .before .before .before .before .args .b) (c .runs .given .0 .0)
+    → Counted-as (at-first c .args .img .now) (at-first c .args .a) (at-first c .args .b) (c .runs .given .0 .0)
 passed c = counted _ _ _ (sym (c .runs .given .1) ∙ c .before .before .count-runs .ensures)
 
 returns : tie.Need-returns
@@ -105,25 +113,9 @@ returns-6 c =
 pub luw-listing-spec : {M : Type 1} → statement M
 luw-listing-spec =
     tie.close
-    (tie.spec
-    (λ c κs. search needs)
-    (λ c κs. search needs)
-    returns
-    (λ c κs. search needs)
-    returns-2
+    (tie.spec (λ c κs. search needs) (λ c κs. search needs) returns (λ c κs. search needs) returns-2
     (λ c κs. fits (c .before))
-    (λ c. search needs)
-    (λ c. search needs)
-    (λ c κs. search needs)
-    returns-3
+    (λ c. search needs) (λ c. search needs) (λ c κs. search needs) returns-3
     (λ c κs. headed (c .before))
-    (λ c. search needs)
-    (λ c. search needs)
-    (λ c κs. search needs)
-    returns-4
-    (λ c. search needs)
-    (λ c κs. search needs)
-    returns-5
-    write-runs-requires
-    (λ c. search needs)
-    returns-6)
+    (λ c. search needs) (λ c. search needs) (λ c κs. search needs) returns-4 (λ c. search needs) (λ c κs. search needs)
+    returns-5 write-runs-requires (λ c. search needs) returns-6)

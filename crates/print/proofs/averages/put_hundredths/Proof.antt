@@ -34,14 +34,11 @@ returns c =
 pub put-hundredths-spec : {M : Type 1} → statement M
 put-hundredths-spec =
     tie.close
-    (tie.spec
-    (λ c κs. search needs)
+    (tie.spec (λ c κs. search needs)
     (λ c κs. omega (arith, behind-number (c .before .before .before)))
-    (λ c. search needs)
-    (λ c. search needs)
+    (λ c. search needs) (λ c. search needs)
     (λ c κs. omega (arith, behind-point (c .before .before .before)))
-    (λ c. search needs)
-    (λ c. search needs)
+    (λ c. search needs) (λ c. search needs)
     (λ c κs. omega (arith, behind-tenths (c .before .before .before)))
     (λ c. put-length (returns c))
     returns)

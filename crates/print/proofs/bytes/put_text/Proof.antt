@@ -23,16 +23,9 @@ loop-again c =
 pub put-text-spec : {M : Type 1} → statement M
 put-text-spec =
     tie.close
-    (tie.spec
-    Inv-loop
-    μ-loop
+    (tie.spec Inv-loop μ-loop
     (λ c. copied-none _ _ _ (c .pre))
-    (λ c. omega arith)
-    (λ c. omega arith)
-    slice-write-out
-    (λ c. omega arith)
-    (λ c. omega arith)
-    loop-again
+    (λ c. omega arith) (λ c. omega arith) slice-write-out (λ c. omega arith) (λ c. omega arith) loop-again
     (λ c. omega arith)
     (λ c. put-length (c .before .loop .inv .put))
     (λ c. copied-all (c .loop-test .left) (c .before .loop .inv)))

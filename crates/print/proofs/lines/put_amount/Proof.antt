@@ -25,8 +25,5 @@ put-byte-requires c κs =
 pub put-amount-spec : {M : Type 1} → statement M
 put-amount-spec =
     tie.close
-    (tie.spec
-    (λ c κs. search needs)
-    put-byte-requires
-    (λ c. search needs)
+    (tie.spec (λ c κs. search needs) put-byte-requires (λ c. search needs)
     (λ c. put-then (number (c .before .before .before .before .before .before)) (c .before .before .put-byte .ensures)))

@@ -15,8 +15,5 @@ put-byte-requires c κs =
 pub put-instant-spec : {M : Type 1} → statement M
 put-instant-spec =
     tie.close
-    (tie.spec
-    (λ c κs. search needs)
-    put-byte-requires
-    (λ c. search needs)
+    (tie.spec (λ c κs. search needs) put-byte-requires (λ c. search needs)
     (λ c. put-then (c .before .before .before .before .before .before .put-decimal .ensures) (c .before .before .put-byte .ensures)))

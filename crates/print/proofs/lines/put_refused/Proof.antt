@@ -41,11 +41,7 @@ returns c =
 pub put-refused-spec : {M : Type 1} → statement M
 put-refused-spec =
     tie.close
-    (tie.spec
-    (λ c. search needs)
-    (λ c κs. search needs)
-    (λ c κs. search needs)
-    (λ c. search needs)
+    (tie.spec (λ c. search needs) (λ c κs. search needs) (λ c κs. search needs) (λ c. search needs)
     (λ c κs. omega (arith, behind-number (c .before .before .before .before)))
     (λ c κs. omega (arith, behind-refused (c .before .before .before)))
     (λ c κs. omega (arith, behind-which (c .before .before .before)))

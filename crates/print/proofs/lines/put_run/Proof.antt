@@ -62,8 +62,7 @@ returns c =
 pub put-run-spec : {M : Type 1} → statement M
 put-run-spec =
     tie.close
-    (tie.spec
-    (λ c κs. search needs)
+    (tie.spec (λ c κs. search needs)
     (λ c κs. omega (arith, behind-start (c .before .before .before)))
     (λ c κs. omega (arith, behind-end (c .before .before .before)))
     cast-put-amount

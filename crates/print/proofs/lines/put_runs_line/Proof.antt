@@ -26,10 +26,6 @@ returns c =
 pub put-runs-line-spec : {M : Type 1} → statement M
 put-runs-line-spec =
     tie.close
-    (tie.spec
-    (λ c. search needs)
-    (λ c κs. search needs)
-    (λ c κs. search needs)
-    put-byte-requires
+    (tie.spec (λ c. search needs) (λ c κs. search needs) (λ c κs. search needs) put-byte-requires
     (λ c. put-length (returns c))
     returns)

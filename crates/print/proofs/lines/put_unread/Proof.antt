@@ -26,11 +26,6 @@ returns c =
 pub put-unread-spec : {M : Type 1} → statement M
 put-unread-spec =
     tie.close
-    (tie.spec
-    (λ c. search needs)
-    (λ c κs. search needs)
-    (λ c κs. search needs)
-    (λ c. search needs)
-    put-text-requires-2
+    (tie.spec (λ c. search needs) (λ c κs. search needs) (λ c κs. search needs) (λ c. search needs) put-text-requires-2
     (λ c. put-length (returns c))
     returns)

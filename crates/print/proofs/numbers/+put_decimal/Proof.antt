@@ -24,41 +24,6 @@ put-decimal-at t = and 1 put-decimal-kinds.ps (is 1 put-decimal-kinds.ps μ-put-
 abbrev put-decimal-below : ℕ → In 1 put-decimal-kinds.ps
 put-decimal-below t = and 1 put-decimal-kinds.ps (falls 1 put-decimal-kinds.ps _<_ μ-put-decimal t) put-decimal.Pre
 
--- one digit
-returns : (t : ℕ) → put-decimal-lts.Need-returns (
-  put-byte-reads.Asked,
-  put-byte-reads.Learnt,
-  put-decimal-below t,
-  put-decimal.Post,
-) (put-decimal-at t) put-decimal.Post
-returns t c =
-    let call = c .before .before in
-    put-as (sym (decimal-one _ (call .before .before .if1 .taken))) (call .put-byte .ensures)
-
--- the last digit, behind the others
-last-requires : (t : ℕ) → put-decimal-lts.Need-put-byte-requires-2 (
-  put-byte-reads.Asked,
-  put-byte-reads.Learnt,
-  put-decimal-below t,
-  put-decimal.Post,
-) (put-decimal-at t) put-decimal.Post
-last-requires t c κs =
-    let others = c .before .before .before in
-    let before = length-before _ (others .before .before .if1 .left) (omega arith) in
-    omega (arith, others .put-decimal .ensures .place, others .put-decimal .kept .0)
-
-returns-2 : (t : ℕ) → put-decimal-lts.Need-returns-2 (
-  put-byte-reads.Asked,
-  put-byte-reads.Learnt,
-  put-decimal-below t,
-  put-decimal.Post,
-) (put-decimal-at t) put-decimal.Post
-returns-2 t c =
-    let call = c .before .before in
-    let others = call .before .before .before .before in
-    put-as (sym (decimal-more _ (others .before .before .if1 .left) (omega arith)))
-    (put-then (others .put-decimal .ensures) (call .put-byte2 .ensures))
-
 pub +put-decimal-spec : {M : Type 1} → statement M
 +put-decimal-spec = close μ-put-decimal λ t. put-decimal-lts.spec (
   put-byte-reads.Asked,
@@ -67,15 +32,22 @@ pub +put-decimal-spec : {M : Type 1} → statement M
   put-decimal.Post,
 )
     (put-decimal-at t)
-    put-decimal.Post
-    (λ c. omega arith)
-    (λ c. omega arith)
-    (λ c κs. omega arith)
-    (λ c. search needs)
-    (returns t)
+    put-decimal.Post (λ c. omega arith) (λ c. omega arith) (λ c κs. omega arith) (λ c. search needs)
+    -- returns: one digit
+    (λ c.
+    let call = c .before .before in
+    put-as (sym (decimal-one _ (call .before .before .if1 .taken))) (call .put-byte .ensures))
     (λ c κs. (omega arith, omega arith))
-    (λ c. omega arith)
-    (λ c. omega arith)
-    (last-requires t)
+    (λ c. omega arith) (λ c. omega arith)
+    -- put-byte-requires-2: the last digit, behind the others
+    (λ c κs.
+    let others = c .before .before .before in
+    let before = length-before _ (others .before .before .if1 .left) (omega arith) in
+    omega (arith, others .put-decimal .ensures .place, others .put-decimal .kept .0))
     (λ c. search needs)
-    (returns-2 t)
+    -- returns-2
+    (λ c.
+    let call = c .before .before in
+    let others = call .before .before .before .before in
+    put-as (sym (decimal-more _ (others .before .before .if1 .left) (omega arith)))
+    (put-then (others .put-decimal .ensures) (call .put-byte2 .ensures)))

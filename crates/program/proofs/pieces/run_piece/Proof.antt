@@ -42,15 +42,5 @@ returns c = (come-all (c .before .loop .inv) (c .loop-test .left), come-within (
 pub run-piece-spec : {M : Type 1} → statement M
 run-piece-spec =
     tie.close
-    (tie.spec
-    Inv-loop
-    μ-loop
-    loop-holds
-    (λ c. search needs)
-    run-byte-requires
-    (λ c. search needs)
-    (λ c. omega arith)
-    loop-again
-    same-length
-    same-length-2
-    returns)
+    (tie.spec Inv-loop μ-loop loop-holds (λ c. search needs) run-byte-requires (λ c. search needs) (λ c. omega arith)
+    loop-again same-length same-length-2 returns)

@@ -34,13 +34,5 @@ returns c = printing-all (c .before .loop .inv) (c .loop-test .left)
 pub put-runs-spec : {M : Type 1} → statement M
 put-runs-spec =
     tie.close
-    (tie.spec
-    Inv-loop
-    μ-loop
-    loop-holds
-    put-one-requires
-    (λ c. search needs)
-    (λ c. omega arith)
-    loop-again
-    same-length
+    (tie.spec Inv-loop μ-loop loop-holds put-one-requires (λ c. search needs) (λ c. omega arith) loop-again same-length
     returns)

@@ -37,16 +37,6 @@ returns c = (summed-all (c .before .loop .inv) (c .loop-test .left), summed-smal
 pub number-from-spec : {M : Type 1} → statement M
 number-from-spec =
     tie.close
-    (tie.spec
-    Inv-loop
-    μ-loop
+    (tie.spec Inv-loop μ-loop
     (λ c. summed-none (c .args .ds .now) (c .pre))
-    mul-n
-    (λ c. omega arith)
-    sub-n
-    cast-n
-    add-n
-    (λ c. omega arith)
-    (λ c. omega arith)
-    loop-again
-    returns)
+    mul-n (λ c. omega arith) sub-n cast-n add-n (λ c. omega arith) (λ c. omega arith) loop-again returns)

@@ -24,9 +24,7 @@ returns-2 c line h = c .parse .ensures ∙ ap (λ l. line-from (cut-at 32 l)) (f
 pub parse-fed-spec : {M : Type 1} → statement M
 parse-fed-spec =
     tie.close
-    (tie.spec
-    returns
+    (tie.spec returns
     (λ c. omega (arith, size (c .before .before)))
     (λ c. sym (length-take-le _ _ (omega (arith, size (c .before .before .before)))))
-    (λ c κs. search needs)
-    returns-2)
+    (λ c κs. search needs) returns-2)

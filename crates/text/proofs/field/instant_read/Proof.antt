@@ -19,8 +19,6 @@ returns-2 c =
 pub instant-read-spec : {M : Type 1} → statement M
 instant-read-spec =
     tie.close
-    (tie.spec
-    (λ c κs. search needs)
+    (tie.spec (λ c κs. search needs)
     (λ c. instant-not _ (sym (c .before .number-read .ensures) ∙ not-true _ (c .if1 .taken)))
-    number-from-requires
-    returns-2)
+    number-from-requires returns-2)

@@ -55,11 +55,5 @@ value-from-spec =
     (λ c. some (c .before .before))
     (λ c. some (c .before .before .before))
     (λ c. some (c .before .before .before))
-    (λ c. search needs)
-    number-from-requires
-    (λ c. search needs)
-    sub-result
-    returns
-    number-from-requires-2
-    (λ c. search needs)
-    returns-2)
+    (λ c. search needs) number-from-requires (λ c. search needs) sub-result returns number-from-requires-2
+    (λ c. search needs) returns-2)

@@ -18,11 +18,6 @@ value-read-spec =
     tie.close
     (tie.spec
     (λ c. sym (value-none _ (c .if1 .taken)))
-    (λ c. search needs)
-    (λ c. search needs)
-    (λ c. search needs)
-    (λ c. search needs)
-    (λ c κs. search needs)
-    returns-2
+    (λ c. search needs) (λ c. search needs) (λ c. search needs) (λ c. search needs) (λ c κs. search needs) returns-2
     (λ c κs. search needs)
     (λ c. c .number-read2 .ensures ∙ sym (value-plain _ (omega arith) (c .before .if2 .left))))

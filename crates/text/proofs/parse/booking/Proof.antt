@@ -67,17 +67,9 @@ returns-5 c = read (c .before) (ap side-of (c .if4 .left))
 pub booking-spec : {M : Type 1} → statement M
 booking-spec =
     tie.close
-    (tie.spec
-    (λ c κs. search needs)
-    returns
-    (λ c κs. search needs)
-    returns-2
-    (λ c κs. search needs)
-    returns-3
+    (tie.spec (λ c κs. search needs) returns (λ c κs. search needs) returns-2 (λ c κs. search needs) returns-3
     (λ c κs. value (c .before .before .before .before))
     (λ c κs. instant-digits _ (start (c .before .before .before)))
     cast-start
     (λ c κs. instant-digits _ (end (c .before .before)))
-    cast-end
-    returns-4
-    returns-5)
+    cast-end returns-4 returns-5)

@@ -25,11 +25,4 @@ returns-4 c = sym (sign-other _ _ _ _ (c .before .before .before .if1 .left) (c 
 pub signed-line-spec : {M : Type 1} → statement M
 signed-line-spec =
     tie.close
-    (tie.spec
-    returns
-    (λ c. search needs)
-    (λ c κs. search needs)
-    returns-2
-    (λ c κs. search needs)
-    returns-3
-    returns-4)
+    (tie.spec returns (λ c. search needs) (λ c κs. search needs) returns-2 (λ c κs. search needs) returns-3 returns-4)
