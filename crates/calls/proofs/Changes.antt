@@ -13,7 +13,8 @@ use Rattle.rule.proofs.Signed.{natAbs-neg}
 use Rattle.rule.proofs.Laws.{value-ok-is, value-or-none-is}
 use Rattle.calls.specs.Changes.{Side, entering, withdrawing, withdraws, effect}
 
-pub effective : (kind : ℕ) (side : Side) (v : ℤ) → value-ok v ≡ true → withdraws side && not (eqb kind 1) ≡ false → Effective kind (effect side v)
+pub effective : (kind : ℕ) (side : Side) (v : ℤ) → value-ok v ≡ true → withdraws side && not (eqb kind 1) ≡ false
+    → Effective kind (effect side v)
 unfolding effect withdraws
 effective kind entering v ok sided =
     let h : natAbs v ≤ most-value = value-ok-is v .0 ok in

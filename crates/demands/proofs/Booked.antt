@@ -145,7 +145,8 @@ module _ {half : ℕ} (wide : Wide half) (side : Side) (v : ℤ) (s e : ℕ) (im
   far-page : (p : ℕ) → X .head .pages ≤ p → page-at half (image-bytes half Z) p ≡ page-at half img p
   far-page p h = beyond half (image-bytes half Z) (X .head .pages) p size′ h ∙ sym (beyond half img (X .head .pages) p size h)
 
-  framed : (p : ℕ) → ¬ List·Memᴰ p (change-names half (combine (X .head .kind)) s end added X) → page-at half (image-bytes half Z) p ≡ page-at half img p
+  framed : (p : ℕ) → ¬ List·Memᴰ p (change-names half (combine (X .head .kind)) s end added X)
+      → page-at half (image-bytes half Z) p ≡ page-at half img p
   unfolding change-names
   framed zero h = absurd (h (List·Memᴰ·head refl))
   framed (suc p) h = go (decLe (X .head .pages) (suc p)) (c .frame (suc p) h)

@@ -93,7 +93,9 @@ module _ (half pages kind window : ℕ) (some : 1 ≤ half) (least : 2 ≤ pages
         kind = ap (λ (g : Head). g .kind) h ∙ unfold fresh in refl;
         window = ap (λ (g : Head). g .window) h ∙ unfold fresh in refl;
         changes = ap (λ (g : Head). g .changes) h ∙ unfold fresh in refl;
-        pairs = λ t below. ap (λ (r : Looked). r .pair) (look-written half X fresh-state some fresh-structure tall t .looked) ∙ fresh-pair _ t;
+        pairs =
+            λ t below.
+            ap (λ (r : Looked). r .pair) (look-written half X fresh-state some fresh-structure tall t .looked) ∙ fresh-pair _ t;
       }
 
 -- ---- format

@@ -125,7 +125,8 @@ module _ {half : ℕ} (two : 2 ≤ half) {B : Asked (Kid 0)} (cutting : Cuttable
   needed = ⊎-elim needed-first needed-both (le-or-lt END e)
 
 -- of the structure that a sound image has
-pub needed-good : {half kind changes : ℕ} → 2 ≤ half → (s e : ℕ) → s < e → e ≤ END → {X : Image} {Y : State} → Structure half kind changes X Y
+pub needed-good : {half kind changes : ℕ} → 2 ≤ half → (s e : ℕ) → s < e → e ≤ END → {X : Image} {Y : State}
+    → Structure half kind changes X Y
     → pages-needed half s e X ≡ pages-taken X (cuts half s e X)
 needed-good two s e lt end g = needed two leaf-cuttable s e lt end (g .shown) (structure-once g) (g .formed)
 
@@ -136,4 +137,5 @@ pub lacks-is : {half : ℕ} → 2 ≤ half → (s e : ℕ) → s < e → e ≤ E
 unfolding lacks-pages
 lacks-is {half} two s e lt end img ok =
     let X = image-of half img in
-    ap (ltb (X .head .chain + (X .head .pages - X .head .mark))) (needed-good two s e lt end (sound-good half img (omega arith) ok .structure))
+    let g = sound-good half img (omega arith) ok in
+    ap (ltb (X .head .chain + (X .head .pages - X .head .mark))) (needed-good two s e lt end (g .structure))

@@ -16,8 +16,8 @@ use Rattle.ready.proofs.Cuts.{structure-cuttable}
 use Rattle.ready.proofs.Spreads.{spreadable}
 use Rattle.ready.proofs.Heals.{structure-healable}
 
-module _ (s e : ℕ) (p : Pair) {X : Image} {Y : State} (g : Good 12 X Y) (f : Effective (X .head .kind) p) (few : X .head .changes < most-changes)
-    (enough : lacks-pages 12 s e X ≡ false) where
+module _ (s e : ℕ) (p : Pair) {X : Image} {Y : State} (g : Good 12 X Y) (f : Effective (X .head .kind) p)
+    (few : X .head .changes < most-changes) (enough : lacks-pages 12 s e X ≡ false) where
   two : 2 ≤ 12
   two = omega arith
 

@@ -1,5 +1,5 @@
--- An image with the structure is ready for a heal: each page on the way can be searched, a page that is left short has a neighbour, and the pairs
--- above the two can be combined into their entries. Assumes nothing.
+-- An image with the structure is ready for a heal: each page on the way can be searched, a page that is left short has a neighbour, and the
+-- pairs above the two can be combined into their entries. Assumes nothing.
 use Prim.Native.Nat.{ℕ, zero, suc, _+_, _*_, _-_, _≤_, _<_, _^_}
 use mathlib.Core.Path.{_≡_, refl, sym, ap, _∙_, subst, subst⁻¹}
 use mathlib.Core.Bool.{true}
@@ -105,7 +105,8 @@ sinkable-at : (kind changes : ℕ) → changes ≤ most-changes → (Z : Image) 
 sinkable-at kind changes slow Z l sums counts x s w j n i =
     let z = ent-at (suc l) (x .kid) j in
     subst⁻¹ (λ (e : Entry). Sinkable l e Z) (entry-is Z (suc l) x s j)
-    (sinkable kind changes slow Z l sums counts z (all-at j (no-ent (suc l)) (kids-shown (suc l) Z x s) n) i (all-at j (no-ent (suc l)) w n))
+    (sinkable kind changes slow Z l sums counts z (all-at j (no-ent (suc l)) (kids-shown (suc l) Z x s) n) i
+    (all-at j (no-ent (suc l)) w n))
 
 module _ (kind changes t : ℕ) (S : Supply) where
   abbrev rule : Pair → Pair → Pair

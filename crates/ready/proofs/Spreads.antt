@@ -148,6 +148,7 @@ module _ (q : Task) where
       END (root-ent (Y .tree)) X all (g .shown .below) (tree-apart X g) refl))
 
 -- The image that step C finds is ready for it, whatever the task's span, if its effect is one of the image's kind.
-pub spreadable : {kind changes : ℕ} {X : Image} {Y : State} (q : Task) → Effective kind (q .effect) → Structure 12 kind changes X Y → Spreadable q X
+pub spreadable : {kind changes : ℕ} {X : Image} {Y : State} (q : Task) → Effective kind (q .effect) → Structure 12 kind changes X Y
+    → Spreadable q X
 spreadable {X = X} {Y = Y} q f g =
     record { least = omega (arith, g .shown .height); most = height-most X Y g; root = root-ready q X f g }

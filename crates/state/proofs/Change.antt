@@ -109,7 +109,9 @@ module _ {half : ℕ} (two : 2 ≤ half) (s e : ℕ) (p : Pair) {X : Image} {Y :
     after-E = heal-keeps two before-E e
 
     abbrev names : List ℕ
-    names = cut-names half rule s X ++ (cut-names half rule e A ++ (spread-names half rule s e B ++ (heal-names half rule s C ++ heal-names half rule e D)))
+    names =
+        cut-names half rule s X
+        ++ (cut-names half rule e A ++ (spread-names half rule s e B ++ (heal-names half rule s C ++ heal-names half rule e D)))
 
     five : Stepped X E Y next names
     unfolding cuts change

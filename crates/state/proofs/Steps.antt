@@ -61,7 +61,8 @@ module _ (half kind n : ℕ) where
         values = λ k. heal-within (values-bounded kind k) 0 half t Y (b .values k);
       }
 
-spread-bounds : (kind n s e : ℕ) (p : Pair) (Y : State) → Effective kind p → Bounds kind n (Y .tree) → Bounds kind (suc n) (spread (combine kind) s e p Y .tree)
+spread-bounds : (kind n s e : ℕ) (p : Pair) (Y : State) → Effective kind p → Bounds kind n (Y .tree)
+    → Bounds kind (suc n) (spread (combine kind) s e p Y .tree)
 spread-bounds kind n s e p Y f b =
     let T : Tree = spread (combine kind) s e p Y .tree in
     record {
@@ -154,8 +155,8 @@ module _ {half kind n : ℕ} (two : 2 ≤ half) {X : Image} {Y : State} (g : Str
 
     pub heal-keeps : Structure half kind n (heal-x half rule t X) (heal half rule t Y)
     heal-keeps =
-        kept g heal-step (heal-formed two leaf-pairless leaf-joinable (lawful kind) t Y (g .formed)) (heal-bounds half kind n t Y (g .bounds))
-        (g .changes-most)
+        kept g heal-step (heal-formed two leaf-pairless leaf-joinable (lawful kind) t Y (g .formed))
+        (heal-bounds half kind n t Y (g .bounds)) (g .changes-most)
         (omega (arith, heal-gives half two rule t Y (g .formed) .mark, g .shown .supplied .mark, g .ranges .mark-most))
 
   -- C
@@ -178,7 +179,8 @@ module _ {half kind n : ℕ} (two : 2 ≤ half) {X : Image} {Y : State} (g : Str
       let U : State = cut half s Y in
       let d = cut-step s in
       let u = g .shown .supplied in
-      let v = cut-is half rule e A U (d .shown) (once-after d (structure-once g)) (formed-full half Leaf two U (cut-leaves s)) .shown .supplied in
+      let again = cut-is half rule e A U (d .shown) (once-after d (structure-once g)) (formed-full half Leaf two U (cut-leaves s)) in
+      let v = again .shown .supplied in
       let b = cut-takes half two e U (cut-leaves s) .1 in
       let t = taken-both Y U (cut half e U) (cut-takes half two s Y (g .formed) .1) b in
       let k = taken-number Y (cut half e U) t in

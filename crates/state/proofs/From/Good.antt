@@ -54,7 +54,8 @@ module _ (half : ℕ) (img : List ℕ) (f : Sound-facts half img) where
         window-fits = g .window-fits;
       }
 
-  pub sound-structure : 1 ≤ half → Structure half (image-of half img .head .kind) (image-of half img .head .changes) (image-of half img) (state-in half img)
+  pub sound-structure : 1 ≤ half
+      → Structure half (image-of half img .head .kind) (image-of half img .head .changes) (image-of half img) (state-in half img)
   unfolding image-of
   sound-structure some =
       record {

@@ -104,7 +104,8 @@ pub record Answered (half : ℕ) (img : List ℕ) (t : ℕ) (Y : State) : Type 0
   pub head : head-fit half (pages-in half img) (page-at half img 0) ≡ true
   pub looked : look-up half img t ≡ answer (pair-in (combine (the-head half img .kind)) (Y .tree .level) t (Y .tree .ents)) (the-head half img .height)
 
-pub look-good : (half : ℕ) (img : List ℕ) → 1 ≤ half → Sound-facts half img → (Y : State) → Shown (image-of half img) Y → (t : ℕ) → Answered half img t Y
+pub look-good : (half : ℕ) (img : List ℕ) → 1 ≤ half → Sound-facts half img → (Y : State) → Shown (image-of half img) Y → (t : ℕ)
+    → Answered half img t Y
 unfolding look-up image-of root-ent root-place
 look-good half img some f Y shown t =
     let h : Head = the-head half img in

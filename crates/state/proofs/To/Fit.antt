@@ -142,7 +142,8 @@ module _ (half : ℕ) (h : Head) (pages : ℕ → Cell) where
         → Read half (page-at half img p) l es
     unfolding cell-bytes
     page-read l sums counts lo hi p es m low P =
-        read half l es (P .most) (omega (arith, seg-length (P .spans))) low (entries-fit half h pages ranges slow l sums counts (P .spans) m) (page-at half img p)
+        read half l es (P .most) (omega (arith, seg-length (P .spans))) low
+        (entries-fit half h pages ranges slow l sums counts (P .spans) m) (page-at half img p)
         (written p (P .least) (P .below) ∙ ap (cell-bytes half) (P .page))
 
     pub fit-tree : (l sums counts lo hi p : ℕ) (at : Place) (es : Ents l) → Stands at l sums counts lo hi → hi ≤ END → l < free-level

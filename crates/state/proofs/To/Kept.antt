@@ -35,7 +35,8 @@ module _ (half : ℕ) (h : Head) (pages : ℕ → Cell) (ranges : Ranges h) (few
   kept-here l sums counts lo hi q es m low P =
       let n : length (bare es) ≡ length es = length-map es (λ x. x .entry) in
       rw (P .page)
-      (kept-tree half l (bare es) (omega arith) (omega (arith, seg-length (P .spans))) low (entries-fit half h pages ranges few l sums counts (P .spans) m))
+      (kept-tree half l (bare es) (omega arith) (omega (arith, seg-length (P .spans))) low
+      (entries-fit half h pages ranges few l sums counts (P .spans) m))
 
   pub kept-page : (l sums counts lo hi q : ℕ) (es : Ents l) → hi ≤ END → l < free-level → Paged half h pages l (Ready half h pages l sums counts) lo hi q es
       → ((a b : ℕ) (x : Ent (Kid l)) → b ≤ END → Ready half h pages l sums counts a b x → 1 ≤ times p (pages-under l x) → Kept half (pages p))

@@ -107,7 +107,8 @@ module _ {half kind changes : ℕ} {X : Image} {Y : State} (g : Structure half k
 
   pub page-free : (p : ℕ) → 1 ≤ times p (Y .supply .chain) → Freed (X .page) (X .head .pages) p
   page-free p m =
-      linked-free (X .head .pages) (omega (arith, g .ranges .pages-least)) p (λ r k. omega (arith, chain-inside r k, g .ranges .mark-most)) (g .shown .supplied .linked) m
+      linked-free (X .head .pages) (omega (arith, g .ranges .pages-least)) p (λ r k. omega (arith, chain-inside r k, g .ranges .mark-most))
+      (g .shown .supplied .linked) m
 
 -- ---- the cells, for the changes that the head counts
 
@@ -162,9 +163,11 @@ module _ {half : ℕ} {X : Image} {Y : State} (g : Structure half (X .head .kind
           let f : Freed (X .page) (X .head .pages) p = page-free g p c in
           rw (f .is) (kept-free half (f .next) (omega (arith, f .small, g .ranges .pages-most)))
       go (no k) (no c) =
-          kept-page half (X .head) (X .page) (g .ranges) (g .changes-most) p (Y .tree .level) 0 0 0 END (Y .tree .root) (Y .tree .ents) (omega arith)
-          (omega (arith, g .shown .height)) tree-ready
-          (λ a b x m r t. kept-under half (X .head) (X .page) (g .ranges) (g .changes-most) p (Y .tree .level) 0 0 a b x m (omega (arith, g .shown .height)) r t)
+          kept-page half (X .head) (X .page) (g .ranges) (g .changes-most) p (Y .tree .level) 0 0 0 END (Y .tree .root) (Y .tree .ents)
+          (omega arith) (omega (arith, g .shown .height)) tree-ready
+          (λ a b x m r t.
+          kept-under half (X .head) (X .page) (g .ranges) (g .changes-most) p (Y .tree .level) 0 0 a b x m
+          (omega (arith, g .shown .height)) r t)
           (omega (arith, held-is g p, g .once p l, unmarked))
         where
           unmarked : _≡_ {A = ℕ} (cond (leb (X .head .mark) p) 1 0) 0

@@ -56,7 +56,8 @@ module _ (half : ℕ) (h : Head) (pages : ℕ → Cell) where
       more e lt (f lo mid x q (all-head w) (all-head v) (λ p m. i p (omega (arith, below-cons l p x es))))
       (seg-ready l R W f r (all-tail w) (all-tail v) (λ p m. i p (omega (arith, below-cons l p x es))))
 
-  pub ready : (l sums counts lo hi : ℕ) (x : Ent (Kid l)) → Shaped half Leaf l lo hi x → Weighed (h .kind) (h .changes) l sums counts x → Shows l pages x
+  pub ready : (l sums counts lo hi : ℕ) (x : Ent (Kid l)) → Shaped half Leaf l lo hi x → Weighed (h .kind) (h .changes) l sums counts x
+      → Shows l pages x
       → ((p : ℕ) → 1 ≤ times p (pages-under l x) → (1 ≤ p) × (p < h .pages)) → Ready l sums counts lo hi x
   unfolding Ready Shaped Shows
   ready zero sums counts lo hi x s w v i = (w, s)
@@ -79,7 +80,8 @@ module _ (half : ℕ) (h : Head) (pages : ℕ → Cell) where
 
   -- ---- what it gives
 
-  pub ready-weighed : (l sums counts lo hi : ℕ) (x : Ent (Kid l)) → Ready l sums counts lo hi x → Weighed (h .kind) (h .changes) l sums counts x
+  pub ready-weighed : (l sums counts lo hi : ℕ) (x : Ent (Kid l)) → Ready l sums counts lo hi x
+      → Weighed (h .kind) (h .changes) l sums counts x
   unfolding Ready
   ready-weighed zero sums counts lo hi x r = r .0
   ready-weighed (suc l) sums counts lo hi x r = r .0
@@ -99,7 +101,8 @@ module _ (half : ℕ) (h : Head) (pages : ℕ → Cell) where
     entry-fits : (lo hi : ℕ) (x : Ent (Kid l)) → Ready l sums counts lo hi x → x .entry .start ≡ lo → lo < END → Entry-fits (x .entry)
     entry-fits lo hi x r e lt =
         let p = pair-fits (h .kind) (h .changes) l sums counts x (ready-weighed l sums counts lo hi x r) few in
-        record { start = omega arith; sum = p .0; count = p .1; child = omega (arith, child-small l sums counts lo hi x r, ranges .pages-most) }
+        let c = child-small l sums counts lo hi x r in
+        record { start = omega arith; sum = p .0; count = p .1; child = omega (arith, c, ranges .pages-most) }
 
     pub entries-fit : {lo hi : ℕ} {es : Ents l} → Seg (Ready l sums counts) lo hi es → hi ≤ END → Entries-fit (bare es)
     entries-fit done m i = no-entry-fits

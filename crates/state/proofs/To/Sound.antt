@@ -117,7 +117,10 @@ module _ (half : ℕ) (X : Image) (Y : State) (some : 1 ≤ half)
             (le-leb _ _ (root .0), lt-ltb _ _ (root .1)),
             (
               lt-ltb _ _ free,
-              ((le-leb _ _ (mark .0), le-leb _ _ (mark .1)), (g .ranges .kind-fits, (g .ranges .window-fits, le-leb _ _ (g .changes-most)))),
+              (
+                (le-leb _ _ (mark .0), le-leb _ _ (mark .1)),
+                (g .ranges .kind-fits, (g .ranges .window-fits, le-leb _ _ (g .changes-most))),
+              ),
             ),
           ),
         ),
@@ -141,7 +144,8 @@ module _ (half : ℕ) (X : Image) (Y : State) (some : 1 ≤ half)
       let few : fewest half (root-place (X .head)) ≡ root-least l = root-fewest half (X .head) l level-is in
       ap (λ (h : Head). tree-fit half h img (h .height - 1) (root-place h) (h .root)) head-is
       ∙ (λ j. tree-fit half (X .head) img (level-is j) (root-place (X .head)) (g .shown .root j))
-      ∙ fit-tree half (X .head) (X .page) img (g .ranges) (g .changes-most) some page-written l 0 0 0 END (Y .tree .root) (root-place (X .head)) (Y .tree .ents) stands (omega arith)
+      ∙ fit-tree half (X .head) (X .page) img (g .ranges) (g .changes-most) some page-written l 0 0 0 END (Y .tree .root)
+      (root-place (X .head)) (Y .tree .ents) stands (omega arith)
       (omega (arith, g .shown .height)) (omega (arith, least-one l)) (omega (arith, g .formed .least)) (tree-ready g)
 
   -- ---- which pages the walks find
@@ -152,7 +156,8 @@ module _ (half : ℕ) (X : Image) (Y : State) (some : 1 ≤ half)
       let l : ℕ = Y .tree .level in
       ap (λ (h : Head). tree-pages half img (h .height - 1) (h .root)) head-is
       ∙ (λ j. tree-pages half img (level-is j) (g .shown .root j))
-      ∙ pages-are half (X .head) (X .page) img (g .ranges) (g .changes-most) some page-written l 0 0 0 END (Y .tree .root) (Y .tree .ents) (omega arith)
+      ∙ pages-are half (X .head) (X .page) img (g .ranges) (g .changes-most) some page-written l 0 0 0 END (Y .tree .root)
+      (Y .tree .ents) (omega arith)
       (omega (arith, g .shown .height)) (tree-ready g)
 
   chain-found : the-chain half (image-bytes half X) ≡ Y .supply .chain
@@ -201,5 +206,6 @@ module _ (half : ℕ) (X : Image) (Y : State) (some : 1 ≤ half)
   look-written t = look-good half (image-bytes half X) some facts Y shown-again t
 
 -- the theorem
-pub good-sound : (half : ℕ) (X : Image) (Y : State) → 1 ≤ half → Good half X Y → X .head .height ≤ most-height → sound half (image-bytes half X) ≡ true
+pub good-sound : (half : ℕ) (X : Image) (Y : State) → 1 ≤ half → Good half X Y → X .head .height ≤ most-height
+    → sound half (image-bytes half X) ≡ true
 good-sound half X Y some g tall = facts-sound half (image-bytes half X) (facts half X Y some (g .structure) tall)

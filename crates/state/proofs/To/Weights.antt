@@ -46,8 +46,8 @@ pub weighed-below : (kind changes l sums counts : ℕ) (x : Ent (Kid (suc l))) �
     → All (λ y. Weighed kind changes l (sums + natAbs (x .entry .pair .sum)) (counts + natAbs (x .entry .pair .count)) y) (x .kid)
 unfolding Within
 weighed-below kind changes l sums counts x w =
-    weighed-all kind changes l (sums + natAbs (x .entry .pair .sum)) (counts + natAbs (x .entry .pair .count)) (x .kid) (λ e. w .by-sum e .2)
-    (λ e. w .by-count e .2) (λ e. w .by-value e .2)
+    weighed-all kind changes l (sums + natAbs (x .entry .pair .sum)) (counts + natAbs (x .entry .pair .count)) (x .kid)
+    (λ e. w .by-sum e .2) (λ e. w .by-count e .2) (λ e. w .by-value e .2)
 
 -- ---- the entry itself
 
@@ -77,8 +77,8 @@ module _ (kind changes l sums counts : ℕ) (x : Ent (Kid l)) (w : Weighed kind 
           (sfits-natAbs w64 (omega arith), sfits-natAbs w32 (omega arith))
 
 -- it passes the test of a page under the head that has kind and changes
-pub pair-passes : (h : Head) (l sums counts : ℕ) (x : Ent (Kid l)) → Weighed (h .kind) (h .changes) l sums counts x → (at : Place) → at .sums ≡ sums
-    → at .counts ≡ counts
+pub pair-passes : (h : Head) (l sums counts : ℕ) (x : Ent (Kid l)) → Weighed (h .kind) (h .changes) l sums counts x
+    → (at : Place) → at .sums ≡ sums → at .counts ≡ counts
     → pair-ok h at (x .entry .pair) ≡ true
 unfolding pair-ok value-or-none
 pair-passes h l sums counts x w at s c =
