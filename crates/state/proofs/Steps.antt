@@ -157,7 +157,7 @@ module _ {half kind n : ℕ} (two : 2 ≤ half) {X : Image} {Y : State} (g : Str
     heal-keeps =
         kept g heal-step (heal-formed two leaf-pairless leaf-joinable (lawful kind) t Y (g .formed))
         (heal-bounds half kind n t Y (g .bounds)) (g .changes-most)
-        (omega (arith, heal-gives half two rule t Y (g .formed) .mark, g .shown .supplied .mark, g .ranges .mark-most))
+        (omega (arith, heal-gives half rule t Y .mark, g .shown .supplied .mark, g .ranges .mark-most))
 
   -- C
   module _ (s e : ℕ) (p : Pair) where
@@ -181,8 +181,8 @@ module _ {half kind n : ℕ} (two : 2 ≤ half) {X : Image} {Y : State} (g : Str
       let u = g .shown .supplied in
       let again = cut-is half rule e A U (d .shown) (once-after d (structure-once g)) (formed-full half Leaf two U (cut-leaves s)) in
       let v = again .shown .supplied in
-      let b = cut-takes half two e U (cut-leaves s) .1 in
-      let t = taken-both Y U (cut half e U) (cut-takes half two s Y (g .formed) .1) b in
+      let b = cut-takes half e U .1 in
+      let t = taken-both Y U (cut half e U) (cut-takes half s Y .1) b in
       let k = taken-number Y (cut half e U) t in
       let fits : pages-taken X (cut-x half e A) ≤ X .head .chain + (X .head .pages - X .head .mark) = ltb-false _ _ enough in
       let w =
