@@ -13,7 +13,7 @@ use Rattle.calls.specs.Changes.{entering, withdrawing, Change}
 use Rattle.calls.specs.Calls.{Booked, head, book}
 use Rattle.calls.specs.Book.{empty-book, entered, entered-all, book-of, items-pair, book-pair, runs-after, runs-of, listing-of}
 use Rattle.calls.specs.Trace.{Step, kept, accepted, Trace, formatted, extended, Throughout, made}
-use Rattle.calls.specs.Demands.{fixed-number, As-the-book, Booking, couples, Reordered, same, next, swap, then, Same-changes}
+use Rattle.calls.specs.Demands.{fixed-number, Booking, couples, Reordered, same, next, swap, then, Same-changes}
 use Rattle.calls.specs.BookCases.{one, windowed}
 use Rattle.calls.specs.AggregateCases.{entry}
 use Rattle.calls.specs.ListCases.{fresh-image, after-one, after-two, after-three, three-changes, greatest-one, greatest-book, struck, struck-too, List-cases}

@@ -1,6 +1,6 @@
 -- Every call is a step of a list. Assumes nothing.
 use Prim.Native.Nat.{ℕ}
-use mathlib.Core.Path.{_≡_, refl, sym, ap, _∙_, subst, subst⁻¹}
+use mathlib.Core.Path.{_≡_, refl, sym, ap, _∙_, subst⁻¹}
 use mathlib.Core.Logic.{_≢_}
 use mathlib.Core.Bool.{cond}
 use mathlib.Core.List.{List, [], _∷_}
@@ -11,7 +11,7 @@ use borrow.Author.Tests.{ne-eqb}
 use Rattle.image.specs.Images.{pages-in, image-bytes, fresh}
 use Rattle.calls.specs.Changes.{Side, Change}
 use Rattle.calls.specs.Calls.{Formatted, Booked, format, changed, book}
-use Rattle.calls.specs.Trace.{Step, kept, accepted, Trace, formatted, made, Steps}
+use Rattle.calls.specs.Trace.{Step, kept, accepted, formatted, made, Steps}
 
 -- a call that left the image as it was
 pub stays : {half : ℕ} {img after : List ℕ} → after ≡ img → Step half img [] after

@@ -1,12 +1,12 @@
 -- Document 01, "The plain book of demand 3". Assumes nothing.
-use Prim.Native.Nat.{ℕ, zero, suc, _+_, _-_}
-use mathlib.Core.Bool.{Bool, true, false, cond, not, _&&_}
-use mathlib.Core.List.{List, [], _∷_, _++_}
+use Prim.Native.Nat.{ℕ, zero, suc, _-_}
+use mathlib.Core.Bool.{cond, not}
+use mathlib.Core.List.{List, [], _∷_}
 use lib.ListN.{length}
-use lib.Dec.{eqb, leb, ltb}
+use lib.Dec.{eqb}
 use lib.IntN.{ℤ}
 use Rattle.rule.specs.declared.Pair.{Pair}
-use Rattle.rule.specs.Time.{END, span-ok, lengthened, covers}
+use Rattle.rule.specs.Time.{span-ok, lengthened, covers}
 use Rattle.rule.specs.Pairs.{none, same-pair, combine}
 use Rattle.image.specs.Listing.{Run}
 use Rattle.calls.specs.Refusals.{first}

@@ -2,7 +2,7 @@
 -- document 000. Assumes nothing.
 use Prim.Native.Nat.{ℕ}
 use mathlib.Core.Path.{_≡_}
-use mathlib.Core.List.{List, [], _∷_, _++_, map}
+use mathlib.Core.List.{[], _∷_, _++_, map}
 use lib.ListN.{replicate}
 use lib.IntN.{pos, negsuc}
 use Rattle.rule.specs.declared.Average.the-variants.{Hundredths}
@@ -12,7 +12,7 @@ use Rattle.rule.specs.Averages.{average}
 use Rattle.image.specs.Listing.{run}
 use Rattle.calls.specs.Changes.{entering, withdrawing}
 use Rattle.calls.specs.Calls.{Listed}
-use Rattle.calls.specs.Book.{Item, Book, empty-book, entered, book-pair, runs-of, listing-of}
+use Rattle.calls.specs.Book.{Book, empty-book, entered, book-pair, runs-of, listing-of}
 
 -- 000, Table 1: Amy 2 on [10, 40), Ben 3 on [10, 30), Cal 1 on [20, 40), Dan 2 on [5, 15), Eve 4 on [35, 45), Fay 1 on [10, 50)
 unfoldable pub prescribed : ℕ → ℕ → Book

@@ -16,10 +16,10 @@ use Rattle.fields.specs.Bytes.{patch}
 use Rattle.page.specs.declared.Head.{Head}
 use Rattle.page.specs.Layout.{head-of, joined}
 use Rattle.page.specs.Fit.{head-fit, most-changes}
-use Rattle.image.specs.Images.{Image, page-at, pages-in, length-ok, image-of, image-bytes, fresh}
+use Rattle.image.specs.Images.{page-at, pages-in, length-ok, image-of, image-bytes, fresh}
 use Rattle.image.specs.Sound.{sound}
-use Rattle.image.specs.Instant.{Looked, look-up}
-use Rattle.image.specs.Listing.{Run, Walked, walk-over, join, run-bytes}
+use Rattle.image.specs.Instant.{look-up}
+use Rattle.image.specs.Listing.{Run, walk-over, join, run-bytes}
 use Rattle.steps.specs.Change.{change, lacks-pages}
 use Rattle.calls.specs.Changes.{Side, withdraws, effect}
 use Rattle.calls.specs.Refusals.{Row, first, scratch-ok, scratch-after}

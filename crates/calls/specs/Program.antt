@@ -1,7 +1,7 @@
 -- Document 01, "Marks from the test rack": the program, as a function from the bytes that it reads to those that it writes.
 -- Over the number of pages, which is 64, and half the capacity of a page. Assumes nothing.
 use Prim.Native.Nat.{ℕ, zero, suc, _+_, _*_, _/_, _%_, _-_}
-use mathlib.Core.Bool.{Bool, true, false, cond, not, _&&_}
+use mathlib.Core.Bool.{Bool, true, false, cond, _&&_}
 use mathlib.Core.List.{List, [], _∷_, _++_}
 use lib.ListN.{length, replicate}
 use lib.Dec.{eqb, leb, ltb}

@@ -12,8 +12,10 @@ use lib.IntN.{ℤ}
 use lib.ListN.{length, take, drop, drop-of-length-le}
 use lib.Seq.{take-nil}
 use borrow.Author.Tests.{eqb-false}
+use Rattle.rule.specs.declared.Pair.{Pair}
 use Rattle.rule.specs.Time.{END, lengthened, covers}
 use Rattle.rule.specs.Pairs.{combine}
+use Rattle.rule.specs.Bounds.{Effective}
 use Rattle.fields.specs.Bytes.{Bytes, part}
 use Rattle.page.specs.declared.Head.{Head}
 use Rattle.page.specs.Layout.{page-size}
@@ -21,27 +23,28 @@ use Rattle.page.specs.Fit.{most-changes, most-height}
 use Rattle.image.specs.Images.{Image, page-at, cell-bytes, image-of, image-bytes}
 use Rattle.image.specs.Sound.{sound}
 use Rattle.image.specs.Instant.{Looked, look-up}
-use Rattle.audit.proofs.Sound.{the-head}
+use Rattle.audit.proofs.Sound.{the-head, sound-facts}
 use Rattle.steps.specs.Change.{change, change-names}
 use Rattle.calls.specs.Changes.{Side, effect}
 use Rattle.calls.specs.Calls.{head, changed, book}
 use Rattle.calls.specs.Accepted.{named}
+use Rattle.calls.proofs.Changes.{effective}
 use Rattle.tree.specs.Tree.{pair-at}
 use Rattle.tree.specs.Cut.{State}
-use Rattle.state.specs.Good.{Good}
+use Rattle.state.specs.Good.{Structure, Good}
 use Rattle.state.proofs.From.Load.{state-in}
 use Rattle.state.proofs.From.Good.{sound-good}
 use Rattle.state.proofs.From.Canonical.{canonical}
 use Rattle.state.proofs.From.Look.{look-good}
 use Rattle.image.proofs.Written.{bytes-written}
+use Rattle.state.proofs.Change.{next, next-pairs, Changed, change-is, good-change}
 use Rattle.state.proofs.To.Sound.{length-written, page-written, head-read-back, good-sound, look-written}
 use Rattle.ledger.proofs.Accepted.{Passed, passed}
-use Rattle.demands.proofs.Change.{effective, good-changed, next, next-pairs, good-change}
 
 -- What is asked of half the capacity of a page: 12 has it.
 pub record Wide (half : ℕ) : Type 0 where
   pub two : 2 ≤ half
-  pub low : (X : Image) (Y : State) → Good half X Y → X .head .height ≤ most-height
+  pub low : {kind changes : ℕ} (X : Image) (Y : State) → Structure half kind changes X Y → X .head .height ≤ most-height
 
 -- ---- the image that it leaves
 
@@ -90,48 +93,63 @@ module _ {half : ℕ} (wide : Wide half) (side : Side) (v : ℤ) (s e : ℕ) (im
   g : Good half X Y
   g = sound-good half img some (a .whole)
 
-  abbrev Z : Image
-  Z = change half (combine (X .head .kind)) s end (effect side v) X
+  abbrev added : Pair
+  added = effect side v
 
-  g′ : Good half Z (next (wide .two) s end (effect side v) g)
+  abbrev Z : Image
+  Z = change half (combine (X .head .kind)) s end added X
+
+  -- the tree that it shows
+  abbrev U : State
+  U = next (wide .two) s end added g
+
+  f : Effective (X .head .kind) added
   unfolding head image-of
-  g′ =
-      good-change (wide .two) s end (effect side v) g (effective (X .head .kind) side v (a .value) (a .sided))
-      (omega (arith, eqb-false (X .head .changes) most-changes (a .few), g .ranges .changes-most)) (a .pages)
+  f = effective (X .head .kind) side v (a .value) (a .sided)
+
+  few : X .head .changes < most-changes
+  unfolding head image-of
+  few = omega (arith, eqb-false (X .head .changes) most-changes (a .few), g .structure .changes-most)
+
+  g′ : Good half Z U
+  unfolding head image-of
+  g′ = good-change (wide .two) s end added g f few (a .pages)
+
+  c : Changed half s end added X Y
+  unfolding head image-of
+  c = change-is (wide .two) s end added g f few (a .pages)
 
   -- the bytes that it had before are those of its cells
   was : image-bytes half X ≡ img
   was = canonical half img some b (a .whole)
 
   tall : X .head .height ≤ most-height
-  tall = wide .low X Y g
+  tall = wide .low X Y (g .structure)
 
   tall′ : Z .head .height ≤ most-height
-  tall′ = wide .low Z (next (wide .two) s end (effect side v) g) g′
-
-  same-pages : Z .head .pages ≡ X .head .pages
-  same-pages = good-changed (wide .two) s end (effect side v) g .pages
+  tall′ = wide .low Z U (g′ .structure)
 
   kept-page : (p : ℕ) → 1 ≤ p → p < X .head .pages → Z .page p ≡ X .page p → page-at half (image-bytes half Z) p ≡ page-at half img p
   kept-page p l r same =
-      page-written half Z (next (wide .two) s end (effect side v) g) some g′ tall′ p l (omega (arith, same-pages))
+      page-written half Z U some (g′ .structure) tall′ p l (omega (arith, c .pages))
       ∙ ap (cell-bytes half) same
-      ∙ sym (page-written half X Y some g tall p l r)
+      ∙ sym (page-written half X Y some (g .structure) tall p l r)
       ∙ ap (λ i. page-at half i p) was
 
   size : length img ≡ page-size half * X .head .pages
-  size = ap length (sym was) ∙ length-written half X Y some g tall
+  size = ap length (sym was) ∙ length-written half X Y some (g .structure) tall
 
   size′ : length (image-bytes half Z) ≡ page-size half * X .head .pages
-  size′ = length-written half Z (next (wide .two) s end (effect side v) g) some g′ tall′ ∙ ap (λ n. page-size half * n) same-pages
+  size′ = length-written half Z U some (g′ .structure) tall′ ∙ ap (λ n. page-size half * n) (c .pages)
 
   far-page : (p : ℕ) → X .head .pages ≤ p → page-at half (image-bytes half Z) p ≡ page-at half img p
   far-page p h = beyond half (image-bytes half Z) (X .head .pages) p size′ h ∙ sym (beyond half img (X .head .pages) p size h)
 
-  framed : (p : ℕ) → ¬ List·Memᴰ p (change-names half (combine (X .head .kind)) s end (effect side v) X) → page-at half (image-bytes half Z) p ≡ page-at half img p
+  framed : (p : ℕ) → ¬ List·Memᴰ p (change-names half (combine (X .head .kind)) s end added X)
+      → page-at half (image-bytes half Z) p ≡ page-at half img p
   unfolding change-names
   framed zero h = absurd (h (List·Memᴰ·head refl))
-  framed (suc p) h = go (decLe (X .head .pages) (suc p)) (good-changed (wide .two) s end (effect side v) g .frame (suc p) h)
+  framed (suc p) h = go (decLe (X .head .pages) (suc p)) (c .frame (suc p) h)
     where
       go : Dec (X .head .pages ≤ suc p) → Z .page (suc p) ≡ X .page (suc p) → page-at half (image-bytes half Z) (suc p) ≡ page-at half img (suc p)
       go (yes r) same = far-page (suc p) r
@@ -142,22 +160,19 @@ module _ {half : ℕ} (wide : Wide half) (side : Side) (v : ℤ) (s e : ℕ) (im
       ≡ cond (covers s end t) (combine (X .head .kind) (look-up half img t .pair) (effect side v)) (look-up half img t .pair)
   unfolding image-of
   paired t below =
-      let U : State = next (wide .two) s end (effect side v) g in
       let k : the-head half (image-bytes half Z) .kind ≡ X .head .kind =
-      ap (λ (h : Head). h .kind) (head-read-back half Z U some g′ tall′) ∙ good-changed (wide .two) s end (effect side v) g .kind in
+      ap (λ (h : Head). h .kind) (head-read-back half Z U some (g′ .structure) tall′) ∙ c .kind in
       let before : look-up half img t .pair ≡ pair-at (combine (X .head .kind)) (Y .tree) t =
-      ap (λ (r : Looked). r .pair) (look-good half img some (a .whole) Y (g .shown) t .looked) in
-      ap (λ (r : Looked). r .pair) (look-written half Z U some g′ tall′ t .looked)
+      ap (λ (r : Looked). r .pair) (look-good half img some (sound-facts half img (a .whole)) Y (g .structure .shown) t .looked) in
+      ap (λ (r : Looked). r .pair) (look-written half Z U some (g′ .structure) tall′ t .looked)
       ∙ ap (λ n. pair-at (combine n) (U .tree) t) k
-      ∙ next-pairs (wide .two) s end (effect side v) g t below
+      ∙ next-pairs (wide .two) s end added g t below
       ∙ ap (λ q. cond (covers s end t) (combine (X .head .kind) q (effect side v)) q) (sym before)
 
   change-leaves : Left-by-change half side v s e img (changed half side v s e img)
   unfolding changed head image-of named
   change-leaves =
-      let U : State = next (wide .two) s end (effect side v) g in
-      let c = good-changed (wide .two) s end (effect side v) g in
-      let h = head-read-back half Z U some g′ tall′ in
+      let h = head-read-back half Z U some (g′ .structure) tall′ in
       record {
         bytes = bytes-written half Z;
         sound = good-sound half Z U some g′ tall′;

@@ -1,7 +1,7 @@
 -- Demands 2 and 3, of every list of calls. Assumes nothing.
 use Prim.Native.Nat.{ℕ, _<_}
 use mathlib.Core.Path.{_≡_, sym, ap, _∙_}
-use mathlib.Core.List.{List, _++_}
+use mathlib.Core.List.{List}
 use lib.ListN.{length}
 use Rattle.rule.specs.Time.{END}
 use Rattle.rule.specs.Averages.{average}
@@ -10,7 +10,7 @@ use Rattle.calls.specs.Calls.{listing}
 use Rattle.calls.specs.Book.{Book, book-of, book-pair}
 use Rattle.calls.specs.Aggregate.{aggregate}
 use Rattle.calls.specs.Trace.{Trace, formatted, extended, Throughout}
-use Rattle.calls.specs.Demands.{Demand-2, As-the-book, Demand-3-list, Same-changes, Headed, The-demands}
+use Rattle.calls.specs.Demands.{Demand-2, Demand-3-list, Same-changes, Headed, The-demands}
 use Rattle.calls.proofs.Tables.{turned-back}
 use Rattle.calls.proofs.Steps.{steps}
 use Rattle.answers.proofs.Demand.{demand-1}

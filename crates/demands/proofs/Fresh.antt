@@ -23,7 +23,7 @@ use Rattle.tree.specs.Tree.{Ent, Kid, ent-of, pair-under, pair-in, pages-under,
 use Rattle.tree.specs.Shape.{done, more, Shaped, Leaf, root-least, Formed}
 use Rattle.tree.specs.Held.{all-none, all-more, Within, times-below, times-spare, held}
 use Rattle.view.proofs.Fresh.{fresh-state, fresh-shown}
-use Rattle.state.specs.Good.{Bounds, Good}
+use Rattle.state.specs.Good.{Bounds, Structure, Good}
 use Rattle.state.proofs.From.Good.{pages-range}
 use Rattle.image.proofs.Written.{bytes-written}
 use Rattle.state.proofs.To.Sound.{head-read-back, good-sound, look-written}
@@ -58,25 +58,22 @@ module _ (half pages kind window : ℕ) (some : 1 ≤ half) (least : 2 ≤ pages
         values = λ other. all-more {x = x} (value-or-none-is none .1 (inl refl), omega arith) all-none;
       }
 
-  fresh-good : Good half X fresh-state
+  fresh-structure : Structure half (X .head .kind) (X .head .changes) X fresh-state
   unfolding fresh
-  fresh-good =
+  fresh-structure =
       record {
         shown = fresh-shown pages kind window;
         formed = fresh-formed;
         once = fresh-held;
         head-apart = head-held;
+        kind-is = refl;
         bounds = fresh-bounds;
-        ranges =
-            record {
-              pages-least = least;
-              pages-most = most;
-              mark-most = least;
-              kind-fits = k;
-              window-fits = w;
-              changes-most = omega arith;
-            };
+        changes-most = omega arith;
+        ranges = record { pages-least = least; pages-most = most; mark-most = least; kind-fits = k; window-fits = w };
       }
+
+  fresh-good : Good half X fresh-state
+  fresh-good = record { structure = fresh-structure }
 
   tall : X .head .height ≤ most-height
   unfolding fresh
@@ -89,14 +86,16 @@ module _ (half pages kind window : ℕ) (some : 1 ≤ half) (least : 2 ≤ pages
   pub kept-fresh : Kept half (image-bytes half X) (empty-book kind window)
   unfolding head image-of empty-book book-pair items-pair
   kept-fresh =
-      let h = head-read-back half X fresh-state some fresh-good tall in
+      let h = head-read-back half X fresh-state some fresh-structure tall in
       record {
         bytes = bytes-written half X;
         sound = good-sound half X fresh-state some fresh-good tall;
         kind = ap (λ (g : Head). g .kind) h ∙ unfold fresh in refl;
         window = ap (λ (g : Head). g .window) h ∙ unfold fresh in refl;
         changes = ap (λ (g : Head). g .changes) h ∙ unfold fresh in refl;
-        pairs = λ t below. ap (λ (r : Looked). r .pair) (look-written half X fresh-state some fresh-good tall t .looked) ∙ fresh-pair _ t;
+        pairs =
+            λ t below.
+            ap (λ (r : Looked). r .pair) (look-written half X fresh-state some fresh-structure tall t .looked) ∙ fresh-pair _ t;
       }
 
 -- ---- format

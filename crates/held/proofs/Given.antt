@@ -1,10 +1,9 @@
--- The pages that a heal gives back: they stand before the chain as it was, and the tree has so many less. Assumes nothing.
-use Prim.Native.Nat.{ℕ, zero, suc, _+_, _≤_}
-use mathlib.Core.Path.{_≡_, refl, ap, _∙_}
+-- The pages that a heal gives back: they stand before the chain as it was, and the high mark stays. Assumes nothing.
+use Prim.Native.Nat.{ℕ, zero, suc}
+use mathlib.Core.Path.{_≡_, refl, ap}
 use mathlib.Core.List.{List, [], _∷_, _++_}
-use native.Mathlib.Omega.{arith}
 use lib.Dec.{eqb, ltb}
-use lib.ListN.{length, getD, length-append}
+use lib.ListN.{length, getD}
 use Rattle.rule.specs.declared.Pair.{Pair}
 use Rattle.page.specs.Entries.{place}
 use Rattle.steps.specs.Heal.{neighbour}
@@ -12,15 +11,13 @@ use Rattle.tree.specs.Tree.{Kid, Ents, no-ent, bare}
 use Rattle.tree.specs.Supply.{Supply, with-page}
 use Rattle.tree.specs.Cut.{State}
 use Rattle.tree.specs.Heal.{Healing, turn, heal-ents, shrunk, heal}
-use Rattle.tree.specs.Shape.{Asked, Formed}
-use Rattle.held.specs.Counts.{pages-of}
 use Rattle.held.proofs.Places.{either}
-use Rattle.held.proofs.Pages.{heal-pages}
 
-record Gave (S T : Supply) : Type 0 where
-  given : List ℕ
-  chain : T .chain ≡ given ++ S .chain
-  mark : T .mark ≡ S .mark
+-- T is S with pages given back
+pub record Gave (S T : Supply) : Type 0 where
+  pub given : List ℕ
+  pub chain : T .chain ≡ given ++ S .chain
+  pub mark : T .mark ≡ S .mark
 
 gave-page : {S T : Supply} (p : ℕ) → Gave S T → Gave S (with-page p T)
 unfolding with-page
@@ -45,22 +42,7 @@ module _ (half : ℕ) (_⊕_ : Pair → Pair → Pair) where
   shrunk-gave zero root es S g = g
   shrunk-gave {R} (suc l) root es S g = either (λ (Z : State). Gave R (Z .supply)) (gave-page root g) g (eqb (length es) 1)
 
--- a heal from Y to Z gave these pages back
-pub record Given (Y Z : State) : Type 0 where
-  pub given : List ℕ
-  pub pages : length (pages-of (Z .tree)) + length given ≡ length (pages-of (Y .tree))
-  pub chain : Z .supply .chain ≡ given ++ Y .supply .chain
-  pub mark : Z .supply .mark ≡ Y .supply .mark
-
-pub heal-gives : (half : ℕ) → 2 ≤ half → {B : Asked (Kid 0)} (_⊕_ : Pair → Pair → Pair) (t : ℕ) (Y : State)
-    → Formed half B (Y .tree) → Given Y (heal half _⊕_ t Y)
+pub heal-gives : (half : ℕ) (_⊕_ : Pair → Pair → Pair) (t : ℕ) (Y : State) → Gave (Y .supply) (heal half _⊕_ t Y .supply)
 unfolding heal
-heal-gives half two _⊕_ t Y F =
-    let g : Gave (Y .supply) (heal half _⊕_ t Y .supply) =
-    shrunk-gave half _⊕_ (Y .tree .level) (Y .tree .root) _ _ (ents-gave half _⊕_ t (Y .tree .level) (Y .tree .ents) (Y .supply)) in
-    record {
-      given = g .given;
-      pages = omega (arith, heal-pages half two t Y F _⊕_ .same-number, ap length (g .chain) ∙ length-append (g .given) (Y .supply .chain), g .mark);
-      chain = g .chain;
-      mark = g .mark;
-    }
+heal-gives half _⊕_ t Y =
+    shrunk-gave half _⊕_ (Y .tree .level) (Y .tree .root) _ _ (ents-gave half _⊕_ t (Y .tree .level) (Y .tree .ents) (Y .supply))

@@ -1,7 +1,7 @@
 -- How high a tree can grow: a level more takes so many pages that no image has them. Assumes nothing.
 use Prim.Native.Nat.{ℕ, zero, suc, _+_, _*_, _-_, _≤_, _<_}
-use mathlib.Core.Path.{_≡_, refl, _∙_}
-use mathlib.Core.Bool.{Bool, true, false}
+use mathlib.Core.Path.{_≡_, refl}
+use mathlib.Core.Bool.{Bool, true, false, cond}
 use mathlib.Core.List.{List, _++_}
 use native.Mathlib.Omega.{arith}
 use native.Mathlib.Nat.{mul-le-mul-left, mul-le-mul-right}
@@ -10,40 +10,39 @@ use lib.ListN.{length, length-append}
 use borrow.Author.Tests.{leb-true, leb-false}
 use Rattle.image.specs.Sound.{times}
 use Rattle.audit.proofs.Times.{times-append, Within, short-of-once}
-use Rattle.tree.specs.Tree.{Ent, Kid, Tree}
+use Rattle.tree.specs.Tree.{Ent, Kid, Tree, over, pages-under}
 use Rattle.tree.specs.Cut.{State}
 use Rattle.tree.specs.Shape.{Asked, Seg, done, more, Shaped, Formed, root-least}
-use Rattle.tree.specs.Held.{times-spare, held}
-use Rattle.held.specs.Counts.{sum, pages-of, least-under}
-use Rattle.held.proofs.Times.{from}
-use Rattle.held.proofs.Weights.{under}
-use Rattle.held.proofs.Pages.{held-is, pages-number, Same-pages}
+use Rattle.tree.specs.Held.{times-below, times-spare, held}
+use Rattle.held.specs.Counts.{pages-of, least-under}
 
--- m at the least of each
-seg-sum : {A : Type 0} {Q : Asked A} {lo hi : ℕ} {es : List (Ent A)} (m : ℕ) (f : Ent A → ℕ) → ((a b : ℕ) (x : Ent A) → Q a b x → m ≤ f x)
-    → Seg Q lo hi es → length es * m ≤ sum f es
-unfolding sum
-seg-sum m f h done = omega arith
-seg-sum m f h (more {lo} {mid} {x = x} e lt q r) = omega (arith, h lo mid x q, seg-sum m f h r)
+-- m at the least for each
+seg-long : {A : Type 0} {Q : Asked A} {lo hi : ℕ} {es : List (Ent A)} (m : ℕ) (f : Ent A → List ℕ)
+    → ((a b : ℕ) (x : Ent A) → Q a b x → m ≤ length (f x))
+    → Seg Q lo hi es
+    → length es * m ≤ length (over f es)
+unfolding over
+seg-long m f h done = omega arith
+seg-long m f h (more {lo} {mid} {x = x} {es = es} e lt q r) = omega (arith, length-append (f x) (over f es), h lo mid x q, seg-long m f h r)
 
-under-least : (half : ℕ) (B : Asked (Kid 0)) (l a b : ℕ) (x : Ent (Kid l)) → Shaped half B l a b x → least-under half l ≤ under (λ p. 1) l x
-unfolding least-under under Shaped
+under-least : (half : ℕ) (B : Asked (Kid 0)) (l a b : ℕ) (x : Ent (Kid l)) → Shaped half B l a b x → least-under half l ≤ length (pages-under l x)
+unfolding least-under pages-under Shaped
 under-least half B zero a b x q = omega arith
 under-least half B (suc l) a b x q =
     omega (
       arith,
       mul-le-mul-right (least-under half l) (q .0 .least),
-      seg-sum (least-under half l) (λ y. under (λ p. 1) l y) (λ c d y. under-least half B l c d y) (q .1),
+      seg-long (least-under half l) (λ y. pages-under l y) (λ c d y. under-least half B l c d y) (q .1),
     )
 
-pub pages-least : {half : ℕ} {B : Asked (Kid 0)} (T : Tree) → Formed half B T → suc (root-least (T .level) * least-under half (T .level)) ≤ length (pages-of T)
+pages-least : {half : ℕ} {B : Asked (Kid 0)} (T : Tree) → Formed half B T → suc (root-least (T .level) * least-under half (T .level)) ≤ length (pages-of T)
+unfolding pages-of
 pages-least {half} {B} T F =
     let l = T .level in
     omega (
       arith,
-      pages-number T,
       mul-le-mul-right (least-under half l) (F .least),
-      seg-sum (least-under half l) (λ x. under (λ p. 1) l x) (λ a b x. under-least half B l a b x) (F .spans),
+      seg-long (least-under half l) (λ x. pages-under l x) (λ a b x. under-least half B l a b x) (F .spans),
     )
 
 -- a level more has no fewer
@@ -59,7 +58,7 @@ inner-least half zero h = absurd (omega arith)
 inner-least half (suc l) h = refl
 
 -- the pages of two entries of a root above level m
-pub level-most : {half : ℕ} {B : Asked (Kid 0)} (m : ℕ) (T : Tree) → Formed half B T → length (pages-of T) ≤ 2 * least-under half (suc m) → T .level ≤ m
+level-most : {half : ℕ} {B : Asked (Kid 0)} (m : ℕ) (T : Tree) → Formed half B T → length (pages-of T) ≤ 2 * least-under half (suc m) → T .level ≤ m
 level-most {half} m T F h = go (leb (T .level) m) refl
   where
     go : (b : Bool) → leb (T .level) m ≡ b → T .level ≤ m
@@ -71,9 +70,9 @@ level-most {half} m T F h = go (leb (T .level) m) refl
 all-pages : State → List ℕ
 all-pages Y = pages-of (Y .tree) ++ Y .supply .chain
 
-held-all : (p : ℕ) (Y : State) → held p Y ≡ times p (all-pages Y) + from (Y .supply .mark) p
-unfolding all-pages times-spare
-held-all p Y = omega (arith, held-is p Y, times-append p (pages-of (Y .tree)) (Y .supply .chain))
+held-all : (p : ℕ) (Y : State) → held p Y ≡ times p (all-pages Y) + cond (leb (Y .supply .mark) p) 1 0
+unfolding all-pages times-spare held pages-of times-below times
+held-all p Y = omega (arith, times-append p (pages-of (Y .tree)) (Y .supply .chain))
 
 -- no page is held twice, and page 0 not at all: all pages of tree and chain lie below the high mark
 module _ (Y : State) (once : (p : ℕ) → held p Y ≤ 1) (head-apart : held 0 Y ≡ 0) where
@@ -88,7 +87,7 @@ module _ (Y : State) (once : (p : ℕ) → held p Y ≤ 1) (head-apart : held 0 
       past true e = absurd (omega (arith, once p, rw e at (held-all p Y)))
       past false e = omega (arith, leb-false (Y .supply .mark) p e)
 
-  pub pages-below-mark : length (pages-of (Y .tree)) + length (Y .supply .chain) ≤ Y .supply .mark - 1
+  pages-below-mark : length (pages-of (Y .tree)) + length (Y .supply .chain) ≤ Y .supply .mark - 1
   unfolding all-pages
   pages-below-mark =
       omega (
@@ -97,21 +96,12 @@ module _ (Y : State) (once : (p : ℕ) → held p Y ≤ 1) (head-apart : held 0 
         short-of-once (Y .supply .mark - 1) (all-pages Y) all-within (λ p. omega (arith, once p, held-all p Y)),
       )
 
-pub level-once : {half : ℕ} {B : Asked (Kid 0)} (m : ℕ) (Y : State) → Formed half B (Y .tree) → ((p : ℕ) → held p Y ≤ 1) → held 0 Y ≡ 0
+level-once : {half : ℕ} {B : Asked (Kid 0)} (m : ℕ) (Y : State) → Formed half B (Y .tree) → ((p : ℕ) → held p Y ≤ 1) → held 0 Y ≡ 0
     → Y .supply .mark ≤ suc (2 * least-under half (suc m)) → Y .tree .level ≤ m
 level-once m Y F once apart h = level-most m (Y .tree) F (omega (arith, pages-below-mark Y once apart))
 
--- also after a step that keeps the pages
-pub level-same : {half : ℕ} {B : Asked (Kid 0)} (m : ℕ) (Y Z : State) → Same-pages Y Z → Formed half B (Z .tree) → ((p : ℕ) → held p Y ≤ 1) → held 0 Y ≡ 0
-    → Z .supply .mark ≤ suc (2 * least-under half (suc m)) → Z .tree .level ≤ m
-level-same m Y Z same F once apart = level-once m Z F (λ p. omega (arith, once p, same .same-held p)) (same .same-held 0 ∙ apart)
-
 -- with 12 entries at the least a root of level 4 has 3,770 pages below it: the height is 4 at the most
-module _ {B : Asked (Kid 0)} where
-  pub level-most-12 : (T : Tree) → Formed 12 B T → length (pages-of T) ≤ 1023 → T .level ≤ 3
-  unfolding least-under
-  level-most-12 T F h = level-most 3 T F (omega arith)
-
-  pub level-once-12 : (Y : State) → Formed 12 B (Y .tree) → ((p : ℕ) → held p Y ≤ 1) → held 0 Y ≡ 0 → Y .supply .mark ≤ 1024 → Y .tree .level ≤ 3
-  unfolding least-under
-  level-once-12 Y F once apart h = level-once 3 Y F once apart (omega arith)
+pub level-once-12 : {B : Asked (Kid 0)} (Y : State) → Formed 12 B (Y .tree) → ((p : ℕ) → held p Y ≤ 1) → held 0 Y ≡ 0 → Y .supply .mark ≤ 1024
+    → Y .tree .level ≤ 3
+unfolding least-under
+level-once-12 Y F once apart h = level-once 3 Y F once apart (omega arith)

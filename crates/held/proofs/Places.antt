@@ -1,39 +1,14 @@
--- What holds of each entry of a list: of the one in a place, of an append and the parts, and with others in the place of some. Assumes nothing.
-use Prim.Native.Nat.{ℕ, zero, suc, _+_, _≤_, _<_}
+-- What holds of each entry of a list: of the one in a place, of an append and the parts, and with others in the place of some.
+-- Assumes nothing.
+use Prim.Native.Nat.{ℕ, zero, suc}
 use mathlib.Core.Bool.{Bool, true, false, cond}
-use mathlib.Core.List.{List, [], _∷_, _++_, map}
-use native.Mathlib.Omega.{arith}
-use lib.Dec.{leb}
-use lib.ListN.{length, take, drop, getD}
-use Rattle.page.specs.declared.Entry.{Entry}
-use Rattle.page.specs.Entries.{last-from, place, splice}
-use Rattle.tree.specs.Tree.{Ent, bare}
+use mathlib.Core.List.{List, _++_, map}
+use lib.ListN.{take, drop, getD}
+use Rattle.page.specs.Entries.{splice}
+use Rattle.tree.specs.Tree.{Ent}
 use Rattle.tree.specs.Held.{All, all-none, all-more}
 
--- the entry that has t stands in the list
-last-from-below : (t i k n : ℕ) (es : List Entry) → k < n → i + length es ≤ n → last-from t i k es < n
-unfolding last-from
-last-from-below t i k n [] h m = h
-last-from-below t i k n (e ∷ es) h m = last-from-below t (suc i) (cond (leb (e .start) t) i k) n es (go (leb (e .start) t)) (omega arith)
-  where
-    go : (b : Bool) → cond b i k < n
-    go true = omega arith
-    go false = h
-
-length-bare : {A : Type 0} (es : List (Ent A)) → length (bare es) ≤ length es
-length-bare [] = omega arith
-length-bare (x ∷ xs) = omega (arith, length-bare xs)
-
-pub place-below : {A : Type 0} (t : ℕ) (es : List (Ent A)) → 0 < length es → place t (bare es) < length es
-unfolding place
-place-below t es h = last-from-below t 0 0 (length es) (bare es) h (omega (arith, length-bare es))
-
 module _ {A : Type 0} {Q : Ent A → Type 0} where
-  pub all-at : {es : List (Ent A)} (i : ℕ) (d : Ent A) → All Q es → i < length es → Q (getD es i d)
-  all-at i d all-none h = absurd (omega arith)
-  all-at zero d (all-more q r) h = q
-  all-at (suc i) d (all-more q r) h = all-at i d r (omega arith)
-
   -- also past the end
   pub all-getD : {es : List (Ent A)} (i : ℕ) {d : Ent A} → All Q es → Q d → Q (getD es i d)
   all-getD i all-none h = h

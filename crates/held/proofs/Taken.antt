@@ -6,13 +6,10 @@ use mathlib.Core.List.{List, [], _∷_}
 use native.Mathlib.Omega.{arith}
 use lib.ListN.{length, drop, length-drop}
 use lib.Seq.{drop-drop}
-use Rattle.tree.specs.Tree.{Kid}
 use Rattle.tree.specs.Supply.{Supply, without-next}
 use Rattle.tree.specs.Cut.{State, cut}
-use Rattle.tree.specs.Shape.{Asked, Formed}
-use Rattle.held.specs.Counts.{pages-of, taken}
+use Rattle.held.specs.Counts.{taken}
 use Rattle.held.proofs.Cut.{cut-taken}
-use Rattle.held.proofs.Pages.{cut-pages}
 
 pub record One-less (S T : Supply) : Type 0 where
   pub chain : T .chain ≡ drop 1 (S .chain)
@@ -39,9 +36,8 @@ taken-mark zero S = omega arith
 taken-mark (suc k) S =
     omega (arith, one-less (taken k S), taken-mark k S, ap length (taken-chain k S) ∙ length-drop k (S .chain))
 
--- The cut took k pages: so many more has the tree, and they left the chain's front, and then the pages from the high mark on.
+-- The cut took k pages: they left the chain's front, and then the pages from the high mark on.
 pub record Taken (k : ℕ) (Y Z : State) : Type 0 where
-  pub pages : length (pages-of (Z .tree)) ≡ length (pages-of (Y .tree)) + k
   pub chain : Z .supply .chain ≡ drop k (Y .supply .chain)
   pub mark : Z .supply .mark ≡ Y .supply .mark + (k - length (Y .supply .chain))
 
@@ -50,7 +46,6 @@ pub taken-both : {j k : ℕ} (X Y Z : State) → Taken j X Y → Taken k Y Z →
 taken-both {j} {k} X Y Z a b =
     let n = ap length (a .chain) ∙ length-drop j (X .supply .chain) in
     record {
-      pages = omega arith;
       chain = b .chain ∙ (ap (λ ps. drop k ps) (a .chain) ∙ drop-drop k j (X .supply .chain));
       mark = omega arith;
     }
@@ -65,16 +60,12 @@ pub taken-fits : {k : ℕ} (n : ℕ) (Y Z : State) → Taken k Y Z → Y .supply
     → (k ≤ length (Y .supply .chain) + (n - Y .supply .mark)) ↔ (Z .supply .mark ≤ n)
 taken-fits n Y Z a h = omega arith
 
-module _ (half : ℕ) (two : 2 ≤ half) {B : Asked (Kid 0)} (t : ℕ) (Y : State) (F : Formed half B (Y .tree)) where
-  pub cut-takes : (k : ℕ) × Taken k Y (cut half t Y)
-  cut-takes =
-      let (k, e) = cut-taken half t Y in
-      let chain : cut half t Y .supply .chain ≡ drop k (Y .supply .chain) = ap (λ (S : Supply). S .chain) e ∙ taken-chain k (Y .supply) in
-      let mark : cut half t Y .supply .mark ≡ Y .supply .mark + (k - length (Y .supply .chain)) = ap (λ (S : Supply). S .mark) e ∙ taken-mark k (Y .supply) in (
-        k,
-        record {
-          pages = omega (arith, cut-pages half two t Y F .same-number, ap length chain ∙ length-drop k (Y .supply .chain), mark);
-          chain = chain;
-          mark = mark;
-        },
-      )
+pub cut-takes : (half t : ℕ) (Y : State) → (k : ℕ) × Taken k Y (cut half t Y)
+cut-takes half t Y =
+    let (k, e) = cut-taken half t Y in (
+      k,
+      record {
+        chain = ap (λ (S : Supply). S .chain) e ∙ taken-chain k (Y .supply);
+        mark = ap (λ (S : Supply). S .mark) e ∙ taken-mark k (Y .supply);
+      },
+    )

@@ -1,6 +1,6 @@
 -- The bytes of an image in which one page or the head changed: those of the image before with the page's bytes, or the head's, in their place. Assumes nothing.
 use Prim.Native.Nat.{ℕ, zero, suc, _+_, _*_, _-_, _≤_, _<_}
-use mathlib.Core.Path.{_≡_, refl, sym, ap, _∙_}
+use mathlib.Core.Path.{_≡_, sym, ap, _∙_}
 use mathlib.Core.List.{List, _++_}
 use native.Mathlib.Nat.{mul-suc, add-comm}
 use native.Mathlib.Omega.{arith}

@@ -1,6 +1,6 @@
 -- Document 01, "The page": "The image is n pages of 512 bytes, n from 2 to 1,024." The image as bytes, and as the pages that
 -- the steps of a change work on. Assumes nothing.
-use Prim.Native.Nat.{ℕ, zero, suc, _+_, _*_, _-_, _/_, pred}
+use Prim.Native.Nat.{ℕ, suc, _+_, _*_, _-_, _/_}
 use mathlib.Core.Path.{_≡_}
 use mathlib.Core.Bool.{Bool, cond, _&&_}
 use mathlib.Core.List.{List, [], _∷_, _++_}

@@ -6,7 +6,6 @@ use mathlib.Core.List.{List, [], _∷_}
 use lib.ListN.{length}
 use lib.Dec.{eqb}
 use Rattle.fields.specs.Bytes.{every}
-use Rattle.page.specs.declared.Entry.{Entry}
 use Rattle.page.specs.declared.Head.{Head}
 use Rattle.page.specs.Layout.{number-of, child-at, entries-of, next-of, free-ok, never-used-ok, head-of, joined}
 use Rattle.page.specs.Fit.{Place, root-place, place-below, page-fit, head-fit}

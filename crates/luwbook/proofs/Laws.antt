@@ -1,5 +1,5 @@
 -- Laws of where the program stands and of what it prints. Assumes nothing.
-use Prim.Native.Nat.{ℕ, zero, suc, _≤_, _<_, _^_, min}
+use Prim.Native.Nat.{ℕ, zero, suc, _≤_, _<_, _^_}
 use mathlib.Core.Path.{_≡_, refl, sym, ap, _∙_, subst, subst⁻¹}
 use mathlib.Core.Bool.{Bool, true, false, not, _||_, true≢false, false≢true}
 use mathlib.Core.List.{List, []}
@@ -12,7 +12,7 @@ use mir.Val.{toZ, ofZ, SFits}
 use mir.Facts.{toZ-ofZ}
 use borrow.Author.Tests.{ltb-true, not-true}
 use Rattle.io.specs.Counts.{clamped}
-use Rattle.libc.specs.Io.{Moved}
+use Rattle.edit.proofs.Moved.{Moved}
 use Rattle.fields.specs.Bytes.{part}
 use Rattle.fields.proofs.Laws.Parts.{part-patch-same}
 use Rattle.rule.specs.Time.{END}

@@ -1,8 +1,7 @@
 -- The answers as C gets them, in the words of the calls' definitions. Assumes nothing.
 use Prim.Native.Nat.{ℕ}
-use mathlib.Core.Path.{_≡_}
 use mathlib.Core.List.{List}
-use lib.IntN.{ℤ, pos}
+use lib.IntN.{pos}
 use Rattle.rule.specs.declared.Pair.{Pair}
 use Rattle.rule.specs.declared.Average.{Average}
 use Rattle.rule.specs.declared.Average.the-variants.{Hundredths, Nothing, Beyond}

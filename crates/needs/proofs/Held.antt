@@ -1,13 +1,13 @@
 -- The bytes of a sound image hold the image that is read from them. Assumes nothing.
-use Prim.Native.Nat.{ℕ, _≤_}
-use mathlib.Core.Path.{_≡_, sym, ap, _∙_}
+use Prim.Native.Nat.{ℕ}
+use mathlib.Core.Path.{_≡_, sym}
 use mathlib.Core.Bool.{true}
 use mathlib.Core.List.{List}
 use native.Mathlib.Omega.{arith}
 use Rattle.fields.specs.Bytes.{Bytes}
 use Rattle.fields.proofs.Laws.Digits.{bytes-part}
 use Rattle.page.proofs.Laws.Heads.{head-of-fits}
-use Rattle.image.specs.Images.{page-at, pages-in, image-of}
+use Rattle.image.specs.Images.{page-at, image-of}
 use Rattle.image.specs.Sound.{sound}
 use Rattle.audit.proofs.Sound.{Sound-facts, sound-facts}
 use Rattle.state.proofs.From.Canonical.{canonical, canonical-kept}

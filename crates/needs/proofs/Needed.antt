@@ -32,9 +32,9 @@ use Rattle.view.proofs.Ways.{there, entries-are, at-bare, shows-on, stocked-on}
 use Rattle.view.proofs.Stepped.{once-after}
 use Rattle.view.proofs.Cut.{cut-is}
 use Rattle.view.proofs.Formed.{formed-full}
-use Rattle.state.specs.Good.{Good}
+use Rattle.state.specs.Good.{Structure}
 use Rattle.state.proofs.From.Good.{sound-good}
-use Rattle.state.proofs.To.Known.{good-once}
+use Rattle.state.proofs.To.Known.{structure-once}
 use Rattle.needs.specs.declared.Need.{Need}
 use Rattle.needs.specs.Needs.{together, settle, one, apart, both, asked, with-new-root, pages-needed}
 use Rattle.needs.proofs.Counts.{one-in, both-in}
@@ -124,10 +124,11 @@ module _ {half : ℕ} (two : 2 ≤ half) {B : Asked (Kid 0)} (cutting : Cuttable
   pub needed : pages-needed half s e X ≡ pages-taken X (cuts half s e X)
   needed = ⊎-elim needed-first needed-both (le-or-lt END e)
 
--- of a good state
-pub needed-good : {half : ℕ} → 2 ≤ half → (s e : ℕ) → s < e → e ≤ END → {X : Image} {Y : State} → Good half X Y
+-- of the structure that a sound image has
+pub needed-good : {half kind changes : ℕ} → 2 ≤ half → (s e : ℕ) → s < e → e ≤ END → {X : Image} {Y : State}
+    → Structure half kind changes X Y
     → pages-needed half s e X ≡ pages-taken X (cuts half s e X)
-needed-good two s e lt end g = needed two leaf-cuttable s e lt end (g .shown) (good-once g) (g .formed)
+needed-good two s e lt end g = needed two leaf-cuttable s e lt end (g .shown) (structure-once g) (g .formed)
 
 -- of a sound image: 24's condition before anything is written
 pub lacks-is : {half : ℕ} → 2 ≤ half → (s e : ℕ) → s < e → e ≤ END → (img : List ℕ) → sound half img ≡ true
@@ -136,4 +137,5 @@ pub lacks-is : {half : ℕ} → 2 ≤ half → (s e : ℕ) → s < e → e ≤ E
 unfolding lacks-pages
 lacks-is {half} two s e lt end img ok =
     let X = image-of half img in
-    ap (ltb (X .head .chain + (X .head .pages - X .head .mark))) (needed-good two s e lt end (sound-good half img (omega arith) ok))
+    let g = sound-good half img (omega arith) ok in
+    ap (ltb (X .head .chain + (X .head .pages - X .head .mark))) (needed-good two s e lt end (g .structure))

@@ -9,7 +9,6 @@ use lib.IntN.{pos}
 use Rattle.rule.specs.declared.Pair.{Pair}
 use Rattle.rule.specs.declared.Average.{Average}
 use Rattle.rule.specs.declared.Average.the-variants.{Hundredths, Nothing, Beyond}
-use Rattle.rule.specs.Pairs.{none}
 use Rattle.image.specs.Images.{pages-in}
 use Rattle.calls.specs.Refusals.{cleared}
 use Rattle.calls.specs.Changes.{entering}
@@ -17,7 +16,7 @@ use Rattle.calls.specs.Calls.{Formatted, Booked, Listed, Audited, average-at}
 use Rattle.calls.specs.Demands.{keeps-scratch, Demand-1}
 use Rattle.answers.proofs.Demand.{demand-1}
 use Rattle.luwhenoka.specs.declared.AverageAnswer.{AverageAnswer}
-use Rattle.luwhenoka.specs.Answers.{pair-of, average-answer, averaged-answer, listed}
+use Rattle.luwhenoka.specs.Answers.{average-answer, averaged-answer, listed}
 use Rattle.luwhenoka.specs.Promises.{Averages}
 use Rattle.promises.specs.Refusing.{Refusing}
 use Rattle.promises.proofs.Answers.{answer-number, answer-pair, answer-pages, average-number}

@@ -9,13 +9,12 @@ use borrow.Author.Tests.{ne-eqb, lt-leb}
 use Rattle.rule.specs.Time.{END}
 use Rattle.rule.specs.Pairs.{none, combine}
 use Rattle.page.specs.declared.Entry.{Entry}
-use Rattle.page.specs.declared.Head.{Head}
 use Rattle.page.specs.Fit.{most-height}
 use Rattle.page.specs.Layout.{capacity}
 use Rattle.page.specs.Entries.{entry, place}
 use Rattle.image.specs.Images.{Image}
 use Rattle.image.specs.Sound.{times}
-use Rattle.steps.specs.Supply.{entries, counted}
+use Rattle.steps.specs.Supply.{entries}
 use Rattle.steps.specs.Cut.{Cutting as CuttingX, cut-entry, root-entry, cut as cut-x}
 use Rattle.steps.specs.Change.{cut-names}
 use Rattle.store.specs.Ready.{entry-for, Takable}
@@ -27,17 +26,17 @@ use Rattle.tree.specs.Shape.{Leaf}
 use Rattle.tree.specs.Held.{times-spare}
 use Rattle.held.proofs.Sums.{length-splice}
 use Rattle.held.proofs.Cut.{inner, inner-ents, cut-case}
-use Rattle.view.specs.View.{Supplied, Shown, Stocked, Full}
+use Rattle.view.specs.View.{Supplied, Stocked, Full}
 use Rattle.view.proofs.Taking.{firsts, later-held}
 use Rattle.view.proofs.Stepped.{Stepped, steady-of, held-is}
 use Rattle.view.proofs.Settle.{Grew}
 use Rattle.view.proofs.Cut.{CutIs, once-there, cut-ent-is, cut-is}
 use Rattle.view.proofs.Ways.{there, entries-are, at-bare, has-place, stocked-on, shows-on}
 use Rattle.view.proofs.Formed.{formed-full}
-use Rattle.state.proofs.To.Known.{good-once}
+use Rattle.state.specs.Good.{Structure}
+use Rattle.state.proofs.To.Known.{structure-once}
 use Rattle.state.proofs.To.Height.{height-most}
-use Rattle.ready.proofs.Going.{Going}
-use Rattle.ready.proofs.Ways.{Known, known-searchable, known-below, uncounted, going-known}
+use Rattle.ready.proofs.Ways.{Known, known-searchable, known-below, structure-known}
 use Rattle.ready.proofs.Spares.{Single, next-mark, takable}
 
 -- ---- the supply, level by level
@@ -75,8 +74,8 @@ module _ (t l : ℕ) (x : Ent (Kid (suc l))) (S : Supply) where
 
 -- ---- the pages on the way
 
-module _ {h : Head} (t : ℕ) {X : Image} {S : Supply} (s : Supplied X S) (single : Single (λ q. times-spare q S)) where
-  module _ (l : ℕ) (x : Ent (Kid (suc l))) {lo hi sums counts : ℕ} (k : Known 12 h t X S l lo hi sums counts x) where
+module _ {kind changes : ℕ} (t : ℕ) {X : Image} {S : Supply} (s : Supplied X S) (single : Single (λ q. times-spare q S)) where
+  module _ (l : ℕ) (x : Ent (Kid (suc l))) {lo hi sums counts : ℕ} (k : Known 12 kind changes t X S l lo hi sums counts x) where
     abbrev p : ℕ
     p = x .entry .child
 
@@ -106,7 +105,7 @@ module _ {h : Head} (t : ℕ) {X : Image} {S : Supply} (s : Supplied X S) (singl
     page-cuttable : l < 255 → cut-ent 12 t (suc l) x S .supply .mark ≤ X .head .pages → Page-cuttable l p t X
     page-cuttable low m = record { searchable = known-searchable k; low = low; room = subst⁻¹ Room entry-there (page-room m) }
 
-  entry-cuttable : (l : ℕ) (x : Ent (Kid (suc l))) {lo hi sums counts : ℕ} → Known 12 h t X S l lo hi sums counts x → l < 255
+  entry-cuttable : (l : ℕ) (x : Ent (Kid (suc l))) {lo hi sums counts : ℕ} → Known 12 kind changes t X S l lo hi sums counts x → l < 255
       → cut-ent 12 t (suc l) x S .supply .mark ≤ X .head .pages
       → Entry-cuttable (suc l) (x .entry) t X
   unfolding Entry-cuttable
@@ -132,7 +131,7 @@ grown-two l [] R h = absurd (omega arith)
 grown-two l (x ∷ []) R h = absurd (omega arith)
 grown-two l (x ∷ y ∷ es) R h = refl
 
-module _ (t : ℕ) (X : Image) (Y : State) (g : Going 12 X Y) where
+module _ {kind changes : ℕ} (t : ℕ) (X : Image) (Y : State) (g : Structure 12 kind changes X Y) where
   abbrev l : ℕ
   l = Y .tree .level
 
@@ -142,12 +141,8 @@ module _ (t : ℕ) (X : Image) (Y : State) (g : Going 12 X Y) where
   abbrev r₀ : Cutting (Kid (suc l))
   r₀ = cut-ent 12 t (suc l) x₀ (Y .supply)
 
-  shown : Shown X Y
-  shown = uncounted (g .shown)
-
   low : X .head .height ≤ most-height
-  unfolding counted
-  low = height-most (counted X) Y g
+  low = height-most X Y g
 
   full : Full Y
   full = formed-full 12 Leaf (omega arith) Y (g .formed)
@@ -158,14 +153,14 @@ module _ (t : ℕ) (X : Image) (Y : State) (g : Going 12 X Y) where
 
   root-grew : CutIs 12 t (suc l) x₀ X (Y .supply)
   unfolding Full
-  root-grew = cut-ent-is 12 t (suc l) x₀ X (Y .supply) (shown .below) full (shown .supplied) (going-known (omega arith) t g .once)
+  root-grew = cut-ent-is 12 t (suc l) x₀ X (Y .supply) (g .shown .below) full (g .shown .supplied) (structure-known (omega arith) t g .once)
 
   root-entry-is : root-entry X ≡ x₀ .entry
   unfolding root-entry root-ent
-  root-entry-is = ap (λ (p : ℕ). entry 0 none p) (shown .root)
+  root-entry-is = ap (λ (p : ℕ). entry 0 none p) (g .shown .root)
 
   from-root-is : from-root t X ≡ cut-entry 12 t (suc l) (x₀ .entry) X
-  from-root-is = λ j. cut-entry 12 t (shown .height j) (root-entry-is j) X
+  from-root-is = λ j. cut-entry 12 t (g .shown .height j) (root-entry-is j) X
 
   -- the supply after the cut, where t is no END
   cut-supply : t < END → cut 12 t Y .supply ≡ grown l (r₀ .became) (r₀ .supply) .supply
@@ -188,20 +183,19 @@ module _ (t : ℕ) (X : Image) (Y : State) (g : Going 12 X Y) where
       record {
         low = omega (arith, low);
         entry =
-            subst₂ (λ n e. Entry-cuttable n e t X) (sym (shown .height)) (sym root-entry-is)
-            (entry-cuttable t (shown .supplied) single l x₀ (going-known (omega arith) t g) (omega (arith, low, shown .height))
+            subst₂ (λ n e. Entry-cuttable n e t X) (sym (g .shown .height)) (sym root-entry-is)
+            (entry-cuttable t (g .shown .supplied) single l x₀ (structure-known (omega arith) t g) (omega (arith, low, g .shown .height))
             (omega (arith, grown-mark l (r₀ .became) (r₀ .supply))));
         room = subst⁻¹ Root-room from-root-is (root-room (omega arith));
       }
 
   after : Stepped X (cut-x 12 t X) Y (cut 12 t Y) (cut-names 12 (combine 1) t X)
-  after = cut-is 12 (combine 1) t X Y shown (good-once g) full
+  after = cut-is 12 (combine 1) t X Y (g .shown) (structure-once g) full
 
   -- An image as it is before a cut can be cut, if the high mark then stays within the image.
   pub cuttable : cut-x 12 t X .head .mark ≤ X .head .pages → Cuttable t X
   cuttable m = record { root = λ h. root-cuttable h (omega (arith, after .shown .supplied .mark)) }
 
-  -- so it does if the image after the cut goes on
-  pub going-cuttable : {Z : State} → Going 12 (cut-x 12 t X) Z → Cuttable t X
-  unfolding counted
-  going-cuttable h = cuttable (omega (arith, h .ranges .mark-most, after .steady .pages))
+  -- so it does if the image after the cut has the structure
+  pub structure-cuttable : {Z : State} → Structure 12 kind changes (cut-x 12 t X) Z → Cuttable t X
+  structure-cuttable h = cuttable (omega (arith, h .ranges .mark-most, after .steady .pages))

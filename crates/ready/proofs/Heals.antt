@@ -1,5 +1,5 @@
--- An image that goes on is ready for a heal: each page on the way can be searched, a page that is left short has a neighbour, and the pairs
--- above the two can be combined into their entries. Assumes nothing.
+-- An image with the structure is ready for a heal: each page on the way can be searched, a page that is left short has a neighbour, and the
+-- pairs above the two can be combined into their entries. Assumes nothing.
 use Prim.Native.Nat.{ℕ, zero, suc, _+_, _*_, _-_, _≤_, _<_, _^_}
 use mathlib.Core.Path.{_≡_, refl, sym, ap, _∙_, subst, subst₂, subst⁻¹}
 use mathlib.Core.Bool.{true}
@@ -18,7 +18,7 @@ use Rattle.page.specs.declared.Head.{Head}
 use Rattle.page.specs.Entries.{at, place, splice}
 use Rattle.page.specs.Fit.{most-changes}
 use Rattle.image.specs.Images.{Image}
-use Rattle.steps.specs.Supply.{entries, counted, with-supply}
+use Rattle.steps.specs.Supply.{entries, with-supply}
 use Rattle.steps.specs.Heal.{short, neighbour, left-of, heal-page}
 use Rattle.store.specs.Ready.{In-image, Tree-page, Has-entry, entry-for, Push-ready}
 use Rattle.heal.specs.Healable.{Turnable, Settles, Inner-healable, Page-healable, Lowerable, Shrinkable, Healable}
@@ -30,19 +30,19 @@ use Rattle.tree.specs.Held.{All, all-none, all-more, Within}
 use Rattle.held.proofs.Places.{all-splice, all-weaken}
 use Rattle.held.proofs.Bounds.{ents-within}
 use Rattle.held.proofs.Measures.{sums-bounded, counts-bounded, values-bounded}
-use Rattle.view.specs.View.{Shows, Supplied, Shown}
+use Rattle.view.specs.View.{Shows, Supplied}
 use Rattle.view.proofs.Lists.{cond-one, ent-at, all-at, hit, hit-self}
 use Rattle.view.proofs.Moves.{lasting}
 use Rattle.view.proofs.Ways.{bare-same, entries-are, kids-shown, at-bare, there, has-place, from-root}
 use Rattle.view.proofs.Stepped.{steady-of}
 use Rattle.view.proofs.Turn.{Healed, left-in}
 use Rattle.view.proofs.Heal.{stocked-two, may, may-within, shown′, heal-ent-is}
+use Rattle.state.specs.Good.{Structure}
 use Rattle.state.proofs.To.Weights.{Weighed, weighed-all, weighed-below}
 use Rattle.state.proofs.To.Known.{chain-short}
 use Rattle.state.proofs.To.Height.{height-most}
-use Rattle.ready.proofs.Going.{Going}
 use Rattle.ready.proofs.Pairs.{below-combinable}
-use Rattle.ready.proofs.Ways.{page-is, Known, here-inside, child-inside, known-searchable, Below, known-below, uncounted, going-known}
+use Rattle.ready.proofs.Ways.{page-is, Known, here-inside, child-inside, known-searchable, Below, known-below, structure-known}
 
 -- ---- the chain
 
@@ -81,48 +81,48 @@ module _ (Z : Image) (l : ℕ) (x : Ent (Kid (suc l))) (s : Shows (suc l) (Z .pa
   entry-is j = ap (λ (es : List Entry). at es j) (entries-are l Z x s) ∙ at-bare l (x .kid) j
 
 -- the pair of z can be combined into its page's entries
-push-ready : (h : Head) → h .changes ≤ most-changes → (Z : Image) (l sums counts : ℕ) (z : Ent (Kid (suc l))) → Shows (suc l) (Z .page) z
+push-ready : (kind changes : ℕ) → changes ≤ most-changes → (Z : Image) (l sums counts : ℕ) (z : Ent (Kid (suc l))) → Shows (suc l) (Z .page) z
     → In-image (z .entry .child) Z
-    → Weighed h (suc l) sums counts z
+    → Weighed kind changes (suc l) sums counts z
     → Push-ready l (z .entry) Z
-push-ready h slow Z l sums counts z s i w =
+push-ready kind changes slow Z l sums counts z s i w =
     record {
       treed = treed Z l z s i;
       each =
           λ j n. subst⁻¹ (λ (e : Entry). Combinable (z .entry .pair) (e .pair)) (entry-is Z l z s j)
-          (all-at j (no-ent l) (below-combinable h slow l sums counts z w) (omega (arith, length-is Z l z s)));
+          (all-at j (no-ent l) (below-combinable kind changes slow l sums counts z w) (omega (arith, length-is Z l z s)));
     }
 
 -- and that of the j-th entry of x
-push-ready-at : (h : Head) → h .changes ≤ most-changes → (Z : Image) (l sums counts : ℕ) (x : Ent (Kid (suc (suc l))))
+push-ready-at : (kind changes : ℕ) → changes ≤ most-changes → (Z : Image) (l sums counts : ℕ) (x : Ent (Kid (suc (suc l))))
     → Shows (suc (suc l)) (Z .page) x
-    → All (λ y. Weighed h (suc l) sums counts y) (x .kid)
+    → All (λ y. Weighed kind changes (suc l) sums counts y) (x .kid)
     → (j : ℕ)
     → j < length (x .kid)
     → In-image (ent-at (suc l) (x .kid) j .entry .child) Z
     → Push-ready l (at (entries Z (x .entry .child)) j) Z
-push-ready-at h slow Z l sums counts x s w j n i =
+push-ready-at kind changes slow Z l sums counts x s w j n i =
     let z = ent-at (suc l) (x .kid) j in
     subst⁻¹ (λ (e : Entry). Push-ready l e Z) (entry-is Z (suc l) x s j)
-    (push-ready h slow Z l sums counts z (all-at j (no-ent (suc l)) (kids-shown (suc l) Z x s) n) i (all-at j (no-ent (suc l)) w n))
+    (push-ready kind changes slow Z l sums counts z (all-at j (no-ent (suc l)) (kids-shown (suc l) Z x s) n) i (all-at j (no-ent (suc l)) w n))
 
-module _ (h : Head) (t : ℕ) (S : Supply) where
+module _ (kind changes t : ℕ) (S : Supply) where
   abbrev rule : Pair → Pair → Pair
-  rule = combine (h .kind)
+  rule = combine kind
 
   -- ---- the pairs
 
   -- what a heal leaves of the entries of a page is bounded as they were
   ents-weighed : (l sums counts : ℕ) (es : Ents l)
-      → (eqb (h .kind) 1 ≡ true → sums ≤ most-value * h .changes)
-      → (eqb (h .kind) 1 ≡ true → counts ≤ h .changes)
-      → All (λ x. Weighed h l sums counts x) es
-      → All (λ x. Weighed h l sums counts x) (heal-ents 12 rule t l es S .ents)
+      → (eqb kind 1 ≡ true → sums ≤ most-value * changes)
+      → (eqb kind 1 ≡ true → counts ≤ changes)
+      → All (λ x. Weighed kind changes l sums counts x) es
+      → All (λ x. Weighed kind changes l sums counts x) (heal-ents 12 rule t l es S .ents)
   ents-weighed l sums counts es a b w =
-      weighed-all h l sums counts (heal-ents 12 rule t l es S .ents)
-      (λ e. ents-within (sums-bounded (h .kind)) (most-value * h .changes) 12 t l sums es S (a e) (all-weaken (λ x v. v .by-sum e) w))
-      (λ e. ents-within (counts-bounded (h .kind) e) (h .changes) 12 t l counts es S (b e) (all-weaken (λ x v. v .by-count e) w))
-      (λ e. ents-within (values-bounded (h .kind) e) 0 12 t l 0 es S (omega arith) (all-weaken (λ x v. v .by-value e) w))
+      weighed-all kind changes l sums counts (heal-ents 12 rule t l es S .ents)
+      (λ e. ents-within (sums-bounded kind) (most-value * changes) 12 t l sums es S (a e) (all-weaken (λ x v. v .by-sum e) w))
+      (λ e. ents-within (counts-bounded kind e) changes 12 t l counts es S (b e) (all-weaken (λ x v. v .by-count e) w))
+      (λ e. ents-within (values-bounded kind e) 0 12 t l 0 es S (omega arith) (all-weaken (λ x v. v .by-value e) w))
 
   -- what it leaves of the page under x
   abbrev left : (l : ℕ) → Ent (Kid (suc l)) → Healing (Kid l)
@@ -131,26 +131,26 @@ module _ (h : Head) (t : ℕ) (S : Supply) where
   abbrev with-left : (l : ℕ) → Ent (Kid (suc l)) → Ent (Kid (suc l))
   with-left l x = record { entry = x .entry; kid = left l x .ents }
 
-  left-weighed : (l sums counts : ℕ) (x : Ent (Kid (suc l))) → Weighed h (suc l) sums counts x
-      → Weighed h (suc l) sums counts (with-left l x)
+  left-weighed : (l sums counts : ℕ) (x : Ent (Kid (suc l))) → Weighed kind changes (suc l) sums counts x
+      → Weighed kind changes (suc l) sums counts (with-left l x)
   unfolding Within
   left-weighed l sums counts x w =
       let k =
       ents-weighed l (sums + natAbs (x .entry .pair .sum)) (counts + natAbs (x .entry .pair .count)) (x .kid)
-      (λ e. w .by-sum e .1) (λ e. w .by-count e .1) (weighed-below h l sums counts x w) in
+      (λ e. w .by-sum e .1) (λ e. w .by-count e .1) (weighed-below kind changes l sums counts x w) in
       record {
         by-sum = λ e. (w .by-sum e .0, w .by-sum e .1, all-weaken (λ y v. v .by-sum e) k);
         by-count = λ e. (w .by-count e .0, w .by-count e .1, all-weaken (λ y v. v .by-count e) k);
         by-value = λ e. (w .by-value e .0, w .by-value e .1, all-weaken (λ y v. v .by-value e) k);
       }
 
-  module _ (X : Image) (slow : h .changes ≤ most-changes) (s : Supplied X S) (few : length (S .chain) ≤ 1024) where
+  module _ (X : Image) (slow : changes ≤ most-changes) (s : Supplied X S) (few : length (S .chain) ≤ 1024) where
     -- ---- the image once the page under x is healed
 
     abbrev after : (l : ℕ) → Ent (Kid (suc l)) → Image
     after l x = heal-page 12 rule t l (x .entry .child) X
 
-    module _ {l lo hi sums counts : ℕ} {x : Ent (Kid (suc l))} (k : Known 12 h t X S l lo hi sums counts x) where
+    module _ {l lo hi sums counts : ℕ} {x : Ent (Kid (suc l))} (k : Known 12 kind changes t X S l lo hi sums counts x) where
       healed : Healed l x X (after l x) S (left l x) (may 12 rule t l x X)
       healed = heal-ent-is 12 rule t l x X S (k .shown) (k .stocked) s (k .once)
 
@@ -166,7 +166,7 @@ module _ (h : Head) (t : ℕ) (S : Supply) where
     -- ---- one level up
 
     module _ (l lo hi sums counts : ℕ) (x : Ent (Kid (suc (suc l)))) (low : suc l < 254)
-        (k : Known 12 h t X S (suc l) lo hi sums counts x) where
+        (k : Known 12 kind changes t X S (suc l) lo hi sums counts x) where
       abbrev i : ℕ
       i = place t (bare (x .kid))
 
@@ -179,7 +179,7 @@ module _ (h : Head) (t : ℕ) (S : Supply) where
       abbrev x′ : Ent (Kid (suc (suc l)))
       x′ = record { entry = x .entry; kid = splice i (with-left l y ∷ []) (x .kid) }
 
-      below : Below 12 h t X S l sums counts x
+      below : Below 12 kind changes t X S l sums counts x
       below = known-below k
 
       pages : Z .head .pages ≡ X .head .pages
@@ -204,7 +204,7 @@ module _ (h : Head) (t : ℕ) (S : Supply) where
       sinks j n =
           let y-weighed = left-weighed l sums counts y (all-at i (no-ent (suc l)) (k .weighed) has) in
           let c = ap (λ (e : Entry). e .child) (same-entry j) in
-          push-ready-at h slow Z l sums counts x′ shown (all-splice i (all-more y-weighed all-none) (k .weighed)) j
+          push-ready-at kind changes slow Z l sums counts x′ shown (all-splice i (all-more y-weighed all-none) (k .weighed)) j
           (omega (arith, same-length)) (omega (arith, c, child-inside k j n, pages))
 
       -- the child page was left short
@@ -230,8 +230,8 @@ module _ (h : Head) (t : ℕ) (S : Supply) where
             room = room-after (below .known) (omega arith);
           }
 
-      inner : Page-healable (h .kind) t l (y .entry .child) X
-          → Inner-healable (h .kind) t l (x .entry .child) (λ q U. Page-healable (h .kind) t l q U) X
+      inner : Page-healable kind t l (y .entry .child) X
+          → Inner-healable kind t l (x .entry .child) (λ q U. Page-healable kind t l q U) X
       inner w =
           let p = x .entry .child in
           let e : entries X p ≡ bare (x .kid) = entries-are (suc l) X x (k .shown) in
@@ -240,14 +240,14 @@ module _ (h : Head) (t : ℕ) (S : Supply) where
           let settles : Settles l p i (y .entry .child) Z = record { treed = treed-after (below .known); turns = turnable } in
           record {
             searchable = known-searchable k;
-            below = subst⁻¹ (λ (q : ℕ). Page-healable (h .kind) t l q X) c w;
+            below = subst⁻¹ (λ (q : ℕ). Page-healable kind t l q X) c w;
             settles =
                 subst⁻¹ (λ (q : ℕ). Settles l p (place t (entries X p)) q (heal-page 12 rule t l q X)) c
                 (subst⁻¹ (λ (es : List Entry). Settles l p (place t es) (y .entry .child) Z) e settles);
           }
 
-    page-heals : (l lo hi sums counts : ℕ) (x : Ent (Kid (suc l))) → l < 254 → Known 12 h t X S l lo hi sums counts x
-        → Page-healable (h .kind) t l (x .entry .child) X
+    page-heals : (l lo hi sums counts : ℕ) (x : Ent (Kid (suc l))) → l < 254 → Known 12 kind changes t X S l lo hi sums counts x
+        → Page-healable kind t l (x .entry .child) X
     unfolding Page-healable
     page-heals zero lo hi sums counts x low k = known-searchable k
     page-heals (suc l) lo hi sums counts x low k =
@@ -257,7 +257,7 @@ module _ (h : Head) (t : ℕ) (S : Supply) where
     -- ---- the root
 
     -- its only entry leads to one of the image's pages
-    only-inside : {l hi : ℕ} {x : Ent (Kid (suc l))} → Known 12 h t X S l 0 hi 0 0 x → 1 ≤ l → length (left l x .ents) ≡ 1
+    only-inside : {l hi : ℕ} {x : Ent (Kid (suc l))} → Known 12 kind changes t X S l 0 hi 0 0 x → 1 ≤ l → length (left l x .ents) ≡ 1
         → In-image (ent-at l (left l x .ents) 0 .entry .child) (after l x)
     only-inside {l} {x = x} k some one =
         let q = ent-at l (left l x .ents) 0 .entry .child in
@@ -266,7 +266,7 @@ module _ (h : Head) (t : ℕ) (S : Supply) where
         let d = k .inside q (omega (arith, w, hit-self q, may-within 12 rule t q l x X (k .shown) (k .stocked))) in
         omega (arith, d, same-pages k)
 
-    lowerable : (l hi : ℕ) (x : Ent (Kid (suc l))) → l < 254 → Known 12 h t X S l 0 hi 0 0 x
+    lowerable : (l hi : ℕ) (x : Ent (Kid (suc l))) → l < 254 → Known 12 kind changes t X S l 0 hi 0 0 x
         → after l x .head .height ≡ suc l
         → after l x .head .root ≡ x .entry .child
         → 1 ≤ l
@@ -287,11 +287,11 @@ module _ (h : Head) (t : ℕ) (S : Supply) where
           child =
               subst⁻¹ (λ (m : ℕ). Push-ready m (at (entries Z (Z .head .root)) 0) Z) level
               (subst⁻¹ (λ (q : ℕ). Push-ready l (at (entries Z q) 0) Z) root
-              (push-ready-at h slow Z l 0 0 (with-left (suc l) x) (healed k .shows) w 0 (omega arith) (only-inside k tall one)));
+              (push-ready-at kind changes slow Z l 0 0 (with-left (suc l) x) (healed k .shows) w 0 (omega arith) (only-inside k tall one)));
           room = room-after k low;
         }
 
-    shrinkable : (l hi : ℕ) (x : Ent (Kid (suc l))) → l < 254 → Known 12 h t X S l 0 hi 0 0 x
+    shrinkable : (l hi : ℕ) (x : Ent (Kid (suc l))) → l < 254 → Known 12 kind changes t X S l 0 hi 0 0 x
         → X .head .height ≡ suc l
         → X .head .root ≡ x .entry .child
         → Shrinkable (after l x)
@@ -310,27 +310,25 @@ module _ (h : Head) (t : ℕ) (S : Supply) where
           lowers = λ inner one. lowerable l hi x low k tall there (omega arith) (sym n ∙ one);
         }
 
--- "Heal at t": an image on the way of an accepted change is ready for it.
-pub going-healable : {X : Image} {Y : State} (t : ℕ) → Going 12 X Y → Healable (X .head .kind) t X
-unfolding counted root-ent
-going-healable {X} {Y} t g =
-    let h : Head = counted X .head in
+-- "Heal at t": an image with the structure is ready for it.
+pub structure-healable : {kind changes : ℕ} {X : Image} {Y : State} (t : ℕ) → Structure 12 kind changes X Y → Healable kind t X
+unfolding root-ent
+structure-healable {kind} {changes} {X} {Y} t g =
     let l : ℕ = Y .tree .level in
     let x = root-ent (Y .tree) in
-    let sh : Shown X Y = uncounted (g .shown) in
+    let sh = g .shown in
     let level : X .head .height - 1 ≡ l = omega (arith, sh .height) in
-    let k = going-known (omega arith) t g in
-    let tall = height-most (counted X) Y g in
-    let low : l < 254 = omega (arith, sh .height) in
+    let k = structure-known (omega arith) t g in
+    let low : l < 254 = omega (arith, sh .height, height-most X Y g) in
     let few : length (Y .supply .chain) ≤ 1024 = omega (arith, chain-short g, g .ranges .mark-most, g .ranges .pages-most) in
-    let slow : h .changes ≤ most-changes = g .ranges .changes-most in
+    let slow = g .changes-most in
     record {
       some = omega (arith, sh .height);
       page =
-          subst⁻¹ (λ (n : ℕ). Page-healable (X .head .kind) t n (X .head .root) X) level
-          (subst⁻¹ (λ (p : ℕ). Page-healable (X .head .kind) t l p X) (sh .root)
-          (page-heals h t (Y .supply) X slow (sh .supplied) few l 0 END 0 0 x low k));
+          subst⁻¹ (λ (n : ℕ). Page-healable kind t n (X .head .root) X) level
+          (subst⁻¹ (λ (p : ℕ). Page-healable kind t l p X) (sh .root)
+          (page-heals kind changes t (Y .supply) X slow (sh .supplied) few l 0 END 0 0 x low k));
       shrinks =
-          subst⁻¹ (λ (Z : Image). Shrinkable Z) (from-root sh (λ n p. heal-page 12 (combine (X .head .kind)) t n p X))
-          (shrinkable h t (Y .supply) X slow (sh .supplied) few l END x low k (sh .height) (sh .root));
+          subst⁻¹ (λ (Z : Image). Shrinkable Z) (from-root sh (λ n p. heal-page 12 (combine kind) t n p X))
+          (shrinkable kind changes t (Y .supply) X slow (sh .supplied) few l END x low k (sh .height) (sh .root));
     }

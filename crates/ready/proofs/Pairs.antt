@@ -7,15 +7,13 @@ use lib.Dec.{eqb}
 use lib.IntN.{natAbs}
 use Rattle.rule.specs.declared.Pair.{Pair}
 use Rattle.rule.specs.Time.{most-value}
-use Rattle.rule.specs.Bounds.{value-or-none, Combinable}
+use Rattle.rule.specs.Bounds.{value-or-none, Effective, Combinable}
 use Rattle.rule.proofs.Laws.{values-combinable}
-use Rattle.page.specs.declared.Head.{Head}
 use Rattle.page.specs.Fit.{most-changes}
 use Rattle.tree.specs.Tree.{Ent, Kid}
 use Rattle.tree.specs.Held.{All}
 use Rattle.held.proofs.Places.{all-weaken}
 use Rattle.state.proofs.To.Weights.{Weighed, weighed-below, sum-here, count-here, value-here}
-use Rattle.state.specs.Good.{Effective}
 
 -- Two pairs that are met together in an index of this kind after so many changes and one more: for kind 1 their absolute values add to
 -- at most what these can add to, for kinds 2 and 3 each is a value or none.
@@ -31,30 +29,30 @@ met-combinable kind n p q few m = go (eqb kind 1) refl
     go true e = record { sums = omega (arith, m .sums e, few); counts = omega (arith, m .counts e, few) }
     go false e = values-combinable p q (m .values e .0) (m .values e .1)
 
-module _ (h : Head) (few : h .changes ≤ most-changes) where
+module _ (kind n : ℕ) (few : n ≤ most-changes) where
   -- an entry's pair and an effect
-  pub effect-combinable : (l sums counts : ℕ) (x : Ent (Kid l)) (effect : Pair) → Weighed h l sums counts x → Effective (h .kind) effect
+  pub effect-combinable : (l sums counts : ℕ) (x : Ent (Kid l)) (effect : Pair) → Weighed kind n l sums counts x → Effective kind effect
       → Combinable (x .entry .pair) effect
   effect-combinable l sums counts x effect w f =
-      met-combinable (h .kind) (h .changes) (x .entry .pair) effect few
+      met-combinable kind n (x .entry .pair) effect few
       (record {
-        sums = λ e. omega (arith, sum-here h l sums counts x w e, f .sum);
-        counts = λ e. omega (arith, count-here h l sums counts x w e, f .count);
-        values = λ e. (value-here h l sums counts x w e, f .value e);
+        sums = λ e. omega (arith, sum-here kind n l sums counts x w e, f .sum);
+        counts = λ e. omega (arith, count-here kind n l sums counts x w e, f .count);
+        values = λ e. (value-here kind n l sums counts x w e, f .value e);
       })
 
   -- the pair of an entry and those of the entries below it
-  pub below-combinable : (l sums counts : ℕ) (x : Ent (Kid (suc l))) → Weighed h (suc l) sums counts x
+  pub below-combinable : (l sums counts : ℕ) (x : Ent (Kid (suc l))) → Weighed kind n (suc l) sums counts x
       → All (λ y. Combinable (x .entry .pair) (y .entry .pair)) (x .kid)
   below-combinable l sums counts x w =
       let a : ℕ = sums + natAbs (x .entry .pair .sum) in
       let b : ℕ = counts + natAbs (x .entry .pair .count) in
       all-weaken
       (λ y v.
-      met-combinable (h .kind) (h .changes) (x .entry .pair) (y .entry .pair) few
+      met-combinable kind n (x .entry .pair) (y .entry .pair) few
       (record {
-        sums = λ e. omega (arith, sum-here h l a b y v e);
-        counts = λ e. omega (arith, count-here h l a b y v e);
-        values = λ e. (value-here h (suc l) sums counts x w e, value-here h l a b y v e);
+        sums = λ e. omega (arith, sum-here kind n l a b y v e);
+        counts = λ e. omega (arith, count-here kind n l a b y v e);
+        values = λ e. (value-here kind n (suc l) sums counts x w e, value-here kind n l a b y v e);
       }))
-      (weighed-below h l sums counts x w)
+      (weighed-below kind n l sums counts x w)

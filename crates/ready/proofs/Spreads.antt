@@ -7,14 +7,14 @@ use native.Mathlib.Omega.{arith}
 use lib.IntN.{natAbs}
 use Rattle.rule.specs.declared.Pair.{Pair}
 use Rattle.rule.specs.Pairs.{combine}
-use Rattle.rule.specs.Bounds.{Combinable}
+use Rattle.rule.specs.Bounds.{Effective, Combinable}
 use Rattle.rule.specs.Time.{END}
 use Rattle.page.specs.declared.Entry.{Entry}
 use Rattle.page.specs.declared.Head.{Head}
 use Rattle.page.specs.Fit.{most-changes}
 use Rattle.image.specs.Images.{Image, tree}
 use Rattle.image.specs.Sound.{times}
-use Rattle.steps.specs.Supply.{entries, counted}
+use Rattle.steps.specs.Supply.{entries}
 use Rattle.steps.specs.Spread.{start-of, sent}
 use Rattle.spread.specs.declared.Task.{Task}
 use Rattle.spread.specs.Spreadable.{inside-by, meets-by, below-by, sent-by, Entries-spreadable, Below-spreadable, Page-spreadable, Spreadable}
@@ -28,12 +28,10 @@ use Rattle.view.proofs.Moves.{all-shows}
 use Rattle.view.proofs.Stepped.{once-is}
 use Rattle.view.proofs.Ways.{entries-are, kids-shown}
 use Rattle.view.proofs.Spread.{Sent, sent-in, sent-within, below-of, sent-is}
-use Rattle.state.proofs.To.Weights.{Weighed, weighed-all, weighed-below}
-use Rattle.state.proofs.To.Known.{held-is, tree-inside}
+use Rattle.state.proofs.To.Weights.{Weighed, bounds-weighed, weighed-below}
+use Rattle.state.proofs.To.Known.{structure-once, held-is, tree-inside}
 use Rattle.state.proofs.To.Height.{height-most}
-use Rattle.state.specs.Good.{Effective}
-use Rattle.state.proofs.To.Known.{good-once}
-use Rattle.ready.proofs.Going.{Going}
+use Rattle.state.specs.Good.{Structure}
 use Rattle.ready.proofs.Pairs.{effect-combinable}
 
 -- A count of pages by which none is there twice, and each that is there is one of n but the head.
@@ -45,14 +43,14 @@ fewer : {n : ℕ} {count least : ℕ → ℕ} → Apart n count → ((p : ℕ) �
 fewer a h = record { once = λ p. omega (arith, a .once p, h p); inside = λ p m. a .inside p (omega (arith, h p)) }
 
 -- those of the tree
-tree-apart : {half : ℕ} (X : Image) {Y : State} → Going half X Y
+tree-apart : {half kind changes : ℕ} (X : Image) {Y : State} → Structure half kind changes X Y
     → Apart (X .head .pages) (λ p. times p (pages-under (suc (Y .tree .level)) (root-ent (Y .tree))))
-unfolding counted root-ent
+unfolding root-ent
 tree-apart X {Y} g =
     let l = Y .tree .level in
     let x = root-ent (Y .tree) in
     record {
-      once = λ p. omega (arith, under-suc l p x, held-is g p, once-is Y (good-once g) p);
+      once = λ p. omega (arith, under-suc l p x, held-is g p, once-is Y (structure-once g) p);
       inside = λ p m. omega (arith, tree-inside g p (omega (arith, under-suc l p x)), g .ranges .mark-most);
     }
 
@@ -123,38 +121,37 @@ module _ (q : Task) where
 
   -- ---- down the levels
 
-  module _ (h : Head) (few : h .changes ≤ most-changes) (f : Effective (h .kind) (q .effect)) where
-    under-ready : (l sums counts hi : ℕ) (x : Ent (Kid l)) (Z : Image) → Weighed h l sums counts x → Shows l (Z .page) x
-        → Apart (h .pages) (λ p. times p (pages-under l x)) → Z .head .pages ≡ h .pages → Below-spreadable q l hi (x .entry .child) Z
+  module _ (kind changes n : ℕ) (few : changes ≤ most-changes) (f : Effective kind (q .effect)) where
+    under-ready : (l sums counts hi : ℕ) (x : Ent (Kid l)) (Z : Image) → Weighed kind changes l sums counts x → Shows l (Z .page) x
+        → Apart n (λ p. times p (pages-under l x)) → Z .head .pages ≡ n → Below-spreadable q l hi (x .entry .child) Z
     unfolding Below-spreadable
     under-ready zero sums counts hi x Z w a o m = tt
     under-ready (suc l) sums counts hi x Z w a o m =
         let s : ℕ = sums + natAbs (x .entry .pair .sum) in
         let c : ℕ = counts + natAbs (x .entry .pair .count) in
-        page-ready (h .pages) l (λ y. Weighed h l s c y) (λ y v. effect-combinable h few l s c y (q .effect) v f)
+        page-ready n l (λ y. Weighed kind changes l s c y) (λ y v. effect-combinable kind changes few l s c y (q .effect) v f)
         (λ end y U v b r k. under-ready l s c end y U v b r k)
-        hi x Z (weighed-below h l sums counts x w) a o m
+        hi x Z (weighed-below kind changes l sums counts x w) a o m
 
   -- ---- from the root, over any capacity of a page
 
-  pub root-ready : {half : ℕ} (X : Image) {Y : State} → Effective (X .head .kind) (q .effect) → Going half X Y
+  pub root-ready : {half kind changes : ℕ} (X : Image) {Y : State} → Effective kind (q .effect) → Structure half kind changes X Y
       → Page-spreadable q (X .head .height - 1) END (X .head .root) X
-  unfolding counted root-ent
-  root-ready X {Y} f g =
+  unfolding root-ent
+  root-ready {kind = kind} {changes} X {Y} f g =
       let l : ℕ = Y .tree .level in
-      let h : Head = counted X .head in
-      let few : h .changes ≤ most-changes = g .ranges .changes-most in
+      let n : ℕ = X .head .pages in
+      let few = g .changes-most in
       let e : X .head .height - 1 ≡ l = omega (arith, g .shown .height) in
-      let b = g .bounds in
-      let all : All (λ y. Weighed h l 0 0 y) (Y .tree .ents) = weighed-all h l 0 0 (Y .tree .ents) (b .sums) (b .counts) (b .values) in
-      subst⁻¹ (λ (n : ℕ). Page-spreadable q n END (X .head .root) X) e
+      let all : All (λ y. Weighed kind changes l 0 0 y) (Y .tree .ents) = bounds-weighed kind changes (Y .tree) (g .bounds) in
+      subst⁻¹ (λ (k : ℕ). Page-spreadable q k END (X .head .root) X) e
       (subst⁻¹ (λ (p : ℕ). Page-spreadable q l END p X) (g .shown .root)
-      (page-ready (h .pages) l (λ y. Weighed h l 0 0 y) (λ y w. effect-combinable h few l 0 0 y (q .effect) w f)
-      (λ hi y Z w a o m. under-ready h few f l 0 0 hi y Z w a o m)
+      (page-ready n l (λ y. Weighed kind changes l 0 0 y) (λ y w. effect-combinable kind changes few l 0 0 y (q .effect) w f)
+      (λ hi y Z w a o m. under-ready kind changes n few f l 0 0 hi y Z w a o m)
       END (root-ent (Y .tree)) X all (g .shown .below) (tree-apart X g) refl))
 
 -- The image that step C finds is ready for it, whatever the task's span, if its effect is one of the image's kind.
-pub spreadable : {X : Image} {Y : State} (q : Task) → Effective (X .head .kind) (q .effect) → Going 12 X Y → Spreadable q X
-unfolding counted
-spreadable {X} {Y} q f g =
-    record { least = omega (arith, g .shown .height); most = height-most (counted X) Y g; root = root-ready q X f g }
+pub spreadable : {kind changes : ℕ} {X : Image} {Y : State} (q : Task) → Effective kind (q .effect) → Structure 12 kind changes X Y
+    → Spreadable q X
+spreadable {X = X} {Y = Y} q f g =
+    record { least = omega (arith, g .shown .height); most = height-most X Y g; root = root-ready q X f g }

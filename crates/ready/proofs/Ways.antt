@@ -7,11 +7,10 @@ use lib.ListN.{length}
 use lib.IntN.{natAbs}
 use Rattle.rule.specs.Time.{END}
 use Rattle.page.specs.declared.Entry.{Entry}
-use Rattle.page.specs.declared.Head.{Head}
 use Rattle.page.specs.Entries.{place}
 use Rattle.image.specs.Images.{Image, tree}
 use Rattle.image.specs.Sound.{times}
-use Rattle.steps.specs.Supply.{entries, counted}
+use Rattle.steps.specs.Supply.{entries}
 use Rattle.store.specs.Ready.{In-image, Searchable}
 use Rattle.tree.specs.Tree.{Ent, Kid, no-ent, bare, pages-under, ent-of}
 use Rattle.tree.specs.Supply.{Supply}
@@ -20,14 +19,14 @@ use Rattle.tree.specs.Shape.{Seg, Shaped, Leaf}
 use Rattle.tree.specs.Held.{All, times-spare}
 use Rattle.tree.proofs.Seg.{seg-lt}
 use Rattle.tree.proofs.Find.{Has, find-ent}
-use Rattle.view.specs.View.{Shows, Shown, Once, Stocked, Full}
+use Rattle.view.specs.View.{Shows, Once, Stocked, Full}
 use Rattle.view.proofs.Lists.{ent-at, all-at, hit-self, under-suc, below-at}
 use Rattle.view.proofs.Ways.{entries-are, there, has-place, stocked-on, shows-on}
 use Rattle.view.proofs.Stepped.{held-is, once-is}
 use Rattle.view.proofs.Formed.{formed-full}
-use Rattle.state.proofs.To.Weights.{Weighed, weighed-all, weighed-below}
-use Rattle.state.proofs.To.Known.{good-once, tree-inside}
-use Rattle.ready.proofs.Going.{Going}
+use Rattle.state.specs.Good.{Structure}
+use Rattle.state.proofs.To.Weights.{Weighed, bounds-weighed, weighed-below}
+use Rattle.state.proofs.To.Known.{structure-once, tree-inside}
 use Rattle.ready.proofs.Places.{searched}
 
 -- a tree page shows its entries
@@ -38,31 +37,31 @@ page-is l X x s = s .0 ∙ ap (λ (es : List Entry). tree l es) (sym (entries-ar
 
 -- What is known of the page under x on the way to t: its part of the tree is shown, its pages are the image's and none is held twice, its
 -- entries follow each other from t or before, and their pairs are bounded, below pairs whose absolute sums and counts add to these.
-pub record Known (half : ℕ) (h : Head) (t : ℕ) (X : Image) (S : Supply) (l lo hi sums counts : ℕ) (x : Ent (Kid (suc l))) : Type 0 where
+pub record Known (half kind changes t : ℕ) (X : Image) (S : Supply) (l lo hi sums counts : ℕ) (x : Ent (Kid (suc l))) : Type 0 where
   pub shown : Shows (suc l) (X .page) x
   pub stocked : Stocked (suc l) x
   pub once : (q : ℕ) → times q (pages-under (suc l) x) + times-spare q S ≤ 1
   pub inside : (q : ℕ) → 1 ≤ times q (pages-under (suc l) x) → In-image q X
   pub spans : Seg (λ a b y. Shaped half Leaf l a b y) lo hi (x .kid)
   pub begun : lo ≤ t
-  pub weighed : All (λ y. Weighed h l sums counts y) (x .kid)
+  pub weighed : All (λ y. Weighed kind changes l sums counts y) (x .kid)
 
 -- the page under the entry of x that has t
-pub record Below (half : ℕ) (h : Head) (t : ℕ) (X : Image) (S : Supply) (l sums counts : ℕ) (x : Ent (Kid (suc (suc l)))) : Type 0 where
+pub record Below (half kind changes t : ℕ) (X : Image) (S : Supply) (l sums counts : ℕ) (x : Ent (Kid (suc (suc l)))) : Type 0 where
   pub lo : ℕ
   pub hi : ℕ
-  pub known : Known half h t X S l lo hi
+  pub known : Known half kind changes t X S l lo hi
       (sums + natAbs (there (suc l) t (x .kid) .entry .pair .sum))
       (counts + natAbs (there (suc l) t (x .kid) .entry .pair .count))
       (there (suc l) t (x .kid))
 
-module _ {half : ℕ} {h : Head} {t : ℕ} {X : Image} {S : Supply} where
+module _ {half kind changes t : ℕ} {X : Image} {S : Supply} where
   -- the page itself, and those under its entries
-  pub here-inside : {l lo hi sums counts : ℕ} {x : Ent (Kid (suc l))} → Known half h t X S l lo hi sums counts x
+  pub here-inside : {l lo hi sums counts : ℕ} {x : Ent (Kid (suc l))} → Known half kind changes t X S l lo hi sums counts x
       → In-image (x .entry .child) X
   here-inside {l} {x = x} k = k .inside (x .entry .child) (omega (arith, under-suc l (x .entry .child) x, hit-self (x .entry .child)))
 
-  pub child-inside : {l lo hi sums counts : ℕ} {x : Ent (Kid (suc (suc l)))} → Known half h t X S (suc l) lo hi sums counts x
+  pub child-inside : {l lo hi sums counts : ℕ} {x : Ent (Kid (suc (suc l)))} → Known half kind changes t X S (suc l) lo hi sums counts x
       → (j : ℕ)
       → j < length (x .kid)
       → In-image (ent-at (suc l) (x .kid) j .entry .child) X
@@ -71,18 +70,18 @@ module _ {half : ℕ} {h : Head} {t : ℕ} {X : Image} {S : Supply} where
       let q = y .entry .child in
       k .inside q (omega (arith, under-suc (suc l) q x, below-at (suc l) q j (x .kid) n, under-suc l q y, hit-self q))
 
-  some-span : {l lo hi sums counts : ℕ} {x : Ent (Kid (suc l))} → Known half h t X S l lo hi sums counts x → lo < hi
+  some-span : {l lo hi sums counts : ℕ} {x : Ent (Kid (suc l))} → Known half kind changes t X S l lo hi sums counts x → lo < hi
   some-span {l} {x = x} k = seg-lt (k .spans) (omega (arith, has-place l t x (k .stocked)))
 
   -- it can be searched for t
-  pub known-searchable : {l lo hi sums counts : ℕ} {x : Ent (Kid (suc l))} → Known half h t X S l lo hi sums counts x
+  pub known-searchable : {l lo hi sums counts : ℕ} {x : Ent (Kid (suc l))} → Known half kind changes t X S l lo hi sums counts x
       → Searchable l (x .entry .child) t X
   unfolding Shows
   known-searchable k = searched (here-inside k) (k .shown .0) (k .spans) (some-span k) (k .begun)
 
   -- one level down
-  pub known-below : {l lo hi sums counts : ℕ} {x : Ent (Kid (suc (suc l)))} → Known half h t X S (suc l) lo hi sums counts x
-      → Below half h t X S l sums counts x
+  pub known-below : {l lo hi sums counts : ℕ} {x : Ent (Kid (suc (suc l)))} → Known half kind changes t X S (suc l) lo hi sums counts x
+      → Below half kind changes t X S l sums counts x
   unfolding ent-of Shaped
   known-below {l} {sums = sums} {counts} {x} k =
       let i = place t (bare (x .kid)) in
@@ -100,29 +99,18 @@ module _ {half : ℕ} {h : Head} {t : ℕ} {X : Image} {S : Supply} where
               inside = λ q m. k .inside q (omega (arith, under-suc (suc l) q x, below-at (suc l) q i (x .kid) n));
               spans = f .holds .1;
               begun = f .begun;
-              weighed = weighed-below h l sums counts y (all-at i (no-ent (suc l)) (k .weighed) n);
+              weighed = weighed-below kind changes l sums counts y (all-at i (no-ent (suc l)) (k .weighed) n);
             };
       }
 
 -- ---- from the root
 
-pub uncounted : {X : Image} {Y : State} → Shown (counted X) Y → Shown X Y
-unfolding counted
-uncounted s =
-    let u = s .supplied in
-    record {
-      height = s .height;
-      root = s .root;
-      below = s .below;
-      supplied = record { length-true = u .length-true; linked = u .linked; mark = u .mark; unused = u .unused };
-    }
-
-pub going-known : {half : ℕ} {X : Image} {Y : State} → 2 ≤ half → (t : ℕ) → Going half X Y
-    → Known half (counted X .head) t X (Y .supply) (Y .tree .level) 0 END 0 0 (root-ent (Y .tree))
-unfolding counted root-ent Full
-going-known {half} {X} {Y} two t g =
+pub structure-known : {half kind changes : ℕ} {X : Image} {Y : State} → 2 ≤ half → (t : ℕ) → Structure half kind changes X Y
+    → Known half kind changes t X (Y .supply) (Y .tree .level) 0 END 0 0 (root-ent (Y .tree))
+unfolding root-ent Full
+structure-known {half} {X = X} {Y = Y} two t g =
     let T = Y .tree in
-    let once : Once Y = good-once g in
+    let once : Once Y = structure-once g in
     record {
       shown = g .shown .below;
       stocked = formed-full half Leaf two Y (g .formed);
@@ -131,5 +119,5 @@ going-known {half} {X} {Y} two t g =
           λ q m. let i = tree-inside g q (omega (arith, under-suc (T .level) q (root-ent T))) in omega (arith, g .ranges .mark-most);
       spans = g .formed .spans;
       begun = omega arith;
-      weighed = weighed-all (counted X .head) (T .level) 0 0 (T .ents) (g .bounds .sums) (g .bounds .counts) (g .bounds .values);
+      weighed = bounds-weighed _ _ T (g .bounds);
     }

@@ -1,7 +1,6 @@
 -- What each small change of an image leaves of its pages and its head. Assumes nothing.
 use Prim.Native.Nat.{ℕ}
 use mathlib.Core.Path.{_≡_, refl}
-use lib.Dec.{eqb}
 use borrow.Author.Tests.{eq-eqb, ne-eqb}
 use Rattle.image.specs.Images.{Image, Cell}
 use Rattle.steps.specs.Supply.{put, taken, with-root}

@@ -1,5 +1,5 @@
 -- Cases of the five steps that compute, on images of pages of four entries (half of which is 2): the definitions' own test. Assumes nothing.
-use Prim.Native.Nat.{ℕ, zero, suc}
+use Prim.Native.Nat.{ℕ}
 use mathlib.Core.Path.{_≡_}
 use mathlib.Core.Bool.{true, false}
 use mathlib.Core.List.{List, [], _∷_}

@@ -5,7 +5,6 @@ use mathlib.Core.List.{List, [], _∷_, _++_}
 use lib.Dec.{leb, ltb}
 use Rattle.rule.specs.declared.Pair.{Pair}
 use Rattle.rule.specs.Time.{END}
-use Rattle.page.specs.declared.Entry.{Entry}
 use Rattle.page.specs.Entries.{at, place}
 use Rattle.image.specs.Images.{Image}
 use Rattle.steps.specs.Supply.{entries, spares, pages-taken, counted}

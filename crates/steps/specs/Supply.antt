@@ -3,11 +3,10 @@
 use Prim.Native.Nat.{ℕ, zero, suc, _+_, _-_}
 use mathlib.Core.Bool.{cond}
 use mathlib.Core.List.{List, [], _∷_}
-use lib.ListN.{length}
 use lib.Dec.{eqb}
 use Rattle.page.specs.declared.Entry.{Entry}
 use Rattle.page.specs.declared.Head.{Head}
-use Rattle.image.specs.Images.{Image, Cell, free, tree, entries-in, next-in}
+use Rattle.image.specs.Images.{Image, Cell, free, entries-in, next-in}
 
 -- the entries of page p
 unfoldable pub entries : Image → ℕ → List Entry

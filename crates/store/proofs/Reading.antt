@@ -17,7 +17,6 @@ use Rattle.lent.proofs.Laws.{page-length}
 use Rattle.lookup.specs.Levels.{Searched}
 use Rattle.edit.proofs.Edits.{shows-number}
 use Rattle.steps.specs.Supply.{entries}
-use Rattle.store.specs.declared.Found.{Found}
 use Rattle.store.specs.Holding.{Holds, Loaded}
 use Rattle.store.specs.Ready.{Tree-page, Has-entry, Searchable, found-in}
 use Rattle.store.proofs.Holding.{Tree-read, tree-read, holds-length}

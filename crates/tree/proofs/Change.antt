@@ -1,4 +1,4 @@
--- The five steps together: the effect stands in exactly the pairs of its span, and the shape is kept. Assumes nothing.
+-- The five steps together: the effect stands in exactly the pairs of its span. Assumes nothing.
 use Prim.Native.Nat.{ℕ, _≤_, _<_}
 use mathlib.Core.Path.{_≡_, ap, _∙_}
 use mathlib.Core.Bool.{cond}
@@ -19,11 +19,11 @@ use Rattle.tree.proofs.Heal.{heal-formed, heal-pairs}
 module _ {half : ℕ} (two : 2 ≤ half) {B : Asked (Kid 0)} (cutting : Cuttable B) (any : Pairless B) (joins : Joinable B) {_⊕_ : Pair → Pair → Pair} (lawful : Lawful _⊕_)
     (s e : ℕ) (Y : State) (F : Formed half B (Y .tree)) where
   infixl 60 _⊕_
-  pub cuts-formed : Formed half (Parts e (Parts s B)) (cuts half s e Y .tree)
+  cuts-formed : Formed half (Parts e (Parts s B)) (cuts half s e Y .tree)
   unfolding cuts
   cuts-formed = cut-formed two (parts-cuttable s cutting) lawful e (cut half s Y) (cut-formed two cutting lawful s Y F)
 
-  pub cuts-pairs : (u : ℕ) → pair-at _⊕_ (cuts half s e Y .tree) u ≡ pair-at _⊕_ (Y .tree) u
+  cuts-pairs : (u : ℕ) → pair-at _⊕_ (cuts half s e Y .tree) u ≡ pair-at _⊕_ (Y .tree) u
   unfolding cuts
   cuts-pairs u = cut-pairs two (parts-cuttable s cutting) lawful e (cut half s Y) (cut-formed two cutting lawful s Y F) u ∙ cut-pairs two cutting lawful s Y F u
 
@@ -33,10 +33,6 @@ module _ {half : ℕ} (two : 2 ≤ half) {B : Asked (Kid 0)} (cutting : Cuttable
 
     combined-formed : Formed half B (combined .tree)
     combined-formed = formed-map (λ a b y q. q .0 .0) (spread-formed _⊕_ s e effect (cuts half s e Y) cuts-formed (parts-pairless e (parts-pairless s any)))
-
-    pub change-formed : Formed half B (change half _⊕_ s e effect Y .tree)
-    unfolding change
-    change-formed = heal-formed two any joins lawful e (heal half _⊕_ s combined) (heal-formed two any joins lawful s combined combined-formed)
 
     pub change-pairs : (u : ℕ) → u < END → pair-at _⊕_ (change half _⊕_ s e effect Y .tree) u ≡ cond (covers s e u) (pair-at _⊕_ (Y .tree) u ⊕ effect) (pair-at _⊕_ (Y .tree) u)
     unfolding change

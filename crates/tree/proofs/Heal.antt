@@ -12,7 +12,7 @@ use borrow.Author.Tests.{ltb-true, ltb-false}
 use Rattle.rule.specs.declared.Pair.{Pair}
 use Rattle.rule.specs.Pairs.{same-pair, Lawful}
 use Rattle.rule.specs.Time.{END}
-use Rattle.rule.proofs.Tests.{both}
+use Rattle.tree.specs.Heal.{both}
 use Rattle.rule.proofs.Laws.{same-pair-is}
 use Rattle.page.specs.declared.Entry.{Entry}
 use Rattle.page.specs.Layout.{capacity}

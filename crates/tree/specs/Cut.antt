@@ -6,10 +6,9 @@ use lib.ListN.{length, take, drop, getD}
 use lib.Dec.{eqb, leb}
 use Rattle.rule.specs.Pairs.{none}
 use Rattle.rule.specs.Time.{END}
-use Rattle.page.specs.declared.Entry.{Entry}
 use Rattle.page.specs.Entries.{entry, at, place, splice}
 use Rattle.page.specs.Layout.{capacity}
-use Rattle.tree.specs.Tree.{Ent, Kid, Ents, no-ent, bare, Tree}
+use Rattle.tree.specs.Tree.{Ent, Kid, no-ent, bare, Tree}
 use Rattle.tree.specs.Supply.{Supply, next-page, without-next}
 
 pub record Cutting (A : Type 0) : Type 0 where

@@ -8,7 +8,7 @@ use lib.Dec.{leb}
 use Rattle.rule.specs.declared.Pair.{Pair}
 use Rattle.rule.specs.Pairs.{none}
 use Rattle.image.specs.Sound.{times}
-use Rattle.tree.specs.Tree.{Ent, Kid, Ents, Tree, over, pages-under}
+use Rattle.tree.specs.Tree.{Ent, Kid, Ents, over, pages-under}
 use Rattle.tree.specs.Supply.{Supply}
 use Rattle.tree.specs.Cut.{State}
 

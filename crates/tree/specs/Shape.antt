@@ -6,7 +6,7 @@ use mathlib.Core.List.{List, [], _∷_}
 use lib.ListN.{length}
 use Rattle.rule.specs.Time.{END}
 use Rattle.page.specs.Layout.{capacity}
-use Rattle.tree.specs.Tree.{Ent, Kid, Ents, Tree}
+use Rattle.tree.specs.Tree.{Ent, Kid, Tree}
 
 -- What may be asked of an entry from its start to its end.
 abbrev pub Asked : Type 0 → Type 1

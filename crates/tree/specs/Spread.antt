@@ -5,7 +5,7 @@ use mathlib.Core.List.{List, [], _∷_}
 use Rattle.rule.specs.declared.Pair.{Pair}
 use Rattle.rule.specs.Time.{END, overlaps}
 use Rattle.steps.specs.Spread.{inside, start-of, took}
-use Rattle.tree.specs.Tree.{Ent, Kid, Ents, bare, Tree}
+use Rattle.tree.specs.Tree.{Ent, Kid, Ents, bare}
 use Rattle.tree.specs.Cut.{State}
 
 -- f of each entry and its end

@@ -2,14 +2,11 @@
 use Prim.Native.Nat.{ℕ, zero, suc, _≤_}
 use mathlib.Core.List.{List}
 use native.Mathlib.Omega.{arith}
-use Rattle.rule.specs.declared.Pair.{Pair}
 use Rattle.tree.specs.Tree.{Ent, Kid}
 use Rattle.tree.specs.Cut.{State, root-ent}
 use Rattle.tree.specs.Shape.{Seg, done, more, Shaped, root-least, Formed}
-use Rattle.tree.proofs.Shapes.{formed-map}
 use Rattle.tree.specs.Held.{All, all-none, all-more}
 use Rattle.view.specs.View.{Stocked, Full, Ordered, Gapless}
-use Rattle.view.specs.Change.{after-A, after-B, after-C, after-D, Passable}
 
 seg-all : {A : Type 0} {Q : ℕ → ℕ → Ent A → Type 0} (P : Ent A → Type 0) → ((a b : ℕ) (x : Ent A) → Q a b x → P x)
     → {lo hi : ℕ} {es : List (Ent A)}
@@ -50,24 +47,3 @@ module _ (half : ℕ) (B : ℕ → ℕ → Ent (Kid 0) → Type 0) where
   pub formed-gapless : (Y : State) → Formed half B (Y .tree) → Gapless Y
   unfolding Gapless Ordered root-ent
   formed-gapless Y f = seg-map (λ a b y t. shaped-ordered (Y .tree .level) a b y t) (f .spans)
-
--- trees as sound images have them at each step of a change, whatever is asked of leaf entries
-pub formed-passable : {P Q R S T : ℕ → ℕ → Ent (Kid 0) → Type 0} (half : ℕ) → 2 ≤ half
-    → (_⊕_ : Pair → Pair → Pair) (s e : ℕ) (effect : Pair) (Y : State)
-    → Formed half P (Y .tree)
-    → Formed half Q (after-A half _⊕_ s e effect Y .tree)
-    → Formed half R (after-B half _⊕_ s e effect Y .tree)
-    → Formed half S (after-C half _⊕_ s e effect Y .tree)
-    → Formed half T (after-D half _⊕_ s e effect Y .tree)
-    → Passable half _⊕_ s e effect Y
-formed-passable {P} {Q} {R} {S} {T} half two _⊕_ s e effect Y f a b c d =
-    record {
-      full = formed-full half P two Y f;
-      full-A = formed-full half Q two (after-A half _⊕_ s e effect Y) a;
-      full-B = formed-full half R two (after-B half _⊕_ s e effect Y) b;
-      gapless-B = formed-gapless half R (after-B half _⊕_ s e effect Y) b;
-      full-C = formed-full half S two (after-C half _⊕_ s e effect Y) c;
-      formed-C = formed-map (λ lo hi x q. tt) c;
-      full-D = formed-full half T two (after-D half _⊕_ s e effect Y) d;
-      formed-D = formed-map (λ lo hi x q. tt) d;
-    }

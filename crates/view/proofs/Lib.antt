@@ -11,7 +11,5 @@ pub mod Turn
 pub mod Shrink
 pub mod Past
 pub mod Heal
-pub mod Change
 pub mod Formed
-pub mod Limits
 pub mod Fresh

@@ -1,7 +1,7 @@
 -- A heal at END leaves the image as it is: no entry starts there, and no page is short. Assumes nothing.
 use Prim.Native.Nat.{ℕ, zero, suc, _-_, _≤_, _<_}
 use mathlib.Core.Path.{_≡_, refl, ap, _∙_}
-use mathlib.Core.Bool.{Bool, true, false, cond, _&&_}
+use mathlib.Core.Bool.{Bool, true, false, _&&_}
 use mathlib.Core.List.{List}
 use native.Mathlib.Omega.{arith}
 use lib.Dec.{eqb, ltb}
@@ -10,7 +10,6 @@ use borrow.Author.Tests.{lt-ltb, le-ltb, ne-eqb}
 use Rattle.rule.specs.declared.Pair.{Pair}
 use Rattle.rule.specs.Pairs.{same-pair}
 use Rattle.rule.specs.Time.{END}
-use Rattle.page.specs.declared.Entry.{Entry}
 use Rattle.page.specs.Entries.{at, place}
 use Rattle.image.specs.Images.{Image}
 use Rattle.steps.specs.Supply.{entries}

@@ -1,18 +1,18 @@
 -- What every step does to an image and to the tree and supply that it shows. Assumes nothing.
 use Prim.Native.Nat.{ℕ, zero, suc, _+_, _≤_}
 use mathlib.Core.Path.{_≡_, refl, ap, _∙_}
-use mathlib.Core.List.{List, [], _∷_, List·Memᴰ, List·Memᴰ·head, List·Memᴰ·tail}
+use mathlib.Core.List.{List, [], _∷_, _++_, List·Memᴰ, List·Memᴰ·head, List·Memᴰ·tail}
 use native.Mathlib.Omega.{arith}
 use Rattle.page.specs.declared.Head.{Head}
 use Rattle.image.specs.Images.{Image}
 use Rattle.image.specs.Sound.{times}
-use Rattle.steps.specs.Supply.{with-supply}
+use Rattle.steps.specs.Supply.{with-supply, counted}
 use Rattle.tree.specs.Tree.{Ents, pages-under}
 use Rattle.tree.specs.Supply.{Supply}
 use Rattle.tree.specs.Cut.{State, root-ent}
 use Rattle.tree.specs.Held.{times-spare, held}
 use Rattle.view.specs.View.{Shown, Once}
-use Rattle.view.proofs.Lists.{hit, hit-is, times-cons, times-none, under-suc}
+use Rattle.view.proofs.Lists.{hit, hit-is, times-cons, times-none, times-append, under-suc}
 use Rattle.view.proofs.Moves.{Frame, lasting}
 
 abbrev pub state : (l root : ℕ) → Ents l → Supply → State
@@ -58,6 +58,33 @@ pub record Stepped (X X′ : Image) (Y Y′ : State) (names : List ℕ) : Type 0
 pub once-after : {X X′ : Image} {Y Y′ : State} {names : List ℕ} → Stepped X X′ Y Y′ names → Once Y → Once Y′
 unfolding Once
 once-after d once q = omega (arith, d .same-held q, once q)
+
+-- a step after another
+pub then : {X Z X′ : Image} {Y U Y′ : State} {ps qs : List ℕ} → Stepped X Z Y U ps → Stepped Z X′ U Y′ qs → Stepped X X′ Y Y′ (ps ++ qs)
+then {ps = ps} {qs = qs} a b =
+    record {
+      shown = b .shown;
+      same-held = λ q. b .same-held q ∙ a .same-held q;
+      frame = λ q h. b .frame q (omega (arith, times-append q ps qs)) ∙ a .frame q (omega (arith, times-append q ps qs));
+      inside = λ q h. omega (arith, times-append q ps qs, a .inside q h, b .inside q (a .same-held q ∙ h));
+      steady = steady-then (a .steady) (b .steady);
+    }
+
+pub counted-shown : {X : Image} {Y : State} → Shown X Y → Shown (counted X) Y
+unfolding counted
+counted-shown s =
+    record {
+      height = s .height;
+      root = s .root;
+      below = s .below;
+      supplied =
+          record {
+            length-true = s .supplied .length-true;
+            linked = s .supplied .linked;
+            mark = s .supplied .mark;
+            unused = s .supplied .unused;
+          };
+    }
 
 -- a page that no list names is counted nowhere
 pub absent : (q : ℕ) (names : List ℕ) → ¬ List·Memᴰ q names → times q names ≡ 0

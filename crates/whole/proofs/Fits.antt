@@ -6,11 +6,8 @@ use Prim.Native.Nat.{ℕ, zero, suc, _+_, _*_, _-_, _≤_, _<_, _^_}
 use native.Mathlib.Omega.{arith}
 use lib.Dec.{eqb}
 use lib.IntN.{natAbs}
-use mir.Syntax.{w32, w64}
-use mir.Val.{SFits}
 use borrow.Author.Tests.{eqb-true}
 use Rattle.rule.specs.declared.Pair.{Pair}
-use Rattle.rule.specs.Time.{END, most-value}
 use Rattle.rule.specs.Pairs.{added, combine}
 use Rattle.rule.proofs.Signed.{natAbs-add}
 use Rattle.rule.proofs.Laws.{combine-sum-bound}
@@ -18,13 +15,12 @@ use Rattle.fields.specs.Bytes.{Bytes}
 use Rattle.fields.proofs.Laws.Digits.{bytes-part}
 use Rattle.fields.proofs.Laws.Places.{u32}
 use Rattle.page.specs.declared.Head.{Head}
-use Rattle.page.specs.Layout.{start-at, pair-at, child-at, head-of}
-use Rattle.page.specs.Fit.{Place, root-place, place-below, most-changes}
+use Rattle.page.specs.Layout.{start-at, pair-at, child-at}
+use Rattle.page.specs.Fit.{Place, place-below}
 use Rattle.fit.proofs.Laws.Pages.{Total, page-fit-is}
 use Rattle.image.specs.Images.{page-at}
-use Rattle.image.specs.Listing.{Run, walk, walk-over, leaf-run, under}
-use Rattle.calls.specs.Calls.{head, runs-over}
-use Rattle.whole.proofs.Each.{Each, none, more, each-page, each-map, each-join}
+use Rattle.image.specs.Listing.{Run, walk, leaf-run, under}
+use Rattle.whole.proofs.Each.{Each, none, more, each-page, each-map}
 
 -- the bounds of a fit page, which its place carries down
 pub record Bound (h : Head) (at : Place) (r : Run) : Type 0 where

@@ -2,25 +2,24 @@
 use mathlib.Core.Path.{_≡_, refl, sym, ap, _∙_, subst}
 use mathlib.Core.Bool.{Bool, true, false, cond}
 use mathlib.Core.List.{List, [], _∷_, _++_}
-use Prim.Native.Nat.{ℕ, suc, _+_, _*_, _-_, _/_, _≤_, _<_, _^_}
+use Prim.Native.Nat.{ℕ, _+_, _*_, _-_, _/_}
 use native.Mathlib.Decide.{ℕ-discrete}
 use native.Mathlib.Omega.{arith}
 use lib.ListN.{length, replicate}
 use lib.Dec.{eqb}
-use lib.IntN.{natAbs}
 use mir.Syntax.{w32, w64}
 use borrow.Author.Tests.{eq-eqb}
 use Rattle.rule.specs.Time.{END}
 use Rattle.rule.proofs.Signed.{sfits-natAbs}
-use Rattle.fields.specs.Bytes.{part, patch}
+use Rattle.fields.specs.Bytes.{patch}
 use Rattle.fields.proofs.Laws.Parts.{part-patch-same}
 use Rattle.page.specs.declared.Head.{Head}
 use Rattle.page.specs.Layout.{page-size, joined}
 use Rattle.page.specs.Fit.{root-place}
-use Rattle.image.specs.Images.{page-at, pages-in}
+use Rattle.image.specs.Images.{pages-in}
 use Rattle.image.specs.Listing.{Run, run-bytes, walk-over}
 use Rattle.image.specs.Sound.{sound}
-use Rattle.calls.specs.Calls.{Listed, head, format, book, runs-over, written, listing}
+use Rattle.calls.specs.Calls.{head, format, book, runs-over, written, listing}
 use Rattle.marks.proofs.Opened.{all-definitions}
 use Rattle.calls.specs.Book.{Book, empty-book}
 use Rattle.calls.specs.Program.{Line, booking, unread, ran-line, runs-text, program}
@@ -34,7 +33,6 @@ use Rattle.demands.proofs.Kept.{Kept, kept-accepted}
 use Rattle.demands.proofs.Fresh.{kept-format}
 use Rattle.demands.proofs.All.{twelve}
 use Rattle.luwhenoka.proofs.Laws.Listings.{listing-0}
-use Rattle.program.specs.Listed.{runs-at}
 use Rattle.program.specs.Going.{Going, at-first, line-run, goes, goes-on, ended, listing-text, listed-text}
 use Rattle.program.proofs.Whole.{goes-program}
 use Rattle.whole.proofs.Each.{Each, each-so, each-join}

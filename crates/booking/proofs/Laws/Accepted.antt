@@ -20,15 +20,14 @@ use Rattle.steps.specs.Change.{lacks-pages, change}
 use Rattle.calls.specs.Refusals.{first}
 use Rattle.calls.specs.Changes.{Side, withdraws, effect}
 use Rattle.calls.specs.Calls.{head, changed}
+use Rattle.calls.proofs.Changes.{effective}
 use Rattle.store.specs.Holding.{Holds, Some, Each}
 use Rattle.state.proofs.From.Good.{sound-good}
 use Rattle.change.specs.Changeable.{Changeable}
 use Rattle.needs.proofs.Held.{sound-holds}
 use Rattle.ready.proofs.Changes.{changeable}
-use Rattle.demands.proofs.Change.{effective}
-use Rattle.booking.specs.declared.Judged.{Judged}
 use Rattle.booking.specs.declared.Judged.the-variants.{Accepted, Refused}
-use Rattle.booking.specs.Rows.{late-rows, judged, Accepts}
+use Rattle.booking.specs.Rows.{judged, Accepts}
 
 -- the four tests are passed
 pub record Passed (unsound other full lacking : Bool) : Type 0 where
@@ -78,7 +77,7 @@ module _ {side : Side} {v : ℤ} {s e : ℕ} {img : List ℕ} {h : Head} (a : Ac
       let f = facts .0 in
       let n : head 12 img .changes ≢ most-changes = eqb-false (head 12 img .changes) most-changes (f .few) in
       changeable s end (effect side v) g (effective (head 12 img .kind) side v (a .fits) (f .sided))
-      (below (head 12 img .changes) most-changes (g .ranges .changes-most) n) (f .enough)
+      (below (head 12 img .changes) most-changes (g .structure .changes-most) n) (f .enough)
     where
       below : (m n : ℕ) → m ≤ n → m ≢ n → m < n
       below m n l d = omega (arith, d)

@@ -2,20 +2,19 @@
 use Prim.Native.Nat.{ℕ, _≤_, _<_}
 use mathlib.Core.Path.{_≡_, refl, sym, ap, _∙_}
 use mathlib.Core.Logic.{_≢_}
-use mathlib.Core.Bool.{Bool, true, false, cond, not, _&&_, and-eq-true-iff}
+use mathlib.Core.Bool.{Bool, true, false, cond, not, and-eq-true-iff}
 use mathlib.Core.List.{List, [], _∷_, _++_}
 use native.Mathlib.Omega.{arith}
 use lib.Dec.{eqb}
 use lib.ListN.{length}
 use lib.IntN.{ℤ}
-use borrow.Author.Tests.{eqb-true, eq-eqb, ne-eqb, leb-true, ltb-true}
+use borrow.Author.Tests.{eqb-true, ne-eqb, leb-true, ltb-true}
 use Rattle.rule.specs.Time.{span-ok, value-ok}
 use Rattle.page.specs.declared.Head.{Head}
 use Rattle.image.specs.Images.{pages-in, length-ok}
 use Rattle.calls.specs.Refusals.{Row, first, borrowed, scratch-ok, cleared, scratch-after}
 use Rattle.calls.specs.Changes.{Side}
 use Rattle.calls.specs.Calls.{Booked, head, book-early, book-number, changed, book}
-use Rattle.booking.specs.declared.Judged.{Judged}
 use Rattle.booking.specs.declared.Judged.the-variants.{Accepted, Refused}
 use Rattle.booking.specs.Rows.{late-rows, judged, Accepts}
 

@@ -1,22 +1,22 @@
 -- The rows that need the whole image, by the outcomes of their tests. Assumes nothing.
-use Prim.Native.Nat.{ℕ, _+_, _≤_, _<_, min}
+use Prim.Native.Nat.{ℕ}
 use mathlib.Core.Path.{_≡_, refl, sym, ap, _∙_}
 use mathlib.Core.Bool.{Bool, true, false, cond, not, _&&_}
 use mathlib.Core.List.{List, [], _∷_}
 use lib.Dec.{eqb}
-use Rattle.rule.specs.Time.{END, lengthened}
+use Rattle.rule.specs.Time.{lengthened}
 use Rattle.page.specs.declared.Head.{Head}
 use Rattle.page.specs.Fit.{most-changes}
-use Rattle.image.specs.Images.{length-ok, image-of}
+use Rattle.image.specs.Images.{image-of}
 use Rattle.image.specs.Sound.{sound}
 use Rattle.steps.specs.Change.{lacks-pages}
 use Rattle.calls.specs.Refusals.{first}
-use Rattle.calls.specs.Changes.{Side, withdraws}
+use Rattle.calls.specs.Changes.{withdraws}
 use Rattle.calls.specs.Calls.{head}
 use Rattle.booking.specs.declared.Judged.{Judged}
 use Rattle.booking.specs.declared.Judged.the-variants.{Accepted, Refused}
 use Rattle.booking.specs.Sides.{side-of}
-use Rattle.booking.specs.Rows.{late-rows, judged}
+use Rattle.booking.specs.Rows.{judged}
 
 -- a judgement by the outcomes of its four tests
 judgement : (unsound other full lacking : Bool) → Head → Judged

@@ -2,7 +2,7 @@
 use mathlib.Core.Path.{_≡_, refl, sym, ap, _∙_}
 use mathlib.Core.Bool.{Bool, true, false, cond}
 use mathlib.Core.List.{List}
-use Prim.Native.Nat.{ℕ, suc, _+_, _*_, _-_, _≤_, _<_}
+use Prim.Native.Nat.{ℕ, suc, _+_, _-_, _≤_, _<_}
 use native.Mathlib.Omega.{arith}
 use Rattle.rule.specs.declared.Pair.{Pair}
 use Rattle.rule.specs.Pairs.{none, combine, Lawful}
@@ -12,7 +12,7 @@ use Rattle.page.specs.declared.Head.{Head}
 use Rattle.page.specs.Layout.{number-of}
 use Rattle.page.specs.Fit.{Place, root-place, place-below, page-fit}
 use Rattle.fit.proofs.Laws.Ways.{Way, root-way, way-bounded, below-way}
-use Rattle.image.specs.Images.{page-at, pages-in}
+use Rattle.image.specs.Images.{page-at}
 use Rattle.image.specs.Instant as image
 use Rattle.image.specs.Instant.{stopped, leaf-answer, above, look, look-up}
 use Rattle.lookup.specs.declared.Looked.{Looked}

@@ -9,7 +9,7 @@ use Rattle.fields.specs.Bytes.{Bytes, part, unused, all-are}
 use Rattle.fields.specs.Numbers.{u32-at, u32-bytes}
 use Rattle.fields.proofs.Laws.Parts.{length-part, part-whole}
 use Rattle.fields.proofs.Laws.Digits.{bytes-append, bytes-unused}
-use Rattle.fields.proofs.Laws.Places.{Field, u32}
+use Rattle.fields.proofs.Laws.Places.{u32}
 use Rattle.fields.proofs.Laws.Tests.{length-unused, all-are-unused, unused-all-are}
 use Rattle.page.specs.declared.Head.{Head}
 use Rattle.page.specs.Layout.{page-size, listed, joined, head-of, head-bytes}

@@ -1,5 +1,5 @@
 -- The full listing, printed from what the call returned. Assumes nothing.
-use mathlib.Core.Path.{_≡_, refl, sym, ap, _∙_}
+use mathlib.Core.Path.{_≡_, refl, sym, ap}
 use mathlib.Core.Bool.{Bool, true, false, cond, not, _&&_}
 use mathlib.Core.List.{List, [], _∷_, _++_}
 use Prim.Native.Nat.{ℕ, _+_, _*_, _≤_}
@@ -7,7 +7,7 @@ use native.Mathlib.Omega.{arith}
 use lib.ListN.{length, length-append}
 use lib.Dec.{eqb, ltb}
 use borrow.Author.Tests.{ltb-false}
-use Rattle.rule.specs.Time.{END, span-ok}
+use Rattle.rule.specs.Time.{span-ok}
 use Rattle.image.specs.Images.{length-ok}
 use Rattle.image.specs.Listing.{walk-over}
 use Rattle.calls.specs.Refusals.{first}

@@ -11,7 +11,7 @@ use borrow.Author.Tests.{eq-eqb, ne-eqb}
 use Rattle.booking.specs.Sides.{side-of}
 use Rattle.calls.specs.Changes.{Side, entering, withdrawing}
 use Rattle.calls.specs.Calls.{Booked, book}
-use Rattle.calls.specs.Program.{Line, booking, unread, decimal, refused-text, unread-text, Ran, ran-line}
+use Rattle.calls.specs.Program.{booking, unread, decimal, refused-text, unread-text, Ran, ran-line}
 use Rattle.text.specs.declared.Parsed.{Parsed}
 use Rattle.text.specs.declared.Parsed.the-variants.{Enter, Withdraw, Unread}
 use Rattle.text.specs.Reading.{line-of}

@@ -2,15 +2,14 @@
 use mathlib.Core.Path.{_≡_, refl, sym, ap, _∙_, subst}
 use mathlib.Core.Bool.{cond}
 use mathlib.Core.List.{List, [], _∷_, _++_}
-use Prim.Native.Nat.{ℕ, suc, _+_, _*_, _≤_, _<_}
+use Prim.Native.Nat.{ℕ, _+_, _≤_, _<_}
 use native.Mathlib.Numerals.{add-one}
 use native.Mathlib.Omega.{arith}
 use lib.ListN.{length, getD, take, replicate}
 use lib.Seq.{take-suc, take-length}
-use lib.Dec.{eqb}
 use borrow.Author.Tests.{eq-eqb, ne-eqb}
 use Rattle.calls.specs.Calls.{Formatted, format}
-use Rattle.calls.specs.Program.{Line, cut-at, line-from, Ran, ran-line}
+use Rattle.calls.specs.Program.{Line, cut-at, line-from, ran-line}
 use Rattle.text.specs.declared.Fed.{Fed}
 use Rattle.text.specs.Reading.{Holds}
 use Rattle.print.specs.Written.{Put}

@@ -5,9 +5,6 @@ use Prim.Native.Nat.{ℕ, zero, suc, _+_, _*_, _-_, _≤_, _<_}
 use native.Mathlib.Numerals.{add-one}
 use native.Mathlib.Omega.{arith}
 use lib.ListN.{length, length-append}
-use lib.IntN.{ℤ}
-use Rattle.rule.specs.declared.Pair.{Pair}
-use Rattle.rule.specs.declared.Average.{Average}
 use Rattle.rule.specs.Time.{END}
 use Rattle.rule.specs.Averages.{average}
 use Rattle.image.specs.Listing.{Run}

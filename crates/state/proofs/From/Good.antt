@@ -14,7 +14,7 @@ use Rattle.image.specs.Sound.{sound}
 use Rattle.tree.specs.Cut.{root-ent}
 use Rattle.view.specs.View.{Shown}
 use Rattle.audit.proofs.Sound.{the-head, Sound-facts, sound-facts}
-use Rattle.state.specs.Good.{Ranges, Good}
+use Rattle.state.specs.Good.{Ranges, Structure, Good}
 use Rattle.state.proofs.From.Load.{state-in}
 use Rattle.state.proofs.From.Cells.{tree-shown}
 use Rattle.state.proofs.From.Shape.{tree-formed}
@@ -52,18 +52,22 @@ module _ (half : ℕ) (img : List ℕ) (f : Sound-facts half img) where
         mark-most = omega (arith, g .pages-is, g .mark-most);
         kind-fits = g .kind-fits;
         window-fits = g .window-fits;
-        changes-most = g .changes-most;
+      }
+
+  pub sound-structure : 1 ≤ half
+      → Structure half (image-of half img .head .kind) (image-of half img .head .changes) (image-of half img) (state-in half img)
+  unfolding image-of
+  sound-structure some =
+      record {
+        shown = sound-shown;
+        formed = tree-formed half img some (f .fit);
+        once = held-once half img f;
+        head-apart = head-held half img f;
+        kind-is = refl;
+        bounds = tree-bounds half img (f .fit);
+        changes-most = f .fit .head .changes-most;
+        ranges = sound-ranges;
       }
 
 pub sound-good : (half : ℕ) (img : List ℕ) → 1 ≤ half → sound half img ≡ true → Good half (image-of half img) (state-in half img)
-unfolding image-of
-sound-good half img some e =
-    let f : Sound-facts half img = sound-facts half img e in
-    record {
-      shown = sound-shown half img f;
-      formed = tree-formed half img some (f .fit);
-      once = held-once half img f;
-      head-apart = head-held half img f;
-      bounds = tree-bounds half img (f .fit);
-      ranges = sound-ranges half img f;
-    }
+sound-good half img some e = record { structure = sound-structure half img (sound-facts half img e) some }

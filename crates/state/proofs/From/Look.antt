@@ -14,7 +14,7 @@ use Rattle.page.specs.Layout.{number-of, pair-at, child-at, entry-at, entries-o
 use Rattle.page.specs.Fit.{Place, root-place, place-below, fewest, page-fit, head-fit}
 use Rattle.page.proofs.Laws.Trees.{length-entries-of, at-entries-of}
 use Rattle.image.specs.Images.{entries-in, page-at, pages-in, image-of}
-use Rattle.image.specs.Sound.{tree-fit, sound}
+use Rattle.image.specs.Sound.{tree-fit}
 use Rattle.image.proofs.Cells.{cell-tree}
 use Rattle.image.specs.Instant.{Looked, stopped, leaf-answer, above, look, look-up}
 use Rattle.tree.specs.Tree.{Ent, Kid, Ents, no-ent, bare, ent-of, pair-under, pair-in}
@@ -24,7 +24,7 @@ use Rattle.view.proofs.Lists.{place-in, all-at}
 use Rattle.view.proofs.Ways.{at-bare}
 use Rattle.audit.proofs.Fitness.{Fit-facts}
 use Rattle.audit.proofs.Tree.{tree-parts}
-use Rattle.audit.proofs.Sound.{the-head, Sound-facts, sound-facts}
+use Rattle.audit.proofs.Sound.{the-head, Sound-facts}
 use Rattle.state.proofs.From.Cells.{tree-top}
 use Rattle.state.proofs.From.Shape.{root-fewest, least-one}
 
@@ -104,10 +104,10 @@ pub record Answered (half : ℕ) (img : List ℕ) (t : ℕ) (Y : State) : Type 0
   pub head : head-fit half (pages-in half img) (page-at half img 0) ≡ true
   pub looked : look-up half img t ≡ answer (pair-in (combine (the-head half img .kind)) (Y .tree .level) t (Y .tree .ents)) (the-head half img .height)
 
-pub look-good : (half : ℕ) (img : List ℕ) → 1 ≤ half → sound half img ≡ true → (Y : State) → Shown (image-of half img) Y → (t : ℕ) → Answered half img t Y
+pub look-good : (half : ℕ) (img : List ℕ) → 1 ≤ half → Sound-facts half img → (Y : State) → Shown (image-of half img) Y → (t : ℕ)
+    → Answered half img t Y
 unfolding look-up image-of root-ent root-place
-look-good half img some e Y shown t =
-    let f : Sound-facts half img = sound-facts half img e in
+look-good half img some f Y shown t =
     let h : Head = the-head half img in
     let l : ℕ = Y .tree .level in
     let v : h .height - 1 ≡ l = omega (arith, shown .height) in

@@ -12,7 +12,7 @@ use Rattle.fields.proofs.Laws.Tests.{every-of}
 use Rattle.page.specs.declared.Entry.{Entry}
 use Rattle.page.specs.declared.Head.{Head}
 use Rattle.page.specs.Layout.{capacity, level-of, number-of, start-at, pair-at, child-at, entry-at, entries-of, unused-ok, free-level, tree-bytes, joined}
-use Rattle.page.specs.Fit.{Place, place-below, fewest, number-ok, starts-ok, child-ok, children-ok, pair-ok, pairs-ok, page-fit}
+use Rattle.page.specs.Fit.{Place, place-below, fewest, number-ok, starts-ok, child-ok, children-ok, pair-ok, pairs-ok, page-fit, most-changes}
 use Rattle.page.specs.Widths.{Entries-fit}
 use Rattle.page.proofs.Laws.Trees.{level-of-tree, number-of-tree, entry-at-tree, entries-of-tree, unused-ok-tree}
 use Rattle.image.specs.Images.{Cell, page-at, cell-bytes}
@@ -136,12 +136,14 @@ module _ (half : ℕ) (h : Head) (pages : ℕ → Cell) where
 
   -- ---- the pages below
 
-  module _ (img : List ℕ) (ranges : Ranges h) (some : 1 ≤ half) (written : (p : ℕ) → 1 ≤ p → p < h .pages → page-at half img p ≡ cell-bytes half (pages p)) where
+  module _ (img : List ℕ) (ranges : Ranges h) (slow : h .changes ≤ most-changes) (some : 1 ≤ half)
+      (written : (p : ℕ) → 1 ≤ p → p < h .pages → page-at half img p ≡ cell-bytes half (pages p)) where
     page-read : (l sums counts lo hi p : ℕ) (es : Ents l) → hi ≤ END → l < free-level → Paged half h pages l (Ready half h pages l sums counts) lo hi p es
         → Read half (page-at half img p) l es
     unfolding cell-bytes
     page-read l sums counts lo hi p es m low P =
-        read half l es (P .most) (omega (arith, seg-length (P .spans))) low (entries-fit half h pages ranges l sums counts (P .spans) m) (page-at half img p)
+        read half l es (P .most) (omega (arith, seg-length (P .spans))) low
+        (entries-fit half h pages ranges slow l sums counts (P .spans) m) (page-at half img p)
         (written p (P .least) (P .below) ∙ ap (cell-bytes half) (P .page))
 
     pub fit-tree : (l sums counts lo hi p : ℕ) (at : Place) (es : Ents l) → Stands at l sums counts lo hi → hi ≤ END → l < free-level

@@ -7,6 +7,7 @@ use lib.ListN.{length, length-map}
 use Rattle.rule.specs.Time.{END}
 use Rattle.page.specs.declared.Head.{Head}
 use Rattle.page.specs.Layout.{free-level}
+use Rattle.page.specs.Fit.{most-changes}
 use Rattle.image.specs.Images.{Cell, Kept}
 use Rattle.image.specs.Sound.{times}
 use Rattle.image.proofs.Cells.{kept-tree}
@@ -28,13 +29,14 @@ seg-below l {Q} {hi = hi} p {G} f (more {lo} {mid} {x = x} {es = es} e lt q r) n
     go (yes m) later = f lo mid x (omega (arith, seg-length r)) q m
     go (no m) later = later (omega (arith, below-cons l p x es))
 
-module _ (half : ℕ) (h : Head) (pages : ℕ → Cell) (ranges : Ranges h) (p : ℕ) where
+module _ (half : ℕ) (h : Head) (pages : ℕ → Cell) (ranges : Ranges h) (few : h .changes ≤ most-changes) (p : ℕ) where
   kept-here : (l sums counts lo hi q : ℕ) (es : Ents l) → hi ≤ END → l < free-level → Paged half h pages l (Ready half h pages l sums counts) lo hi q es
       → Kept half (pages q)
   kept-here l sums counts lo hi q es m low P =
       let n : length (bare es) ≡ length es = length-map es (λ x. x .entry) in
       rw (P .page)
-      (kept-tree half l (bare es) (omega arith) (omega (arith, seg-length (P .spans))) low (entries-fit half h pages ranges l sums counts (P .spans) m))
+      (kept-tree half l (bare es) (omega arith) (omega (arith, seg-length (P .spans))) low
+      (entries-fit half h pages ranges few l sums counts (P .spans) m))
 
   pub kept-page : (l sums counts lo hi q : ℕ) (es : Ents l) → hi ≤ END → l < free-level → Paged half h pages l (Ready half h pages l sums counts) lo hi q es
       → ((a b : ℕ) (x : Ent (Kid l)) → b ≤ END → Ready half h pages l sums counts a b x → 1 ≤ times p (pages-under l x) → Kept half (pages p))

@@ -1,4 +1,5 @@
--- What a good state says of single pages: which there are, and that each is read back. Assumes nothing.
+-- What the structure says of single pages: which there are, and, for the changes that the head counts, that each is read back.
+-- Assumes nothing.
 use Prim.Native.Nat.{ℕ, zero, suc, _+_, _-_, _≤_, _<_}
 use mathlib.Core.Path.{_≡_, refl, ap, _∙_}
 use mathlib.Core.Bool.{cond, and-eq-true-iff}
@@ -21,8 +22,8 @@ use Rattle.tree.specs.Held.{times-below, times-spare, held}
 use Rattle.view.specs.View.{Shows, Linked, ends, leads, Once}
 use Rattle.view.proofs.Lists.{hit, hit-self}
 use Rattle.audit.proofs.Times.{times-none, times-same, times-other, times-cons, short-of-once}
-use Rattle.state.specs.Good.{Good}
-use Rattle.state.proofs.To.Weights.{Weighed, weighed-all}
+use Rattle.state.specs.Good.{Structure}
+use Rattle.state.proofs.To.Weights.{Weighed, bounds-weighed}
 use Rattle.state.proofs.To.Ready.{Paged, Ready, ready, seg-ready}
 use Rattle.state.proofs.To.Kept.{kept-page, kept-under}
 
@@ -51,14 +52,14 @@ module _ {pages : ℕ → Cell} (n : ℕ) (some : 1 ≤ n) where
       go (yes c) small rest = record { next = next; is = ap pages c ∙ e; small = small }
       go (no c) small rest = rest (omega (arith, times-other p q ps c))
 
--- ---- a good state
+-- ---- the pages, for any number of changes
 
-module _ {half : ℕ} {X : Image} {Y : State} (g : Good half X Y) where
+module _ {half kind changes : ℕ} {X : Image} {Y : State} (g : Structure half kind changes X Y) where
   -- no page is held twice
-  pub good-once : Once Y
+  pub structure-once : Once Y
   unfolding Once
-  good-once zero = omega (arith, g .head-apart)
-  good-once (suc p) = omega (arith, g .once (suc p) (omega arith))
+  structure-once zero = omega (arith, g .head-apart)
+  structure-once (suc p) = omega (arith, g .once (suc p) (omega arith))
 
   -- as often as the tree has it
   abbrev pub in-tree : ℕ → ℕ
@@ -104,30 +105,31 @@ module _ {half : ℕ} {X : Image} {Y : State} (g : Good half X Y) where
   unfolding times times-below hit
   times-tree p = refl
 
-  pub tree-short : length tree-list ≤ X .head .mark - 1
-  tree-short =
-      short-of-once (X .head .mark - 1) tree-list (λ p m. omega (arith, times-tree p, tree-inside p (omega (arith, times-tree p)))) (λ p. omega (arith, times-tree p, used-once p))
+  pub page-free : (p : ℕ) → 1 ≤ times p (Y .supply .chain) → Freed (X .page) (X .head .pages) p
+  page-free p m =
+      linked-free (X .head .pages) (omega (arith, g .ranges .pages-least)) p (λ r k. omega (arith, chain-inside r k, g .ranges .mark-most))
+      (g .shown .supplied .linked) m
 
+-- ---- the cells, for the changes that the head counts
+
+module _ {half : ℕ} {X : Image} {Y : State} (g : Structure half (X .head .kind) (X .head .changes) X Y) where
   pub tree-ready : Paged half (X .head) (X .page) (Y .tree .level) (Ready half (X .head) (X .page) (Y .tree .level) 0 0) 0 END (Y .tree .root) (Y .tree .ents)
   unfolding Shows root-ent
   tree-ready =
       let h : Head = X .head in
-      let r = tree-inside (Y .tree .root) (omega (arith, hit-self (Y .tree .root))) in
+      let r = tree-inside g (Y .tree .root) (omega (arith, hit-self (Y .tree .root))) in
       record {
         least = r .0;
         below = omega (arith, g .ranges .mark-most);
         page = g .shown .below .0;
         most = g .formed .most;
         spans =
-            seg-ready half h (X .page) (Y .tree .level) (Ready half h (X .page) (Y .tree .level) 0 0) (λ y. Weighed h (Y .tree .level) 0 0 y)
+            seg-ready half h (X .page) (Y .tree .level) (Ready half h (X .page) (Y .tree .level) 0 0)
+            (λ y. Weighed (h .kind) (h .changes) (Y .tree .level) 0 0 y)
             (λ a b y s w v i. ready half h (X .page) (Y .tree .level) 0 0 a b y s w v i)
-            (g .formed .spans) (weighed-all h (Y .tree .level) 0 0 (Y .tree .ents) (g .bounds .sums) (g .bounds .counts) (g .bounds .values)) (g .shown .below .1)
-            (λ p m. omega (arith, tree-inside p (omega arith), g .ranges .mark-most));
+            (g .formed .spans) (bounds-weighed _ _ (Y .tree) (g .bounds)) (g .shown .below .1)
+            (λ p m. omega (arith, tree-inside g p (omega arith), g .ranges .mark-most));
       }
-
-  pub page-free : (p : ℕ) → 1 ≤ times p (Y .supply .chain) → Freed (X .page) (X .head .pages) p
-  page-free p m =
-      linked-free (X .head .pages) (omega (arith, g .ranges .pages-least)) p (λ r k. omega (arith, chain-inside r k, g .ranges .mark-most)) (g .shown .supplied .linked) m
 
   -- ---- the head
 
@@ -141,13 +143,13 @@ module _ {half : ℕ} {X : Image} {Y : State} (g : Good half X Y) where
       record {
         pages = omega arith;
         height = omega arith;
-        root = omega (arith, root-inside, g .ranges .mark-most);
-        free = omega (arith, free-inside);
-        chain = omega (arith, chain-short, g .shown .supplied .length-true, g .ranges .mark-most);
+        root = omega (arith, root-inside g, g .ranges .mark-most);
+        free = omega (arith, free-inside g);
+        chain = omega (arith, chain-short g, g .shown .supplied .length-true, g .ranges .mark-most);
         mark = omega (arith, g .ranges .mark-most);
         kind = omega arith;
         window = omega arith;
-        changes = omega (arith, g .ranges .changes-most);
+        changes = omega (arith, g .changes-most);
       }
 
   -- ---- every page
@@ -158,13 +160,15 @@ module _ {half : ℕ} {X : Image} {Y : State} (g : Good half X Y) where
       go : Dec (X .head .mark ≤ p) → Dec (1 ≤ times p (Y .supply .chain)) → Kept half (X .page p)
       go (yes k) c = rw (g .shown .supplied .unused p k b) (kept-never half)
       go (no k) (yes c) =
-          let f : Freed (X .page) (X .head .pages) p = page-free p c in
+          let f : Freed (X .page) (X .head .pages) p = page-free g p c in
           rw (f .is) (kept-free half (f .next) (omega (arith, f .small, g .ranges .pages-most)))
       go (no k) (no c) =
-          kept-page half (X .head) (X .page) (g .ranges) p (Y .tree .level) 0 0 0 END (Y .tree .root) (Y .tree .ents) (omega arith)
-          (omega (arith, g .shown .height)) tree-ready
-          (λ a b x m r t. kept-under half (X .head) (X .page) (g .ranges) p (Y .tree .level) 0 0 a b x m (omega (arith, g .shown .height)) r t)
-          (omega (arith, held-is p, g .once p l, unmarked))
+          kept-page half (X .head) (X .page) (g .ranges) (g .changes-most) p (Y .tree .level) 0 0 0 END (Y .tree .root) (Y .tree .ents)
+          (omega arith) (omega (arith, g .shown .height)) tree-ready
+          (λ a b x m r t.
+          kept-under half (X .head) (X .page) (g .ranges) (g .changes-most) p (Y .tree .level) 0 0 a b x m
+          (omega (arith, g .shown .height)) r t)
+          (omega (arith, held-is g p, g .once p l, unmarked))
         where
           unmarked : _≡_ {A = ℕ} (cond (leb (X .head .mark) p) 1 0) 0
           unmarked = ap (λ t. cond t 1 0) (lt-leb (X .head .mark) p (omega arith))

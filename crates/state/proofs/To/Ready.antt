@@ -10,7 +10,7 @@ use borrow.Author.Tests.{eq-eqb, ne-eqb, le-leb, lt-ltb}
 use Rattle.rule.specs.Time.{END}
 use Rattle.page.specs.declared.Head.{Head}
 use Rattle.page.specs.Layout.{capacity}
-use Rattle.page.specs.Fit.{child-ok}
+use Rattle.page.specs.Fit.{child-ok, most-changes}
 use Rattle.page.specs.Widths.{Entry-fits, Entries-fit}
 use Rattle.page.proofs.Laws.Entries.{no-entry-fits}
 use Rattle.image.specs.Images.{Cell, tree}
@@ -39,9 +39,9 @@ module _ (half : ℕ) (h : Head) (pages : ℕ → Cell) where
 
   -- An entry of level l from lo to hi, below pairs whose absolute sums and counts add to these.
   unfoldable pub Ready : (l sums counts : ℕ) → Asked (Kid l)
-  Ready zero sums counts lo hi x = Weighed h zero sums counts x × (x .entry .child ≡ 0)
+  Ready zero sums counts lo hi x = Weighed (h .kind) (h .changes) zero sums counts x × (x .entry .child ≡ 0)
   Ready (suc l) sums counts lo hi x =
-      Weighed h (suc l) sums counts x
+      Weighed (h .kind) (h .changes) (suc l) sums counts x
       × (half ≤ length (x .kid))
       × Paged l (Ready l (sums + natAbs (x .entry .pair .sum)) (counts + natAbs (x .entry .pair .count))) lo hi (x .entry .child) (x .kid)
 
@@ -56,7 +56,8 @@ module _ (half : ℕ) (h : Head) (pages : ℕ → Cell) where
       more e lt (f lo mid x q (all-head w) (all-head v) (λ p m. i p (omega (arith, below-cons l p x es))))
       (seg-ready l R W f r (all-tail w) (all-tail v) (λ p m. i p (omega (arith, below-cons l p x es))))
 
-  pub ready : (l sums counts lo hi : ℕ) (x : Ent (Kid l)) → Shaped half Leaf l lo hi x → Weighed h l sums counts x → Shows l pages x
+  pub ready : (l sums counts lo hi : ℕ) (x : Ent (Kid l)) → Shaped half Leaf l lo hi x → Weighed (h .kind) (h .changes) l sums counts x
+      → Shows l pages x
       → ((p : ℕ) → 1 ≤ times p (pages-under l x) → (1 ≤ p) × (p < h .pages)) → Ready l sums counts lo hi x
   unfolding Ready Shaped Shows
   ready zero sums counts lo hi x s w v i = (w, s)
@@ -71,15 +72,16 @@ module _ (half : ℕ) (h : Head) (pages : ℕ → Cell) where
           most = s .0 .most;
           spans =
               seg-ready l (Ready l (sums + natAbs (x .entry .pair .sum)) (counts + natAbs (x .entry .pair .count)))
-              (λ y. Weighed h l (sums + natAbs (x .entry .pair .sum)) (counts + natAbs (x .entry .pair .count)) y)
+              (λ y. Weighed (h .kind) (h .changes) l (sums + natAbs (x .entry .pair .sum)) (counts + natAbs (x .entry .pair .count)) y)
               (λ a b y t u m j. ready l (sums + natAbs (x .entry .pair .sum)) (counts + natAbs (x .entry .pair .count)) a b y t u m j)
-              (s .1) (weighed-below h l sums counts x w) (v .1) (λ p m. i p (omega (arith, under-suc l p x)));
+              (s .1) (weighed-below (h .kind) (h .changes) l sums counts x w) (v .1) (λ p m. i p (omega (arith, under-suc l p x)));
         },
       )
 
   -- ---- what it gives
 
-  pub ready-weighed : (l sums counts lo hi : ℕ) (x : Ent (Kid l)) → Ready l sums counts lo hi x → Weighed h l sums counts x
+  pub ready-weighed : (l sums counts lo hi : ℕ) (x : Ent (Kid l)) → Ready l sums counts lo hi x
+      → Weighed (h .kind) (h .changes) l sums counts x
   unfolding Ready
   ready-weighed zero sums counts lo hi x r = r .0
   ready-weighed (suc l) sums counts lo hi x r = r .0
@@ -95,11 +97,12 @@ module _ (half : ℕ) (h : Head) (pages : ℕ → Cell) where
   child-small zero sums counts lo hi x r = omega arith
   child-small (suc l) sums counts lo hi x r = omega arith
 
-  module _ (ranges : Ranges h) (l sums counts : ℕ) where
+  module _ (ranges : Ranges h) (few : h .changes ≤ most-changes) (l sums counts : ℕ) where
     entry-fits : (lo hi : ℕ) (x : Ent (Kid l)) → Ready l sums counts lo hi x → x .entry .start ≡ lo → lo < END → Entry-fits (x .entry)
     entry-fits lo hi x r e lt =
-        let p = pair-fits h l sums counts x (ready-weighed l sums counts lo hi x r) (ranges .changes-most) in
-        record { start = omega arith; sum = p .0; count = p .1; child = omega (arith, child-small l sums counts lo hi x r) }
+        let p = pair-fits (h .kind) (h .changes) l sums counts x (ready-weighed l sums counts lo hi x r) few in
+        let c = child-small l sums counts lo hi x r in
+        record { start = omega arith; sum = p .0; count = p .1; child = omega (arith, c, ranges .pages-most) }
 
     pub entries-fit : {lo hi : ℕ} {es : Ents l} → Seg (Ready l sums counts) lo hi es → hi ≤ END → Entries-fit (bare es)
     entries-fit done m i = no-entry-fits

@@ -21,14 +21,15 @@ use Rattle.tree.specs.Cut.{State, root-ent}
 use Rattle.view.specs.View.{Shows, Shown}
 use Rattle.audit.proofs.Fitness.{head-facts}
 use Rattle.audit.proofs.Sound.{the-head, the-tree, the-chain, head-test, tree-test, Sound-facts, facts-sound}
-use Rattle.state.specs.Good.{Good}
+use Rattle.state.specs.Good.{Structure, Good}
 use Rattle.state.proofs.From.Shape.{root-fewest, least-one}
 use Rattle.state.proofs.From.Look.{Answered, look-good}
 use Rattle.state.proofs.To.Known.{Freed, held-is, chain-inside, root-inside, free-inside, chain-short, tree-list, times-tree, tree-ready, page-free, head-fits, page-kept}
 use Rattle.state.proofs.To.Fit.{Stands, fit-tree, pages-are}
 use Rattle.state.proofs.To.Again.{all-again, linked-again, chain-is}
 
-module _ (half : ℕ) (X : Image) (Y : State) (some : 1 ≤ half) (g : Good half X Y) (tall : X .head .height ≤ most-height) where
+module _ (half : ℕ) (X : Image) (Y : State) (some : 1 ≤ half)
+    (g : Structure half (X .head .kind) (X .head .changes) X Y) (tall : X .head .height ≤ most-height) where
   kept : (p : ℕ) → 1 ≤ p → p < X .head .pages → Kept half (X .page p)
   kept = page-kept g tall
 
@@ -63,9 +64,9 @@ module _ (half : ℕ) (X : Image) (Y : State) (some : 1 ≤ half) (g : Good half
   inside : (p : ℕ) → 1 ≤ times p (Y .supply .chain) → (1 ≤ p) × (p < X .head .pages)
   inside p m = omega (arith, chain-inside g p m, g .ranges .mark-most)
 
-  pub good-shown : Shown (image-of half (image-bytes half X)) Y
+  shown-again : Shown (image-of half (image-bytes half X)) Y
   unfolding Shows root-ent
-  good-shown =
+  shown-again =
       let Z : Image = image-of half (image-bytes half X) in
       let P = tree-ready g in
       record {
@@ -87,18 +88,6 @@ module _ (half : ℕ) (X : Image) (Y : State) (some : 1 ≤ half) (g : Good half
                   let n : p < X .head .pages = rw (ap (λ (h : Head). h .pages) head-read-back) at b in
                   read-back p (omega (arith, root-inside g)) n ∙ g .shown .supplied .unused p m n;
             };
-      }
-
-  -- what is read is as good as what was written
-  pub good-again : Good half (image-of half (image-bytes half X)) Y
-  good-again =
-      record {
-        shown = good-shown;
-        formed = g .formed;
-        once = g .once;
-        head-apart = g .head-apart;
-        bounds = rw head-read-back (g .bounds);
-        ranges = rw head-read-back (g .ranges);
       }
 
   -- ---- the tests
@@ -128,7 +117,10 @@ module _ (half : ℕ) (X : Image) (Y : State) (some : 1 ≤ half) (g : Good half
             (le-leb _ _ (root .0), lt-ltb _ _ (root .1)),
             (
               lt-ltb _ _ free,
-              ((le-leb _ _ (mark .0), le-leb _ _ (mark .1)), (g .ranges .kind-fits, (g .ranges .window-fits, le-leb _ _ (g .ranges .changes-most)))),
+              (
+                (le-leb _ _ (mark .0), le-leb _ _ (mark .1)),
+                (g .ranges .kind-fits, (g .ranges .window-fits, le-leb _ _ (g .changes-most))),
+              ),
             ),
           ),
         ),
@@ -152,7 +144,8 @@ module _ (half : ℕ) (X : Image) (Y : State) (some : 1 ≤ half) (g : Good half
       let few : fewest half (root-place (X .head)) ≡ root-least l = root-fewest half (X .head) l level-is in
       ap (λ (h : Head). tree-fit half h img (h .height - 1) (root-place h) (h .root)) head-is
       ∙ (λ j. tree-fit half (X .head) img (level-is j) (root-place (X .head)) (g .shown .root j))
-      ∙ fit-tree half (X .head) (X .page) img (g .ranges) some page-written l 0 0 0 END (Y .tree .root) (root-place (X .head)) (Y .tree .ents) stands (omega arith)
+      ∙ fit-tree half (X .head) (X .page) img (g .ranges) (g .changes-most) some page-written l 0 0 0 END (Y .tree .root)
+      (root-place (X .head)) (Y .tree .ents) stands (omega arith)
       (omega (arith, g .shown .height)) (omega (arith, least-one l)) (omega (arith, g .formed .least)) (tree-ready g)
 
   -- ---- which pages the walks find
@@ -163,7 +156,8 @@ module _ (half : ℕ) (X : Image) (Y : State) (some : 1 ≤ half) (g : Good half
       let l : ℕ = Y .tree .level in
       ap (λ (h : Head). tree-pages half img (h .height - 1) (h .root)) head-is
       ∙ (λ j. tree-pages half img (level-is j) (g .shown .root j))
-      ∙ pages-are half (X .head) (X .page) img (g .ranges) some page-written l 0 0 0 END (Y .tree .root) (Y .tree .ents) (omega arith)
+      ∙ pages-are half (X .head) (X .page) img (g .ranges) (g .changes-most) some page-written l 0 0 0 END (Y .tree .root)
+      (Y .tree .ents) (omega arith)
       (omega (arith, g .shown .height)) (tree-ready g)
 
   chain-found : the-chain half (image-bytes half X) ≡ Y .supply .chain
@@ -184,7 +178,7 @@ module _ (half : ℕ) (X : Image) (Y : State) (some : 1 ≤ half) (g : Good half
   never-passes p m b =
       ap never-used-ok (page-written p (omega (arith, root-inside g)) b ∙ ap (cell-bytes half) (g .shown .supplied .unused p m b)) ∙ never-used-ok-unused (page-size half)
 
-  -- ---- soundness
+  -- ---- soundness, test by test
 
   facts : Sound-facts half (image-bytes half X)
   facts =
@@ -207,9 +201,11 @@ module _ (half : ℕ) (X : Image) (Y : State) (some : 1 ≤ half) (g : Good half
         free = λ p m. free-passes p (rw chain-found at m);
       }
 
-  pub good-sound : sound half (image-bytes half X) ≡ true
-  good-sound = facts-sound half (image-bytes half X) facts
-
   -- an instant finds the state's pair in what was written
   pub look-written : (t : ℕ) → Answered half (image-bytes half X) t Y
-  look-written t = look-good half (image-bytes half X) some good-sound Y good-shown t
+  look-written t = look-good half (image-bytes half X) some facts Y shown-again t
+
+-- the theorem
+pub good-sound : (half : ℕ) (X : Image) (Y : State) → 1 ≤ half → Good half X Y → X .head .height ≤ most-height
+    → sound half (image-bytes half X) ≡ true
+good-sound half X Y some g tall = facts-sound half (image-bytes half X) (facts half X Y some (g .structure) tall)

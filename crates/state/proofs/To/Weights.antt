@@ -16,34 +16,38 @@ use Rattle.rule.proofs.Signed.{sfits-natAbs}
 use Rattle.rule.proofs.Laws.{value-or-none-bound}
 use Rattle.page.specs.declared.Head.{Head}
 use Rattle.page.specs.Fit.{Place, pair-ok, most-changes}
-use Rattle.tree.specs.Tree.{Ent, Kid, Ents}
+use Rattle.tree.specs.Tree.{Ent, Kid, Ents, Tree}
 use Rattle.tree.specs.Held.{All, all-none, all-more, Within}
 use Rattle.view.proofs.Lists.{cond-one, all-head, all-tail}
-use Rattle.state.specs.Good.{Any, Value-or-none}
+use Rattle.state.specs.Good.{Any, Value-or-none, Bounds}
 
 -- An entry of level l below pairs whose absolute sums and counts add to these.
-pub record Weighed (h : Head) (l sums counts : ℕ) (x : Ent (Kid l)) : Type 0 where
-  pub by-sum : eqb (h .kind) 1 ≡ true → Within (λ p. natAbs (p .sum)) Any (most-value * h .changes) l sums x
-  pub by-count : eqb (h .kind) 1 ≡ true → Within (λ p. natAbs (p .count)) Any (h .changes) l counts x
-  pub by-value : eqb (h .kind) 1 ≡ false → Within (λ p. 0) Value-or-none 0 l 0 x
+pub record Weighed (kind changes l sums counts : ℕ) (x : Ent (Kid l)) : Type 0 where
+  pub by-sum : eqb kind 1 ≡ true → Within (λ p. natAbs (p .sum)) Any (most-value * changes) l sums x
+  pub by-count : eqb kind 1 ≡ true → Within (λ p. natAbs (p .count)) Any changes l counts x
+  pub by-value : eqb kind 1 ≡ false → Within (λ p. 0) Value-or-none 0 l 0 x
 
 -- ---- from the three measures, and down
 
-pub weighed-all : (h : Head) (l sums counts : ℕ) (es : Ents l)
-    → (eqb (h .kind) 1 ≡ true → All (Within (λ p. natAbs (p .sum)) Any (most-value * h .changes) l sums) es)
-    → (eqb (h .kind) 1 ≡ true → All (Within (λ p. natAbs (p .count)) Any (h .changes) l counts) es)
-    → (eqb (h .kind) 1 ≡ false → All (Within (λ p. 0) Value-or-none 0 l 0) es)
-    → All (λ x. Weighed h l sums counts x) es
-weighed-all h l sums counts [] s c v = all-none
-weighed-all h l sums counts (x ∷ es) s c v =
+pub weighed-all : (kind changes l sums counts : ℕ) (es : Ents l)
+    → (eqb kind 1 ≡ true → All (Within (λ p. natAbs (p .sum)) Any (most-value * changes) l sums) es)
+    → (eqb kind 1 ≡ true → All (Within (λ p. natAbs (p .count)) Any changes l counts) es)
+    → (eqb kind 1 ≡ false → All (Within (λ p. 0) Value-or-none 0 l 0) es)
+    → All (λ x. Weighed kind changes l sums counts x) es
+weighed-all kind changes l sums counts [] s c v = all-none
+weighed-all kind changes l sums counts (x ∷ es) s c v =
     all-more (record { by-sum = λ e. all-head (s e); by-count = λ e. all-head (c e); by-value = λ e. all-head (v e) })
-    (weighed-all h l sums counts es (λ e. all-tail (s e)) (λ e. all-tail (c e)) (λ e. all-tail (v e)))
+    (weighed-all kind changes l sums counts es (λ e. all-tail (s e)) (λ e. all-tail (c e)) (λ e. all-tail (v e)))
 
-pub weighed-below : (h : Head) (l sums counts : ℕ) (x : Ent (Kid (suc l))) → Weighed h (suc l) sums counts x
-    → All (λ y. Weighed h l (sums + natAbs (x .entry .pair .sum)) (counts + natAbs (x .entry .pair .count)) y) (x .kid)
+pub bounds-weighed : (kind changes : ℕ) (T : Tree) → Bounds kind changes T → All (λ x. Weighed kind changes (T .level) 0 0 x) (T .ents)
+bounds-weighed kind changes T b = weighed-all kind changes (T .level) 0 0 (T .ents) (b .sums) (b .counts) (b .values)
+
+pub weighed-below : (kind changes l sums counts : ℕ) (x : Ent (Kid (suc l))) → Weighed kind changes (suc l) sums counts x
+    → All (λ y. Weighed kind changes l (sums + natAbs (x .entry .pair .sum)) (counts + natAbs (x .entry .pair .count)) y) (x .kid)
 unfolding Within
-weighed-below h l sums counts x w =
-    weighed-all h l (sums + natAbs (x .entry .pair .sum)) (counts + natAbs (x .entry .pair .count)) (x .kid) (λ e. w .by-sum e .2) (λ e. w .by-count e .2) (λ e. w .by-value e .2)
+weighed-below kind changes l sums counts x w =
+    weighed-all kind changes l (sums + natAbs (x .entry .pair .sum)) (counts + natAbs (x .entry .pair .count)) (x .kid)
+    (λ e. w .by-sum e .2) (λ e. w .by-count e .2) (λ e. w .by-value e .2)
 
 -- ---- the entry itself
 
@@ -53,31 +57,34 @@ unfolding Within
 within-here norm Each most zero above x w = w
 within-here norm Each most (suc l) above x w = (w .0, w .1)
 
-module _ (h : Head) (l sums counts : ℕ) (x : Ent (Kid l)) (w : Weighed h l sums counts x) where
-  pub sum-here : eqb (h .kind) 1 ≡ true → sums + natAbs (x .entry .pair .sum) ≤ most-value * h .changes
-  sum-here e = within-here (λ p. natAbs (p .sum)) Any (most-value * h .changes) l sums x (w .by-sum e) .1
+module _ (kind changes l sums counts : ℕ) (x : Ent (Kid l)) (w : Weighed kind changes l sums counts x) where
+  pub sum-here : eqb kind 1 ≡ true → sums + natAbs (x .entry .pair .sum) ≤ most-value * changes
+  sum-here e = within-here (λ p. natAbs (p .sum)) Any (most-value * changes) l sums x (w .by-sum e) .1
 
-  pub count-here : eqb (h .kind) 1 ≡ true → counts + natAbs (x .entry .pair .count) ≤ h .changes
-  count-here e = within-here (λ p. natAbs (p .count)) Any (h .changes) l counts x (w .by-count e) .1
+  pub count-here : eqb kind 1 ≡ true → counts + natAbs (x .entry .pair .count) ≤ changes
+  count-here e = within-here (λ p. natAbs (p .count)) Any changes l counts x (w .by-count e) .1
 
-  pub value-here : eqb (h .kind) 1 ≡ false → value-or-none (x .entry .pair) ≡ true
+  pub value-here : eqb kind 1 ≡ false → value-or-none (x .entry .pair) ≡ true
   value-here e = within-here (λ p. 0) Value-or-none 0 l 0 x (w .by-value e) .0
 
-  pub pair-passes : (at : Place) → at .sums ≡ sums → at .counts ≡ counts → pair-ok h at (x .entry .pair) ≡ true
-  unfolding pair-ok value-or-none
-  pair-passes at s c =
-      cond-one (λ t. t ≡ true) (eqb (h .kind) 1)
-      (λ e.
-      let a : at .sums + natAbs (x .entry .pair .sum) ≤ most-value * h .changes = omega (arith, sum-here e) in
-      let b : at .counts + natAbs (x .entry .pair .count) ≤ h .changes = omega (arith, count-here e) in
-      simp and-eq-true-iff (le-leb _ _ a, le-leb _ _ b))
-      (λ e. value-here e)
-
-  pub pair-fits : h .changes ≤ most-changes → SFits w64 (x .entry .pair .sum) × SFits w32 (x .entry .pair .count)
-  pair-fits slow = go (eqb (h .kind) 1) refl
+  pub pair-fits : changes ≤ most-changes → SFits w64 (x .entry .pair .sum) × SFits w32 (x .entry .pair .count)
+  pair-fits slow = go (eqb kind 1) refl
     where
-      go : (t : Bool) → eqb (h .kind) 1 ≡ t → SFits w64 (x .entry .pair .sum) × SFits w32 (x .entry .pair .count)
+      go : (t : Bool) → eqb kind 1 ≡ t → SFits w64 (x .entry .pair .sum) × SFits w32 (x .entry .pair .count)
       go true e = (sfits-natAbs w64 (omega (arith, sum-here e)), sfits-natAbs w32 (omega (arith, count-here e)))
       go false e =
           let v : (natAbs (x .entry .pair .sum) ≤ most-value) × (natAbs (x .entry .pair .count) ≤ 1) = value-or-none-bound (x .entry .pair) (value-here e) in
           (sfits-natAbs w64 (omega arith), sfits-natAbs w32 (omega arith))
+
+-- it passes the test of a page under the head that has kind and changes
+pub pair-passes : (h : Head) (l sums counts : ℕ) (x : Ent (Kid l)) → Weighed (h .kind) (h .changes) l sums counts x
+    → (at : Place) → at .sums ≡ sums → at .counts ≡ counts
+    → pair-ok h at (x .entry .pair) ≡ true
+unfolding pair-ok value-or-none
+pair-passes h l sums counts x w at s c =
+    cond-one (λ t. t ≡ true) (eqb (h .kind) 1)
+    (λ e.
+    let a : at .sums + natAbs (x .entry .pair .sum) ≤ most-value * h .changes = omega (arith, sum-here _ _ l sums counts x w e) in
+    let b : at .counts + natAbs (x .entry .pair .count) ≤ h .changes = omega (arith, count-here _ _ l sums counts x w e) in
+    simp and-eq-true-iff (le-leb _ _ a, le-leb _ _ b))
+    (λ e. value-here _ _ l sums counts x w e)

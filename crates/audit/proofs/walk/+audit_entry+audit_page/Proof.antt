@@ -1,7 +1,6 @@
 -- The cycle of `audit_page` and `audit_entry` meets its contracts. A page's measure is 2·level + 1, an entry's 2·level: the level falls
 -- from an entry to the page below. The loop's invariant: what was counted below the entries passed. Assumes nothing.
-use mathlib.Core.Path.{_≡_, sym, ap, _∙_}
-use mathlib.Core.Bool.{true}
+use mathlib.Core.Path.{ap, _∙_}
 use Prim.Native.Nat.{ℕ, _+_, _*_, _-_, _<_}
 use native.Mathlib.Omega.{arith}
 use borrow.Author.Needs.{needs}

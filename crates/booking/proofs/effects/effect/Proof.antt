@@ -1,5 +1,5 @@
 -- `booking::effects::effect` meets its contract: a value's opposite has its width. Assumes nothing.
-use mathlib.Core.Path.{_≡_, refl, sym, ap, _∙_}
+use mathlib.Core.Path.{refl}
 use native.Mathlib.Omega.{arith}
 use lib.IntN.{pos, negsuc, negℤ, _-ℤ_, +ℤ-idl}
 use mir.Syntax.{w64}

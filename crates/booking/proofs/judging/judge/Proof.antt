@@ -1,12 +1,12 @@
 -- `booking::judging::judge` meets its contract: a law for each way out. Assumes nothing.
-use Prim.Native.Nat.{_+_, _<_, min}
+use Prim.Native.Nat.{_<_}
 use mathlib.Core.Path.{_≡_, sym, ap, _∙_}
-use mathlib.Core.Bool.{true, false}
+use mathlib.Core.Bool.{true}
 use native.Mathlib.Omega.{arith}
 use lib.ListN.{length}
 use borrow.Author.Needs.{needs}
 use borrow.Author.Tests.{not-true, not-false, eq-eqb, ne-eqb}
-use Rattle.rule.specs.Time.{END, lengthened}
+use Rattle.rule.specs.Time.{lengthened}
 use Rattle.page.specs.Layout.{head-of}
 use Rattle.image.specs.Images.{page-at}
 use Rattle.image.specs.Sound.{sound}

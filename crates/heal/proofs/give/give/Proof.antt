@@ -1,10 +1,10 @@
 -- `heal::give::give` meets its contract: both pages share all entries anew, and three pages are written. Assumes nothing.
 use mathlib.Core.Path.{ap, subst}
 use mathlib.Core.List.{[], _∷_}
-use Prim.Native.Nat.{ℕ, suc, _≤_}
+use Prim.Native.Nat.{ℕ, suc}
 use borrow.Author.Needs.{needs}
 use native.Mathlib.Omega.{arith}
-use lib.ListN.{length, take, drop, length-take, length-drop}
+use lib.ListN.{take, drop, length-take, length-drop}
 use Rattle.rule.specs.Pairs.{combine}
 use Rattle.page.specs.Entries.{at}
 use Rattle.image.specs.Images.{Image}

@@ -1,7 +1,7 @@
 -- `heal::leaf::heal_leaf` meets its contract: the leaf is written without the entry, or not at all. Assumes nothing.
 use mathlib.Core.Path.{_≡_, sym, ap, _∙_, subst}
 use mathlib.Core.List.{[]}
-use Prim.Native.Nat.{ℕ, zero, _≤_, _<_}
+use Prim.Native.Nat.{zero, _≤_, _<_}
 use borrow.Author.Needs.{needs}
 use native.Mathlib.Omega.{arith}
 use Rattle.page.specs.Decoded.{shown}

@@ -1,10 +1,9 @@
 -- `heal::merge::merge` meets its contract: both pages join in the left one, and the right one is given back. Assumes nothing.
 use mathlib.Core.Path.{subst}
 use mathlib.Core.List.{[]}
-use Prim.Native.Nat.{ℕ, _≤_}
+use Prim.Native.Nat.{ℕ}
 use borrow.Author.Needs.{needs}
 use native.Mathlib.Omega.{arith}
-use lib.ListN.{length}
 use Rattle.image.specs.Images.{Image}
 use Rattle.edit.proofs.Edits.{shows-then}
 use Rattle.steps.specs.Supply.{entries, put, given-back}

@@ -1,6 +1,6 @@
 -- `heal::shrink::lower` meets its contract: the root's entry is read, its page is written, and the root is given back. Assumes nothing.
 use mathlib.Core.Path.{_≡_, ap, subst, subst⁻¹}
-use Prim.Native.Nat.{ℕ, _-_}
+use Prim.Native.Nat.{_-_}
 use borrow.Author.Needs.{needs}
 use native.Mathlib.Omega.{arith}
 use Rattle.rule.specs.Pairs.{combine}

@@ -1,5 +1,5 @@
 -- `luwhenoka::averages::kind_of` meets its contract: what is read is the image's first page. Assumes nothing.
-use mathlib.Core.Path.{_≡_, ap, _∙_}
+use mathlib.Core.Path.{ap, _∙_}
 use native.Mathlib.Omega.{arith}
 use lib.ListN.{length}
 use Rattle.page.specs.declared.Head.{Head}

@@ -1,7 +1,6 @@
 -- `luwhenoka::averages::luw_average_of` meets its contract: the numbers have their widths. Assumes nothing.
 use mathlib.Core.Path.{ap, _∙_}
 use borrow.Author.Needs.{needs}
-use mir.Syntax.{w32, w64}
 use mir.Facts.{toZ-ofZ}
 use Rattle.luwhenoka.specs.Answers.{average-answer}
 use Rattle.luwhenoka.proofs.averages.luw_average_of.Statement.{statement}

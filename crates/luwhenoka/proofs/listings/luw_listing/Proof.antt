@@ -1,15 +1,13 @@
 -- `luwhenoka::listings::luw_listing` meets its contract: a law for each way out. Assumes nothing.
-use mathlib.Core.Path.{_≡_, sym, ap, ap₂, _∙_}
+use mathlib.Core.Path.{_≡_, sym, ap, _∙_}
 use mathlib.Core.Bool.{true}
 use mathlib.Core.List.{List}
-use Prim.Native.Nat.{ℕ, _<_, _≤_, _*_}
+use Prim.Native.Nat.{ℕ, _≤_}
 use native.Mathlib.Omega.{arith}
-use lib.ListN.{length}
 use borrow.Author.Needs.{needs}
 use borrow.Author.Tests.{not-true, not-false}
 use Rattle.rule.specs.Time.{END}
 use Rattle.image.specs.Images.{length-ok}
-use Rattle.image.specs.Listing.{walk-over}
 use Rattle.calls.specs.Calls.{head-ok, runs-over, written}
 use Rattle.lent.specs.Opened.{Opened}
 use Rattle.lent.proofs.Laws.{opened, shut}

@@ -10,7 +10,7 @@ use mir.ValLaws.{toZ-ofZ}
 use Rattle.fields.specs.Bytes.{patch}
 use Rattle.fields.specs.Numbers.{u32-bytes, i32-bytes, i64-bytes}
 use Rattle.fields.proofs.Laws.Parts.{length-patch}
-use Rattle.fields.proofs.Laws.Places.{Field, u32}
+use Rattle.fields.proofs.Laws.Places.{u32}
 use Rattle.page.specs.Entries.{entry}
 use Rattle.page.specs.Layout.{start-place, entry-place, with-entry}
 use Rattle.page.proofs.Laws.Entries.{patch-entry}

@@ -1,5 +1,4 @@
 -- `store::pages::save` meets its contract: the struct's numbers have their widths, so the tree page is read back. Assumes nothing.
-use mathlib.Core.Path.{_∙_}
 use native.Mathlib.Omega.{arith}
 use Rattle.page.specs.Decoded.{shown}
 use Rattle.page.proofs.Laws.Decoded.{length-shown}

@@ -1,7 +1,6 @@
 -- `store::root::count_change` meets its contract: the head that was read, with one change more. Assumes nothing.
-use mathlib.Core.Path.{refl, ap, subst}
+use mathlib.Core.Path.{refl, subst}
 use borrow.Author.Needs.{needs}
-use native.Mathlib.Numerals.{add-one}
 use native.Mathlib.Omega.{arith}
 use Rattle.steps.specs.Supply.{counted}
 use Rattle.store.specs.Holding.{Holds}

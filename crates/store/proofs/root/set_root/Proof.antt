@@ -4,7 +4,7 @@ use borrow.Author.Needs.{needs}
 use native.Mathlib.Omega.{arith}
 use Rattle.steps.specs.Supply.{with-root}
 use Rattle.store.specs.Holding.{Holds}
-use Rattle.store.proofs.Supplying.{by-head, Headed, some-headed}
+use Rattle.store.proofs.Supplying.{by-head, some-headed}
 use Rattle.store.proofs.root.set_root.Statement.{statement}
 use Rattle.store.proofs.root.set_root.Tie as tie
 

@@ -4,7 +4,6 @@ use mathlib.Core.Path.{refl, subst}
 use borrow.Author.Needs.{needs}
 use native.Mathlib.Omega.{arith}
 use Rattle.steps.specs.Supply.{with-supply, given-back}
-use Rattle.image.specs.Images.{Image}
 use Rattle.store.specs.Holding.{Holds}
 use Rattle.store.specs.Ready.{Givable}
 use Rattle.store.proofs.Supplying.{by-head, Headed, some-headed, given-back-is}
