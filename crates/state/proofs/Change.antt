@@ -1,6 +1,7 @@
 -- A change that is not turned back takes a good state to a good one: each step finds the structure that the one before left, and the five
--- together restore what holds only before and after a change. So a clause that soundness gets and a cut undoes, such as that no two
--- neighbouring leaf entries have equal totals, touches `good-change` alone. Assumes nothing.
+-- together restore what holds only before and after a change. A clause of soundness that a cut undoes, such as that no two neighbouring
+-- leaf entries have equal totals, is a field of `Good`: it touches `good-change` here, and `sound-good`, `good-sound` and `fresh-good`,
+-- where `Good` meets soundness; no step and nothing that a step asks of its image. Assumes nothing.
 use Prim.Native.Nat.{ℕ, suc, _≤_, _<_}
 use mathlib.Core.Path.{_≡_, ap, subst⁻¹}
 use mathlib.Core.Bool.{false, cond}
