@@ -49,7 +49,14 @@ fn settle(img: &mut [u8], e: Entry, page: Page) -> Grown
 }
 
 // The i-th entry of the page under e becomes two with the same pair: behind it stands one with the start and the child named.
-pub(crate) fn double(img: &mut [u8], e: Entry, page: Page, i: usize, start: u32, child: u32) -> Grown
+pub(crate) fn double(
+    img: &mut [u8],
+    e: Entry,
+    page: Page,
+    i: usize,
+    start: u32,
+    child: u32,
+) -> Grown
     requires { ⌜ Some (now img) (Settlable (e .child) (suc (page .number))) ⌝ }
     requires { ⌜ (page .level < 255) × (i < page .number) × (page .number ≤ 24) ⌝ }
     ensures { λ r. ⌜ Each (now (img .entry)) (Settlable (e .child) (suc (page .number)))
