@@ -49,7 +49,8 @@ pub writable : {had bs out : List ℕ} {n : ℕ} → Put had 0 bs out n → Prin
 writable p q = (put-room p, subst⁻¹ Printed (put-first p) q)
 
 -- and so the runs, of the image behind the last line
-pub runs-writable : {g : Going} {img out after : List ℕ} {n : ℕ} (list : List ℕ) → Reached g → img ≡ ended 12 64 (unwritten g) .image → length list ≡ 22656
+pub runs-writable : {g : Going} {img out after : List ℕ} {n : ℕ} (list : List ℕ) → Reached g
+    → img ≡ ended 12 64 (unwritten g) .image → length list ≡ 22656
     → Put out 0 (listed-text (listing 12 0 END img list)) after n → (n ≤ length after) × Printed (take n after)
 runs-writable list reached e l p =
     writable p (subst⁻¹ (λ x. Printed (listed-text (listing 12 0 END x list))) e (by-runs reached list l))

@@ -18,7 +18,8 @@ use Rattle.luwhenoka.specs.declared.ListingAnswer.{ListingAnswer}
 use Rattle.luwhenoka.specs.Answers.{pair-of, average-answer, listed}
 use Rattle.promises.specs.AfterLists.{After-lists, Instant-as, Average-as, Listing-as, Audit-as, Booking-as}
 
-pub instant-as : (t : ℕ) (img : List ℕ) (r : InstantAnswer) → record { number = r .number; pair = pair-of r; pages = r .pages } ≡ instant 12 t img
+pub instant-as : (t : ℕ) (img : List ℕ) (r : InstantAnswer)
+    → record { number = r .number; pair = pair-of r; pages = r .pages } ≡ instant 12 t img
     → After-lists img (Instant-as t r)
 unfolding After-lists
 instant-as t img r p kind window cs T =
@@ -28,7 +29,8 @@ instant-as t img r p kind window cs T =
       told = λ l. (ap (λ (i : Instant). i .number) p ∙ b .instants t l .0, ap (λ (i : Instant). i .pair) p ∙ b .instants t l .1);
     }
 
-pub average-as : (t : ℕ) (img : List ℕ) (r : AverageAnswer) → r ≡ average-answer (average-at 12 t img .number) (average-at 12 t img .average)
+pub average-as : (t : ℕ) (img : List ℕ) (r : AverageAnswer)
+    → r ≡ average-answer (average-at 12 t img .number) (average-at 12 t img .average)
     → After-lists img (Average-as t r)
 unfolding After-lists
 average-as t img r p kind window cs T =

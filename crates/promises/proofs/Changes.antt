@@ -13,7 +13,8 @@ use Rattle.demands.proofs.All.{twelve}
 use Rattle.promises.specs.Changes.{Change-promised, Every-change-promised}
 use Rattle.promises.proofs.Answers.{answer-number, answer-pair}
 
-changed-so : (side : Side) (v : ℤ) (s e : ℕ) (img after : List ℕ) → Accepted-change 12 side v s e img after → Change-promised side v s e img after
+changed-so : (side : Side) (v : ℤ) (s e : ℕ) (img after : List ℕ) → Accepted-change 12 side v s e img after
+    → Change-promised side v s e img after
 changed-so side v s e img after c =
     record {
       leaves = c;

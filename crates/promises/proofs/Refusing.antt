@@ -46,7 +46,8 @@ averaged t img r p = (refused, beyond)
 
     beyond : r .answer ≢ 2
     beyond e =
-        never-beyond (average-at 12 t img .number) (average-at 12 t img .average) (d1 .of-beyond t img) (sym (ap (λ (a : AverageAnswer). a .answer) p) ∙ e)
+        never-beyond (average-at 12 t img .number) (average-at 12 t img .average) (d1 .of-beyond t img)
+        (sym (ap (λ (a : AverageAnswer). a .answer) p) ∙ e)
 
 pub refusing : Refusing
 unfolding listed
@@ -59,7 +60,9 @@ refusing =
           λ side v s e img scratch r after left p.
           let n = ap (λ (b : Booked). b .number) p in (
             λ d. ap (λ (b : Booked). b .image) p ∙ d1 .of-booking side v s e img scratch (λ z. d (n ∙ z)),
-            ap (λ (b : Booked). b .scratch) p ∙ d1 .of-scratch side v s e img scratch .0 ∙ ap (λ k. cond (keeps-scratch k) scratch (cleared (pages-in 12 img) scratch)) (sym n),
+            ap (λ (b : Booked). b .scratch) p
+                ∙ d1 .of-scratch side v s e img scratch .0
+                ∙ ap (λ k. cond (keeps-scratch k) scratch (cleared (pages-in 12 img) scratch)) (sym n),
           );
       of-instant =
           λ t img r p.
@@ -78,5 +81,7 @@ refusing =
       of-audit =
           λ img scratch r left p.
           let n = ap (λ (a : Audited). a .number) p in
-          ap (λ (a : Audited). a .scratch) p ∙ d1 .of-scratch entering (pos 0) 0 0 img scratch .1 ∙ ap (λ k. cond (keeps-scratch k) scratch (cleared (pages-in 12 img) scratch)) (sym n);
+          ap (λ (a : Audited). a .scratch) p
+          ∙ d1 .of-scratch entering (pos 0) 0 0 img scratch .1
+          ∙ ap (λ k. cond (keeps-scratch k) scratch (cleared (pages-in 12 img) scratch)) (sym n);
     }

@@ -51,11 +51,13 @@ module _ (img : List ℕ) (q : Task) (on : Spot) where
       go true f = let z : _≡_ {A = ℕ} 0 1 = cc in absurd (omega arith)
       go false f = refl
 
-  opened-fit : {n : ℕ} → opened.Entries n ≡ opened-at img q on → (page-fit 12 (q .head) (on .at) (bytes-at img on) ≡ true) × (n ≡ number-of (bytes-at img on))
+  opened-fit : {n : ℕ} → opened.Entries n ≡ opened-at img q on
+      → (page-fit 12 (q .head) (on .at) (bytes-at img on) ≡ true) × (n ≡ number-of (bytes-at img on))
   unfolding opened-at
   opened-fit {n} e = go (page-fit 12 (q .head) (on .at) (bytes-at img on)) e
     where
-      go : (b : Bool) → opened.Entries n ≡ cond b (opened.Entries (number-of (bytes-at img on))) opened.Unfit → (b ≡ true) × (n ≡ number-of (bytes-at img on))
+      go : (b : Bool) → opened.Entries n ≡ cond b (opened.Entries (number-of (bytes-at img on))) opened.Unfit
+          → (b ≡ true) × (n ≡ number-of (bytes-at img on))
       go true f = (refl, cc)
       go false f = let z : _≡_ {A = ℕ} 0 1 = cc in absurd (omega arith)
 
@@ -68,7 +70,8 @@ module _ (img : List ℕ) (q : Task) (on : Spot) where
     pub room : Room (q .writing) run (in-turn n (entry-walk img q on)) out
     pub so-far : Walking (entry-walk img q on) (q .writing) run out n i r left
 
-  pub turning-none : {n : ℕ} {run : Run} {out : List ℕ} → opened.Entries n ≡ opened-at img q on → Room (q .writing) run (page-walk img q on) out → Turning run out n 0 run out
+  pub turning-none : {n : ℕ} {run : Run} {out : List ℕ} → opened.Entries n ≡ opened-at img q on
+      → Room (q .writing) run (page-walk img q on) out → Turning run out n 0 run out
   turning-none {n} {run} {out} e room =
       let f = opened-fit e in
       let w : page-walk img q on ≡ in-turn n (entry-walk img q on) = page-in-turn img q on (f .0) ∙ ap (λ k. in-turn k (entry-walk img q on)) (sym (f .1)) in
@@ -88,7 +91,8 @@ module _ (img : List ℕ) (q : Task) (on : Spot) where
     pub turning-room : i < n → Room (q .writing) r (entry-walk img q on i) left
     turning-room l = walking-room _ _ _ _ (t .so-far) (t .room) l
 
-    pub turning-more : i < n → {next : Run} {left′ : List ℕ} → Does (q .writing) r (entry-walk img q on i) left (Fit next) left′ → length left′ ≡ length left
+    pub turning-more : i < n → {next : Run} {left′ : List ℕ} → Does (q .writing) r (entry-walk img q on i) left (Fit next) left′
+        → length left′ ≡ length left
         → Turning run out n (i + 1) next left′
     turning-more l d k =
         record {
@@ -100,7 +104,8 @@ module _ (img : List ℕ) (q : Task) (on : Spot) where
           so-far = walking-more _ _ _ _ (t .so-far) l d k;
         }
 
-    pub turning-unfit : i < n → {left′ : List ℕ} → Does (q .writing) r (entry-walk img q on i) left Unfit left′ → Does (q .writing) run (page-walk img q on) out Unfit left′
+    pub turning-unfit : i < n → {left′ : List ℕ} → Does (q .writing) r (entry-walk img q on i) left Unfit left′
+        → Does (q .writing) run (page-walk img q on) out Unfit left′
     turning-unfit l d = rw (t .whole) (walking-unfit _ _ _ _ (t .so-far) (t .room) l d)
 
     pub turning-all : n ≤ i → Does (q .writing) run (page-walk img q on) out (Fit r) left

@@ -19,11 +19,13 @@ use Rattle.listing.specs.Walks.{bytes-at, page-walk, spot-below, meets, 
 -- ---- pairs combined into every run
 
 module _ (kind : ℕ) where
-  pub under-under : (p q : Pair) (w : image.Walked) → under (combine kind) p (under (combine kind) q w) ≡ under (combine kind) (combine kind p q) w
+  pub under-under : (p q : Pair) (w : image.Walked)
+      → under (combine kind) p (under (combine kind) q w) ≡ under (combine kind) (combine kind p q) w
   unfolding under
   under-under p q w = ap (λ l. record { fit = w .fit; runs = l }) (go (w .runs))
     where
-      go : (rs : List image.Run) → under (combine kind) p (under (combine kind) q (record { fit = true; runs = rs })) .runs ≡ under (combine kind) (combine kind p q) (record { fit = true; runs = rs }) .runs
+      go : (rs : List image.Run)
+          → under (combine kind) p (under (combine kind) q (record { fit = true; runs = rs })) .runs ≡ under (combine kind) (combine kind p q) (record { fit = true; runs = rs }) .runs
       go [] = refl
       go (r ∷ rs) = ap₂ _∷_ (ap (λ x. record { start = r .start; pair = x }) (sym (lawful kind .assoc p q (r .pair)))) (go rs)
 
@@ -35,7 +37,8 @@ module _ (kind : ℕ) where
       go [] = refl
       go (r ∷ rs) = ap₂ _∷_ (ap (λ x. record { start = r .start; pair = x }) (lawful kind .unit (r .pair))) (go rs)
 
-pub under-turn : (comb : Pair → Pair → Pair) (p : Pair) (n : ℕ) (f : ℕ → image.Walked) → under comb p (in-turn n f) ≡ in-turn n (λ i. under comb p (f i))
+pub under-turn : (comb : Pair → Pair → Pair) (p : Pair) (n : ℕ) (f : ℕ → image.Walked)
+    → under comb p (in-turn n f) ≡ in-turn n (λ i. under comb p (f i))
 unfolding under in-turn then nothing
 under-turn comb p zero f = refl
 under-turn comb p (suc n) f =
@@ -55,7 +58,8 @@ module _ (img : List ℕ) (q : Task) (on : Spot) (i : ℕ) {b : Bool} (told : b 
   unfolding entry-walk
   entry-leaf e z s p = rw (sym told ∙ not-false b e, eq-eqb (on .at .level) 0 z) (ap₂ one-run (sym s) (sym p))
 
-  pub entry-inner : not b ≡ false → 1 ≤ on .at .level → {below : Spot} → below ≡ spot-below q (bytes-at img on) on i → entry-walk img q on i ≡ page-walk img q below
+  pub entry-inner : not b ≡ false → 1 ≤ on .at .level → {below : Spot} → below ≡ spot-below q (bytes-at img on) on i
+      → entry-walk img q on i ≡ page-walk img q below
   unfolding entry-walk
   entry-inner e l d = rw (sym told ∙ not-false b e, ne-eqb (on .at .level) 0 (λ z. absurd (omega arith))) (ap (page-walk img q) (sym d))
 
@@ -75,7 +79,8 @@ module _ (img : List ℕ) (q : Task) (on : Spot) where
 
   -- what an entry gives, with the pairs above combined into it, is its walk
   module _ (i : ℕ) where
-    leaf-met : on .at .level ≡ 0 → total (cond (meets q s on i) (leaf-run (q .a) (start-at s i) (pair-at 12 s i)) nothing) ≡ entry-walk img q on i
+    leaf-met : on .at .level ≡ 0
+        → total (cond (meets q s on i) (leaf-run (q .a) (start-at s i) (pair-at 12 s i)) nothing) ≡ entry-walk img q on i
     unfolding entry-walk under leaf-run nothing
     leaf-met e = rw (eq-eqb (on .at .level) 0 e) (go (meets q s on i))
       where
@@ -84,7 +89,8 @@ module _ (img : List ℕ) (q : Task) (on : Spot) where
         go true = refl
         go false = refl
 
-    inner-met : (l : ℕ) → on .at .level ≡ suc l → total (cond (meets q s on i) (under (combine (q .head .kind)) (pair-at 12 s i) (deeper i l)) nothing) ≡ entry-walk img q on i
+    inner-met : (l : ℕ) → on .at .level ≡ suc l
+        → total (cond (meets q s on i) (under (combine (q .head .kind)) (pair-at 12 s i) (deeper i l)) nothing) ≡ entry-walk img q on i
     unfolding entry-walk page-walk under nothing place-below
     inner-met l e = rw (ne-eqb (on .at .level) 0 (λ z. absurd (omega arith))) (go (meets q s on i))
       where
@@ -94,7 +100,8 @@ module _ (img : List ℕ) (q : Task) (on : Spot) where
         down : l ≡ below .at .level
         down = omega arith
 
-        go : (t : Bool) → total (cond t (under (combine (q .head .kind)) (pair-at 12 s i) (deeper i l)) nothing) ≡ cond t (page-walk img q below) nothing
+        go : (t : Bool)
+            → total (cond t (under (combine (q .head .kind)) (pair-at 12 s i) (deeper i l)) nothing) ≡ cond t (page-walk img q below) nothing
         go true =
             under-under (q .head .kind) (on .above) (pair-at 12 s i) (deeper i l)
             ∙ ap (λ k. under (combine (q .head .kind)) (below .above) (deeper i k)) down
@@ -112,9 +119,11 @@ module _ (img : List ℕ) (q : Task) (on : Spot) where
   unfolding page-walk walk walk-page
   page-in-turn e = go (on .at .level) refl
     where
-      turns : (f : ℕ → image.Walked) → ((i : ℕ) → total (f i) ≡ entry-walk img q on i) → total (in-turn (number-of s) f) ≡ in-turn (number-of s) (entry-walk img q on)
+      turns : (f : ℕ → image.Walked) → ((i : ℕ) → total (f i) ≡ entry-walk img q on i)
+          → total (in-turn (number-of s) f) ≡ in-turn (number-of s) (entry-walk img q on)
       turns f h = under-turn (combine (q .head .kind)) (on .above) (number-of s) f ∙ ap (in-turn (number-of s)) (λ j i. h i j)
 
-      go : (l : ℕ) → on .at .level ≡ l → total (walk 12 (q .head) img (q .a) (q .b) l (on .at) (on .page)) ≡ in-turn (number-of s) (entry-walk img q on)
+      go : (l : ℕ) → on .at .level ≡ l
+          → total (walk 12 (q .head) img (q .a) (q .b) l (on .at) (on .page)) ≡ in-turn (number-of s) (entry-walk img q on)
       go zero d = rw e (turns _ (λ i. leaf-met i d))
       go (suc l) d = rw e (turns _ (λ i. inner-met i l d))

@@ -100,7 +100,8 @@ module _ {img : List ℕ} {h : Head} (a b : ℕ) (out : List ℕ) (headed : Open
   room-counting =
       record { few = omega (arith, over-few a b headed); fit = λ e. absurd (false≢true e); room = λ e. absurd (false≢true e) }
 
-  pub room-writing : walk-over 12 img a b .fit ≡ true → 16 * length (join (walk-over 12 img a b .runs)) ≤ length out → Room true no-run (walk-over 12 img a b) out
+  pub room-writing : walk-over 12 img a b .fit ≡ true → 16 * length (join (walk-over 12 img a b .runs)) ≤ length out
+      → Room true no-run (walk-over 12 img a b) out
   room-writing fit room =
       record {
         few = omega (arith, over-few a b headed);
@@ -119,6 +120,7 @@ module _ (w : image.Walked) where
       let f = of-answer no-run w e in
       rw (f .0) (ap counted.Runs (ap (λ (r : Run). r .written) (f .1) ∙ written-join (w .runs)))
 
-  pub output-all : (out : List ℕ) → 16 * length (join (w .runs)) ≤ length out → output true no-run w out ≡ patch out 0 (joined run-bytes (join (w .runs)))
+  pub output-all : (out : List ℕ) → 16 * length (join (w .runs)) ≤ length out
+      → output true no-run w out ≡ patch out 0 (joined run-bytes (join (w .runs)))
   unfolding output
   output-all out room = output-join (w .runs) out room

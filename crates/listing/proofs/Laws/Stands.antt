@@ -98,7 +98,8 @@ module _ {img : List ℕ} {q : Task} {on : Spot} (sits : Sits img q on) where
         }
 
     -- the walk can go on at the page below, and the level falls
-    pub step-down : {below : Spot} → below ≡ spot-below q (bytes-at img on) on i → 1 ≤ on .at .level → Sits img q below × (below .at .level < on .at .level)
+    pub step-down : {below : Spot} → below ≡ spot-below q (bytes-at img on) on i → 1 ≤ on .at .level
+        → Sits img q below × (below .at .level < on .at .level)
     unfolding place-below
     step-down e v = rw e (sits-below v, omega arith)
 

@@ -56,7 +56,8 @@ unfolding output then
 output-then true run v w out = output-after-all-append run (v .runs) (w .runs) out
 output-then false run v w out = refl
 
-pub length-left : (writing : Bool) (run : Run) (w : image.Walked) (out : List ℕ) → Room writing run w out → length (output writing run w out) ≡ length out
+pub length-left : (writing : Bool) (run : Run) (w : image.Walked) (out : List ℕ) → Room writing run w out
+    → length (output writing run w out) ≡ length out
 unfolding output
 length-left true run w out h = length-output run (w .runs) out (h .room refl)
 length-left false run w out h = refl

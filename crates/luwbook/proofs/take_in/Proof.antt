@@ -25,7 +25,8 @@ returns-3 c =
     let n = ran .before .before .before in
     let start = n .before .before .before .before .before in
     let fits = start .fits .got in
-    takes-more _ _ _ _ _ (rw (toZ-ofZ fits) at (n .before .before .if1 .left)) (λ e. n .before .if2 .left (ap (ofZ w64) e)) (start .pre .1 .0)
+    takes-more _ _ _ _ _ (rw (toZ-ofZ fits) at (n .before .before .if1 .left)) (λ e. n .before .if2 .left (ap (ofZ w64) e))
+    (start .pre .1 .0)
     (rw (toZ-ofZ fits) at (n .count .ensures .1)) (ran .run-some .ensures)
 
 pub take-in-spec : {M : Type 1} → statement M

@@ -29,7 +29,8 @@ module _ (img scratch : List ℕ) where
   unfolding audited first
   audit-16 a = by-tests false _ _ a refl refl
 
-  pub audit-17 : length-ok 12 img ≡ true → length scratch < pages-in 12 img → record { number = 17; scratch = scratch } ≡ audit 12 img scratch
+  pub audit-17 : length-ok 12 img ≡ true → length scratch < pages-in 12 img
+      → record { number = 17; scratch = scratch } ≡ audit 12 img scratch
   unfolding audited first scratch-ok borrowed
   audit-17 a l = by-tests true false _ a (lt-leb _ _ l) refl
 

@@ -36,7 +36,8 @@ module _ {r : InstantAnswer} (t : ℕ) (img : List ℕ) (e : r ≡ instant-answe
       let z : 0 ≡ instant 12 t img .number = sym n ∙ number-is in
       λ j. average-answer (z j) (cond (eqb (z j) 0) (average k (pair-is j)) Nothing)
 
-  pub average-refused : r .number ≢ 0 → record { number = r .number; answer = 0; hundredths = pos 0 } ≡ averaged-answer (average-at 12 t img)
+  pub average-refused : r .number ≢ 0
+      → record { number = r .number; answer = 0; hundredths = pos 0 } ≡ averaged-answer (average-at 12 t img)
   unfolding average-answer averaged-answer average-at
   average-refused n =
       let m : ℕ = instant 12 t img .number in

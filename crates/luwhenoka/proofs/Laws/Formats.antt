@@ -28,10 +28,12 @@ module _ (kind window : ℕ) (img : List ℕ) where
   unfolding formatted first
   format-16 a = by-tests false _ a refl
 
-  pub format-14 : length-ok 12 img ≡ true → (kind-ok kind && window-ok window) ≡ false → record { number = 14; image = img } ≡ format 12 kind window img
+  pub format-14 : length-ok 12 img ≡ true → (kind-ok kind && window-ok window) ≡ false
+      → record { number = 14; image = img } ≡ format 12 kind window img
   unfolding formatted first
   format-14 a b = by-tests true false a b
 
-  pub format-0 : length-ok 12 img ≡ true → (kind-ok kind && window-ok window) ≡ true → record { number = 0; image = done } ≡ format 12 kind window img
+  pub format-0 : length-ok 12 img ≡ true → (kind-ok kind && window-ok window) ≡ true
+      → record { number = 0; image = done } ≡ format 12 kind window img
   unfolding formatted first
   format-0 a b = by-tests true true a b

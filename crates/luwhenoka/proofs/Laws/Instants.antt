@@ -43,10 +43,12 @@ module _ (t : ℕ) (img : List ℕ) where
     instant-head d = by-tests true false true false a (lt-leb _ _ l) (lt-ltb _ _ l) d refl
 
     module _ (d : head-ok 12 img ≡ true) {p : Pair} {n : ℕ} where
-      pub instant-21 : record { fit = false; pair = p; pages = n } ≡ look-up 12 img t → record { number = 21; pair = none; pages = n } ≡ instant 12 t img
+      pub instant-21 : record { fit = false; pair = p; pages = n } ≡ look-up 12 img t
+          → record { number = 21; pair = none; pages = n } ≡ instant 12 t img
       unfolding answered first
       instant-21 e = by-tests true false true true a (lt-leb _ _ l) (lt-ltb _ _ l) d e
 
-      pub instant-0 : record { fit = true; pair = p; pages = n } ≡ look-up 12 img t → record { number = 0; pair = p; pages = n } ≡ instant 12 t img
+      pub instant-0 : record { fit = true; pair = p; pages = n } ≡ look-up 12 img t
+          → record { number = 0; pair = p; pages = n } ≡ instant 12 t img
       unfolding answered first
       instant-0 e = by-tests true false true true a (lt-leb _ _ l) (lt-ltb _ _ l) d e

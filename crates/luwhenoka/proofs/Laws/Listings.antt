@@ -91,7 +91,8 @@ module _ (a b : ℕ) (img out : List ℕ) where
       listing-21 g = by-tests true true true false _ d span-fits f g refl
 
       module _ (g : walk-over 12 img a b .fit ≡ true) where
-        pub listing-15 : length out < 16 * length (runs-over 12 a b img) → record { number = 15; runs = 0; output = out } ≡ listing 12 a b img out
+        pub listing-15 : length out < 16 * length (runs-over 12 a b img)
+            → record { number = 15; runs = 0; output = out } ≡ listing 12 a b img out
         unfolding made first too-short
         listing-15 k = by-tests true true true true true d span-fits f g (lt-ltb _ _ k)
 

@@ -48,7 +48,9 @@ walk-page-μ-loop img out₀ q on n last₀ i₀ out last i = n - i
 pub +walk-entry+walk-page-spec : {M : Type 1} → statement M
 +walk-entry+walk-page-spec =
     close μ-walk-entry μ-walk-page
-    (λ t. walk-entry-lts.spec (meets-reads.Asked, meets-reads.Learnt, spot-below-reads.Asked, spot-below-reads.Learnt, walk-page-below t, walk-page.Post)
+    (λ t.
+    walk-entry-lts.spec
+    (meets-reads.Asked, meets-reads.Learnt, spot-below-reads.Asked, spot-below-reads.Learnt, walk-page-below t, walk-page.Post)
     (walk-entry-at t)
     walk-entry.Post
     -- meets-requires
@@ -116,14 +118,16 @@ pub +walk-entry+walk-page-spec : {M : Type 1} → statement M
     (λ c.
     let call = c .before .before .before .before in
     let inside = call .before .before in
-    turning-unfit _ _ _ (inside .before .loop .inv) (inside .loop-test .taken) (rw (c .enum-told2 .given .1) at (call .walk-entry .ensures)))
+    turning-unfit _ _ _ (inside .before .loop .inv) (inside .loop-test .taken)
+    (rw (c .enum-told2 .given .1) at (call .walk-entry .ensures)))
     -- add-i, loop-less
     (λ c. omega arith) (λ c. omega arith)
     -- loop-again
     (λ c.
     let call = c .before .before .before .before .before in
     let inside = call .before .before in
-    turning-more _ _ _ (inside .before .loop .inv) (inside .loop-test .taken) (rw (c .before .next .given .1) at (call .walk-entry .ensures)) (call .walk-entry .kept .1 .0))
+    turning-more _ _ _ (inside .before .loop .inv) (inside .loop-test .taken)
+    (rw (c .before .next .given .1) at (call .walk-entry .ensures)) (call .walk-entry .kept .1 .0))
     -- same-length-3
     (λ c. c .before .loop .inv .so-far .same)
     -- returns-4

@@ -9,11 +9,16 @@ use Rattle.luwhenoka.proofs.Laws.Formats.{format-16, format-14, format-
 use Rattle.luwhenoka.proofs.formats.luw_format.Statement.{statement}
 use Rattle.luwhenoka.proofs.formats.luw_format.Tie as tie
 
-fits : (c : tie.Else1) → length-ok 12 (c .before .before .before .before .before .before .args .img .now) ≡ true
+-- the call's own start
+abbrev began : tie.After-window-ok → tie.Start
+began c = c .before .before .before .before .before
+
+fits : (c : tie.Else1) → length-ok 12 (began (c .before) .args .img .now) ≡ true
 fits c = sym (c .before .before .before .length-fits .ensures) ∙ not-false _ (c .if1 .left)
 
 -- the two tests of kind and window, as one
-named : (c : tie.After-window-ok) → (kind-ok (c .before .before .before .before .before .args .kind) && window-ok (c .before .before .before .before .before .args .window)) ≡ (c .before .kind-ok .result && c .window-ok .result)
+named : (c : tie.After-window-ok)
+    → (kind-ok (began c .args .kind) && window-ok (began c .args .window)) ≡ (c .before .kind-ok .result && c .window-ok .result)
 named c = λ j. sym (c .before .kind-ok .ensures) j && sym (c .window-ok .ensures) j
 
 returns : tie.Need-returns

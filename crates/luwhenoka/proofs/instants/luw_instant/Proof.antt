@@ -38,7 +38,8 @@ head-fits c = headed c .fit
 
 returns : tie.Need-returns
 returns c =
-    c .refused .ensures ∙ ap instant-answer (instant-16 _ _ (sym (c .before .before .length-fits .ensures) ∙ not-true _ (c .before .if1 .taken)))
+    c .refused .ensures
+    ∙ ap instant-answer (instant-16 _ _ (sym (c .before .before .length-fits .ensures) ∙ not-true _ (c .before .if1 .taken)))
 
 returns-2 : tie.Need-returns-2
 returns-2 c = c .refused2 .ensures ∙ ap instant-answer (instant-12 _ _ (fits (c .before .before)) (omega (arith, c .before .if2 .taken)))
@@ -62,7 +63,8 @@ returns-4 c =
     let end = head .before .before .before in
     c .accepted .ensures
     ∙ ap instant-answer
-    (instant-0 _ _ (fits (end .before)) (before-end end) (head-fits head) (ap looked (sym (found .pair .given .1)) ∙ look .look-up .ensures))
+    (instant-0 _ _ (fits (end .before)) (before-end end) (head-fits head)
+    (ap looked (sym (found .pair .given .1)) ∙ look .look-up .ensures))
 
 returns-5 : tie.Need-returns-5
 unfolding looked
@@ -73,7 +75,8 @@ returns-5 c =
     let end = head .before .before .before in
     c .refused4 .ensures
     ∙ ap instant-answer
-    (instant-21 _ _ (fits (end .before)) (before-end end) (head-fits head) (ap looked (sym (found .pages .given .1)) ∙ look .look-up .ensures))
+    (instant-21 _ _ (fits (end .before)) (before-end end) (head-fits head)
+    (ap looked (sym (found .pages .given .1)) ∙ look .look-up .ensures))
 
 pub luw-instant-spec : {M : Type 1} → statement M
 luw-instant-spec =

@@ -18,7 +18,8 @@ use Rattle.luwhenoka.proofs.listings.luw_listing.Statement.{statement}
 use Rattle.luwhenoka.proofs.listings.luw_listing.Tie as tie
 
 -- what was refused, with the output as it was
-kept : {r : ListingAnswer} (n : ℕ) (out : List ℕ) → r ≡ record { number = n; runs = 0 } → listed r out ≡ record { number = n; runs = 0; output = out }
+kept : {r : ListingAnswer} (n : ℕ) (out : List ℕ) → r ≡ record { number = n; runs = 0 }
+    → listed r out ≡ record { number = n; runs = 0; output = out }
 unfolding listed
 kept n out e = ap (λ (r : ListingAnswer). record { number = r .number; runs = r .runs; output = out }) e
 
@@ -86,7 +87,8 @@ returns-5 c =
     let span = head .before .before .before in
     let n = passed runs in
     kept 15 _ (c .refused5 .ensures)
-    ∙ listing-15 _ _ _ _ (fits (span .before)) (span .if2 .left) (ends span) (head-fits head) (n .fit) (omega (arith, n .number, test .if3 .taken))
+    ∙ listing-15 _ _ _ _ (fits (span .before)) (span .if2 .left) (ends span) (head-fits head) (n .fit)
+    (omega (arith, n .number, test .if3 .taken))
 
 write-runs-requires : tie.Need-write-runs-requires
 unfolding runs-over
@@ -106,7 +108,8 @@ returns-6 c =
     let span = head .before .before .before in
     let n = passed runs in
     (λ j. record { number = 0; runs = n .number j; output = wrote .write-runs .ensures j })
-    ∙ listing-0 _ _ _ _ (fits (span .before)) (span .if2 .left) (ends span) (head-fits head) (n .fit) (omega (arith, n .number, test .if3 .left))
+    ∙ listing-0 _ _ _ _ (fits (span .before)) (span .if2 .left) (ends span) (head-fits head) (n .fit)
+    (omega (arith, n .number, test .if3 .left))
 
 pub luw-listing-spec : {M : Type 1} → statement M
 luw-listing-spec =
