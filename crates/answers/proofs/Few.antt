@@ -22,11 +22,12 @@ use Rattle.image.specs.Looks.{found-fit}
 use Rattle.calls.specs.Refusals.{first}
 use Rattle.calls.specs.Calls.{head-ok, runs-over, too-short, listing-number, listing}
 use Rattle.calls.specs.Walks.{Few-runs}
-use Rattle.audit.proofs.Sums.{total, total-ones}
-use Rattle.audit.proofs.Fitness.{fit-facts}
-use Rattle.audit.proofs.Sound.{the-head}
-use Rattle.audit.proofs.Tree.{found-append}
-use Rattle.audit.proofs.Trails.{all-visits, found-short}
+use Rattle.lists.specs.Lists.{total}
+use Rattle.lists.proofs.Totals.{total-ones}
+use Rattle.fit.proofs.Laws.Pages.{page-fit-is}
+use Rattle.soundness.proofs.Sound.{the-head}
+use Rattle.soundness.proofs.Tree.{found-append}
+use Rattle.soundness.proofs.Trails.{all-visits, found-short}
 
 -- ---- walks in turn
 
@@ -95,7 +96,7 @@ module _ (half : ℕ) (h : Head) (img : List ℕ) where
             let few : length (in-turn (number-of s) found .runs) ≤ 1 * total (number-of s) (λ _. 1) =
             turn-le (number-of s) found (λ _. 1) 1
             (λ i. picked-le (overlaps a b (start-at s i) (end-at s (at .hi) i)) (leaf-run a (start-at s i) (pair-at half s i)) 1 (omega arith)) in
-            omega (arith, few, total-ones (number-of s) (λ _. 1) (λ i l. refl), fit-facts half h at s e .most)
+            omega (arith, few, total-ones (number-of s) (λ _. 1) (λ i l. refl), page-fit-is half h at s .0 e .most)
         go false e = omega arith
     walk-few (suc l) at p =
         go (λ i. walk-few l (place-below half (page-at half img p) at i) (child-at half (page-at half img p) i)) (page-fit half h at (page-at half img p))

@@ -12,7 +12,7 @@ use Rattle.image.specs.Instant.{look-up}
 use Rattle.image.specs.Listing.{walk-over}
 use Rattle.calls.specs.Calls.{head-ok, instant, listing}
 use Rattle.calls.specs.Book.{listing-of}
-use Rattle.audit.proofs.Sound.{the-head, sound-facts, sound-whole}
+use Rattle.soundness.proofs.Sound.{the-head, sound-facts, sound-whole}
 use Rattle.answers.proofs.Look.{half-some, tree-top, look-fit}
 use Rattle.answers.proofs.Walk.{walk-fit}
 use Rattle.answers.proofs.Calls.{Answered, answers, instant-pair}

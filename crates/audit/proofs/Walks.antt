@@ -21,8 +21,8 @@ use Rattle.audit.specs.declared.Counted.the-variants.{Fit, Unfit}
 use Rattle.lent.specs.Opened.{Within}
 use Rattle.lent.proofs.Laws.{page-length}
 use Rattle.audit.specs.Walks.{Standing, Inner, counted, counted-below}
-use Rattle.audit.proofs.Sums.{total}
-use Rattle.audit.proofs.Tree.{tree-parts, tree-length, tree-short}
+use Rattle.lists.specs.Lists.{total}
+use Rattle.soundness.proofs.Tree.{tree-parts, tree-length, tree-short}
 
 -- ---- the answer is a number exactly where the tree is fit
 

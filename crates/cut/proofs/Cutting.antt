@@ -9,7 +9,8 @@ use lib.Dec.{leb, eqb}
 use borrow.Author.Tests.{eq-eqb, ne-eqb}
 use Rattle.page.specs.declared.Entry.{Entry}
 use Rattle.page.specs.declared.Page.{Page}
-use Rattle.page.specs.Entries.{at, last-from, place, splice}
+use Rattle.page.specs.Entries.{at, place, splice}
+use Rattle.page.proofs.Laws.Places.{place-in}
 use Rattle.page.specs.Layout.{capacity}
 use Rattle.page.specs.Decoded.{shown}
 use Rattle.page.proofs.Laws.Decoded.{length-shown}
@@ -74,18 +75,6 @@ module _ (l p t : ℕ) (X : Image) (e : Entry) (c : e .child ≡ p) where
   cut-two : length (below l p t X .became) ≡ 2 → cut-entry 12 t (suc l) e X ≡ settled 12 l e (gained l p t X) (below l p t X .image)
   cut-two n = by-child ∙ rw (ne-eqb (length (below l p t X .became)) 1 (λ one. omega arith))
 
--- ---- the place of an instant
-
-last-below : (t i k n : ℕ) (es : List Entry) → k < n → i + length es ≤ n → last-from t i k es < n
-unfolding last-from
-last-below t i k n [] h m = h
-last-below t i k n (e ∷ es) h m =
-    last-below t (suc i) (cond (leb (e .start) t) i k) n es (either (λ m. m < n) (leb (e .start) t) i k (omega arith) h) (omega arith)
-
-place-below : (t : ℕ) (es : List Entry) → 1 ≤ length es → place t es < length es
-unfolding place
-place-below t es h = last-below t 0 0 (length es) es h (omega arith)
-
 -- ---- what was read of page p: its entries, and the place of the one that has t
 
 pub record Found (l p t : ℕ) (X : Image) (page : Page) (i : ℕ) : Type 0 where
@@ -109,7 +98,7 @@ found {l = l} {p} {t} {X} {page} {i} ready h loads finds =
       few = loaded .few;
       number = n;
       placed = at-place;
-      inside = omega (arith, place-below t es (sought .some));
+      inside = omega (arith, place-in t es (sought .some));
     }
 
 pub cuttable-ready : {l p t : ℕ} {X : Image} → Page-cuttable l p t X → Page-ready l p t X

@@ -25,7 +25,7 @@ use Rattle.tree.proofs.Cut.{cut-formed}
 use Rattle.tree.proofs.Spread.{spread-formed}
 use Rattle.tree.proofs.Heal.{heal-formed}
 use Rattle.tree.proofs.Change.{cuts-formed, change-formed, change-pairs}
-use Rattle.held.proofs.Measures.{change-sums, change-counts, change-values}
+use Rattle.tree.proofs.Conservation.Measures.{change-sums, change-counts, change-values}
 use Rattle.view.specs.View.{Once}
 use Rattle.view.specs.Change.{after-A, after-B, after-C, after-D, after-E, Passable}
 use Rattle.view.proofs.Change.{Changed, change-is}

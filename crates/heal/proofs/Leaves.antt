@@ -11,7 +11,8 @@ use Rattle.rule.specs.Pairs.{same-pair}
 use Rattle.page.specs.declared.Entry.{Entry}
 use Rattle.page.specs.declared.Page.{Page}
 use Rattle.page.specs.Decoded.{shown}
-use Rattle.page.specs.Entries.{at, last-from, place, splice}
+use Rattle.page.specs.Entries.{at, place, splice}
+use Rattle.page.proofs.Laws.Places.{place-in}
 use Rattle.image.specs.Images.{Image, tree}
 use Rattle.edit.specs.Shows.{Shows}
 use Rattle.steps.specs.Supply.{entries, put}
@@ -20,28 +21,12 @@ use Rattle.store.specs.Holding.{Loaded}
 use Rattle.store.specs.Places.{Sought}
 use Rattle.heal.specs.Ready.{Parent, healed-leaf}
 
--- ---- the place
-
-picked : (b : Bool) (i k n : ℕ) → i < n → k < n → cond b i k < n
-picked true i k n l m = l
-picked false i k n l m = m
-
-last-inside : (t i found n : ℕ) (es : List Entry) → found < n → i + length es ≤ n → last-from t i found es < n
-unfolding last-from
-last-inside t i found n [] h k = h
-last-inside t i found n (e ∷ es) h k =
-    last-inside t (suc i) (cond (leb (e .start) t) i found) n es (picked (leb (e .start) t) i found n (omega arith) h) (omega arith)
-
-place-inside : (t : ℕ) (es : List Entry) → 1 ≤ length es → place t es < length es
-unfolding place
-place-inside t es some = last-inside t 0 0 (length es) es some (omega arith)
-
 -- a page that can be searched has the entry that is found
 pub sought-parent : {p t i : ℕ} {X : Image} → Sought p t X → i ≡ place t (entries X p) → Parent p i X
 sought-parent {p} {t} {i} {X} s e =
     record {
       treed = record { level = s .level; ready = record { within = s .within; page = s .page } };
-      inside = omega (arith, place-inside t (entries X p) (s .some));
+      inside = omega (arith, place-in t (entries X p) (s .some));
     }
 
 -- ---- the test

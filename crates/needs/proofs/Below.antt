@@ -18,9 +18,9 @@ use Rattle.image.specs.Images.{Image, entries-in, page-at, image-of}
 use Rattle.image.specs.Sound.{tree-fit}
 use Rattle.lent.specs.Opened.{Within}
 use Rattle.lent.proofs.Laws.{page-length}
-use Rattle.audit.proofs.Tree.{tree-parts}
+use Rattle.soundness.proofs.Tree.{tree-parts}
 use Rattle.lookup.specs.Levels.{Searched}
-use Rattle.lookup.proofs.Laws.Finds.{place-within, place-started}
+use Rattle.page.proofs.Laws.Places.{place-within, place-started}
 use Rattle.lookup.proofs.Laws.Levels.{fit-searched}
 use Rattle.steps.specs.Supply.{entries}
 use Rattle.image.proofs.Cells.{cell-tree}

@@ -19,7 +19,8 @@ use Rattle.tree.proofs.Seg.{seg-one, seg-append, seg-part, seg-lt, seg-head}
 use Rattle.tree.proofs.Find.{Found, found, find}
 use Rattle.tree.proofs.Splice.{splice-at}
 use Rattle.view.proofs.Ways.{there}
-use Rattle.view.proofs.Taking.{later, later-more}
+use Rattle.tree.specs.Counts.{later}
+use Rattle.tree.proofs.Conservation.Supply.{later-more}
 use Rattle.needs.specs.declared.Need.{Need}
 use Rattle.needs.specs.Needs.{need, together, leaf-need, settle}
 use Rattle.needs.proofs.Rows.{Row, row}

@@ -14,8 +14,9 @@ use Rattle.page.specs.declared.Head.{Head}
 use Rattle.page.specs.Entries.{entry}
 use Rattle.page.specs.Fit.{root-place}
 use Rattle.image.specs.Images.{Image, pages-in, length-ok, image-of}
-use Rattle.audit.proofs.Fitness.{Head-facts}
-use Rattle.audit.proofs.Sound.{the-head, Fit-image, sound-facts}
+use Rattle.fit.proofs.Laws.Heads.{Ranges}
+use Rattle.image.proofs.Sizes.{sized}
+use Rattle.soundness.proofs.Sound.{the-head, Fit-image, sound-facts}
 use Rattle.steps.specs.Cut.{root-entry}
 use Rattle.steps.specs.Change.{lacks-pages}
 use Rattle.needs.specs.declared.Need.{Need}
@@ -33,16 +34,12 @@ leads-from img t (suc l) e h k =
     let d : suc l - 1 ≡ l = omega arith in
     subst (λ n. Fit-from img t n (e .child)) d k
 
-length-is : (img : List ℕ) → length-ok 12 img ≡ true → length img ≡ 512 * pages-in 12 img
-unfolding length-ok
-length-is img ok = eqb-true _ _ ((simp and-eq-true-iff at ok) .0)
-
 module _ {img : List ℕ} {h : Head} (o : Sound-image img h) where
   facts : Fit-image 12 img
   facts = sound-facts 12 img (o .sound) .fit
 
-  pub head-is : Head-facts (pages-in 12 img) h
-  head-is = subst⁻¹ (Head-facts (pages-in 12 img)) (o .shown) (facts .head)
+  pub head-is : Ranges (pages-in 12 img) h
+  head-is = subst⁻¹ (Ranges (pages-in 12 img)) (o .shown) (facts .head)
 
   root-leads : (t : ℕ) → Leads img t (h .height) (entry 0 none (h .root))
   unfolding root-place
@@ -53,7 +50,7 @@ module _ {img : List ℕ} {h : Head} (o : Sound-image img h) where
       (record {
         head = the-head 12 img;
         at = root-place (the-head 12 img);
-        size = length-is img (f .whole) ∙ ap (λ n. 512 * n) (sym (f .head .pages-is));
+        size = sized 12 img (f .whole) .size ∙ ap (λ n. 512 * n) (sym (f .head .pages-is));
         inside = omega (arith, f .head .root-below, f .head .pages-is);
         level = refl;
         low = omega (arith, f .head .height-least, f .head .height-most);

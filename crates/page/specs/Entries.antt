@@ -5,6 +5,7 @@ use mathlib.Core.List.{List, [], _∷_, _++_, map}
 use lib.ListN.{length, getD, take, drop}
 use lib.IntN.{pos}
 use lib.Dec.{leb}
+unfoldable pub use Rattle.lists.specs.Lists.{splice}
 use Rattle.rule.specs.declared.Pair.{Pair}
 use Rattle.rule.specs.Pairs.{none}
 use Rattle.page.specs.declared.Entry.{Entry}
@@ -32,10 +33,6 @@ place t es = last-from t 0 0 es
 -- where the i-th of a page's entries ends: at the next one's start, the last at the page's own end
 unfoldable pub end-of : ℕ → List Entry → ℕ → ℕ
 end-of hi es i = getD (map (λ e. e .start) es) (suc i) hi
-
--- xs in the place of the i-th entry
-unfoldable pub splice : {A : Type 0} → ℕ → List A → List A → List A
-splice i xs es = take i es ++ (xs ++ drop (suc i) es)
 
 -- e as the i-th entry, those from there on behind it
 unfoldable pub inserted : {A : Type 0} → ℕ → A → List A → List A

@@ -30,10 +30,10 @@ use Rattle.tree.proofs.Shapes.{leaf-cuttable, leaf-pairless, leaf-joinable, for
 use Rattle.tree.proofs.Cut.{cut-formed}
 use Rattle.tree.proofs.Spread.{spread-formed}
 use Rattle.tree.proofs.Heal.{heal-formed}
-use Rattle.held.proofs.Bounds.{within-more, cut-within, spread-within, heal-within}
-use Rattle.held.proofs.Taken.{Taken, taken-both, taken-number, taken-fits, cut-takes}
-use Rattle.held.proofs.Given.{heal-gives}
-use Rattle.held.proofs.Measures.{sums-bounded, counts-bounded, values-bounded}
+use Rattle.tree.proofs.Conservation.Bounds.{within-more, cut-within, spread-within, heal-within}
+use Rattle.tree.proofs.Conservation.Taken.{Taken, taken-both, taken-number, taken-fits, cut-takes}
+use Rattle.tree.proofs.Conservation.Given.{heal-gives}
+use Rattle.tree.proofs.Conservation.Measures.{sums-bounded, counts-bounded, values-bounded}
 use Rattle.view.specs.View.{Shown, Once}
 use Rattle.view.proofs.Change.{then, counted-shown}
 use Rattle.view.proofs.Stepped.{Steady, Stepped, once-after}

@@ -5,6 +5,8 @@ use mathlib.Core.Bool.{Bool, true, false}
 use native.Mathlib.Omega.{arith}
 use lib.Dec.{eqb}
 use lib.IntN.{natAbs}
+use Rattle.lists.specs.Lists.{All}
+use Rattle.lists.proofs.All.{all-weaken}
 use Rattle.rule.specs.declared.Pair.{Pair}
 use Rattle.rule.specs.Time.{most-value}
 use Rattle.rule.specs.Bounds.{value-or-none, Combinable}
@@ -12,8 +14,6 @@ use Rattle.rule.proofs.Laws.{values-combinable}
 use Rattle.page.specs.declared.Head.{Head}
 use Rattle.page.specs.Fit.{most-changes}
 use Rattle.tree.specs.Tree.{Ent, Kid}
-use Rattle.tree.specs.Held.{All}
-use Rattle.held.proofs.Places.{all-weaken}
 use Rattle.state.proofs.To.Weights.{Weighed, weighed-below, sum-here, count-here, value-here}
 use Rattle.state.specs.Good.{Effective}
 

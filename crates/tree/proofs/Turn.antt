@@ -115,7 +115,7 @@ module _ (half : ℕ) (_⊕_ : Pair → Pair → Pair) (l : ℕ) (pre : Ents (su
 
 -- ---- the short page and its neighbour
 
-neighbour-next : (n : ℕ) → neighbour (suc n) ≡ n
+pub neighbour-next : (n : ℕ) → neighbour (suc n) ≡ n
 unfolding neighbour
 neighbour-next n = ap (λ z. cond z 1 (suc n - 1)) (eqb·suc-zero n) ∙ omega arith
 

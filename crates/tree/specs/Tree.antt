@@ -5,6 +5,7 @@ use mathlib.Core.Bool.{cond}
 use mathlib.Core.List.{List, [], _∷_, _++_, map}
 use lib.Dec.{leb}
 use lib.ListN.{getD}
+use Rattle.lists.specs.Lists.{joined}
 use Rattle.rule.specs.declared.Pair.{Pair}
 use Rattle.rule.specs.Pairs.{none}
 use Rattle.page.specs.declared.Entry.{Entry}
@@ -50,15 +51,10 @@ module _ (_⊕_ : Pair → Pair → Pair) where
   unfoldable pub pair-in : (l : ℕ) → ℕ → Ents l → Pair
   pair-in l t es = pair-under l t (ent-of l t es)
 
--- the pages of all entries of a list, one after the other
-unfoldable pub over : {A : Type 0} → (A → List ℕ) → List A → List ℕ
-over f [] = []
-over f (x ∷ xs) = f x ++ over f xs
-
 -- the pages below an entry: its child, and those below that; none below a leaf's
 unfoldable pub pages-under : (l : ℕ) → Ent (Kid l) → List ℕ
 pages-under zero x = []
-pages-under (suc l) x = x .entry .child ∷ over (λ y. pages-under l y) (x .kid)
+pages-under (suc l) x = x .entry .child ∷ joined (λ y. pages-under l y) (x .kid)
 
 -- A whole tree: the level and number of the root page, and its entries.
 pub record Tree : Type 0 where

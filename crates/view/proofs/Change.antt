@@ -4,6 +4,7 @@ use Prim.Native.Nat.{ℕ, suc}
 use mathlib.Core.Path.{_≡_, ap, _∙_}
 use mathlib.Core.List.{List, _∷_, _++_, List·Memᴰ}
 use native.Mathlib.Omega.{arith}
+use Rattle.lists.proofs.Times.{times-cons, times-append}
 use Rattle.rule.specs.declared.Pair.{Pair}
 use Rattle.image.specs.Images.{Image}
 use Rattle.steps.specs.Supply.{counted}
@@ -15,7 +16,6 @@ use Rattle.tree.specs.Cut.{State}
 use Rattle.tree.specs.Held.{held}
 use Rattle.view.specs.View.{Shown, Once}
 use Rattle.view.specs.Change.{after-A, after-B, after-C, after-D, after-E, Passable}
-use Rattle.view.proofs.Lists.{times-cons, times-append}
 use Rattle.view.proofs.Stepped.{Stepped, steady-then, once-after, absent}
 use Rattle.view.proofs.Cut.{cut-is}
 use Rattle.view.proofs.Order.{spread-is}

@@ -2,12 +2,12 @@
 use Prim.Native.Nat.{ℕ, zero, suc, _≤_}
 use mathlib.Core.List.{List}
 use native.Mathlib.Omega.{arith}
+use Rattle.lists.specs.Lists.{All, all-none, all-more}
 use Rattle.rule.specs.declared.Pair.{Pair}
 use Rattle.tree.specs.Tree.{Ent, Kid}
 use Rattle.tree.specs.Cut.{State, root-ent}
 use Rattle.tree.specs.Shape.{Seg, done, more, Shaped, root-least, Formed}
 use Rattle.tree.proofs.Shapes.{formed-map}
-use Rattle.tree.specs.Held.{All, all-none, all-more}
 use Rattle.view.specs.View.{Stocked, Full, Ordered, Gapless}
 use Rattle.view.specs.Change.{after-A, after-B, after-C, after-D, Passable}
 

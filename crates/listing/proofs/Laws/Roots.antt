@@ -11,7 +11,7 @@ use Rattle.page.specs.declared.Head.{Head}
 use Rattle.fields.specs.Bytes.{patch}
 use Rattle.page.specs.Layout.{number-of, start-at, child-at, head-of, joined}
 use Rattle.page.specs.Fit.{Place, root-place, end-at, place-below, page-fit}
-use Rattle.fit.proofs.Laws.Heads.{head-fit-is}
+use Rattle.fit.proofs.Laws.Heads.{fit-ranges}
 use Rattle.fit.proofs.Laws.Pages.{page-fit-is}
 use Rattle.image.specs.Images.{page-at, pages-in}
 use Rattle.image.specs.Listing as image
@@ -89,8 +89,8 @@ pub over-few : {img : List ℕ} {h : Head} (a b : ℕ) → Opened img h → leng
 unfolding walk-over
 over-few {img} {h} a b o =
     let k = head-of (page-at 12 img 0) in
-    let r = head-fit-is 12 (pages-in 12 img) (page-at 12 img 0) .0 (o .fit) .ranges in
-    omega (arith, walk-few k img a b (k .height - 1) (root-place k) (k .root), most-few (k .height - 1) (omega (arith, r .height)))
+    let r = fit-ranges 12 (pages-in 12 img) (page-at 12 img 0) (o .fit) in
+    omega (arith, walk-few k img a b (k .height - 1) (root-place k) (k .root), most-few (k .height - 1) (omega (arith, r .height-most)))
 
 -- ---- the two passes
 

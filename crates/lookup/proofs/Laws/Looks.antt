@@ -17,7 +17,7 @@ use Rattle.page.specs.Fit.{Place, root-place, place-below, page-fit}
 use Rattle.fit.proofs.Laws.Pages.{PageFit, Paired, page-fit-is, entry-first}
 use Rattle.image.specs.Images.{page-at}
 use Rattle.image.specs.Instant.{Looked, stopped, leaf-answer, above, look, look-up}
-use Rattle.lookup.proofs.Laws.Finds.{place-within}
+use Rattle.page.proofs.Laws.Places.{place-within}
 use Rattle.lookup.proofs.Laws.Levels.{Found}
 use Rattle.lookup.proofs.Laws.Bounds.{Under, paired-above}
 

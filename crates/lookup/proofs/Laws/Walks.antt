@@ -21,7 +21,7 @@ use Rattle.lent.specs.Opened.{Within, Opened}
 use Rattle.lent.proofs.Laws.{opened-ranges, opened-within}
 use Rattle.lookup.specs.Levels.{Met}
 use Rattle.lookup.specs.Answers.{looked}
-use Rattle.lookup.proofs.Laws.Finds.{place-started}
+use Rattle.page.proofs.Laws.Places.{place-started}
 use Rattle.lookup.proofs.Laws.Levels.{Found, found-fit, found-in}
 use Rattle.lookup.proofs.Laws.Bounds.{Carried, carried-none, carried-below, carried-combinable}
 use Rattle.lookup.proofs.Laws.Looks.{Told, look-unfit, look-leaf, look-inner, look-told, under-below}
@@ -81,7 +81,7 @@ module _ {img : List ℕ} {h : Head} (o : Opened img h) where
       let r = opened-ranges o in
       record {
         way = root-way _ h r;
-        here = omega (arith, r .root, r .pages);
+        here = omega (arith, r .root-below, r .pages-is);
         begun = omega arith;
         carried = carried-none h (root-place h);
         answer = gone-none (lawful (h .kind)) _ (look-told 12 h img t _ _ _) ∙ ap (λ k. look 12 k img t (k .height - 1) (root-place k) (k .root)) (o .shown);
@@ -92,7 +92,7 @@ module _ {img : List ℕ} {h : Head} (o : Opened img h) where
     walk-within = opened-within o p (w .here)
 
     pub walk-met : Met at t
-    walk-met = record { begun = w .begun; bounded = way-bounded (w .way) (opened-ranges o .changes) }
+    walk-met = record { begun = w .begun; bounded = way-bounded (w .way) (opened-ranges o .changes-most) }
 
     pub walk-unfit : page-fit 12 h at (page-at 12 img p) ≡ false → looked (Unfit (n + 1)) ≡ look-up 12 img t
     walk-unfit e = sym (gone-stopped (combine (h .kind)) acc n) ∙ ap (gone (combine (h .kind)) acc n) (sym (look-unfit 12 h img t at p (at .level) e)) ∙ w .answer
@@ -102,7 +102,7 @@ module _ {img : List ℕ} {h : Head} (o : Opened img h) where
       walk-number = omega (arith, found-in f (omega arith), found-fit f .most)
 
       pub walk-combinable : Combinable acc pair
-      walk-combinable = rw (f .pairs) (carried-combinable (w .carried) (found-fit f .pairs i (found-in f (omega arith))) (opened-ranges o .changes))
+      walk-combinable = rw (f .pairs) (carried-combinable (w .carried) (found-fit f .pairs i (found-in f (omega arith))) (opened-ranges o .changes-most))
 
       pub walk-leaf : at .level ≡ 0 → looked (Answered (combine (h .kind) acc pair) (n + 1)) ≡ look-up 12 img t
       walk-leaf e =

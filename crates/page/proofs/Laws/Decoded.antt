@@ -9,7 +9,7 @@ use Rattle.page.specs.declared.Page.{Page}
 use Rattle.page.specs.Entries.{at, no-entry}
 use Rattle.page.specs.Layout.{capacity, number-of, listed, entry-at, entries-of}
 use Rattle.page.specs.Decoded.{shown-at, shown}
-use Rattle.page.proofs.Laws.Listed.{length-listed, getD-listed, listed-same}
+use Rattle.lists.proofs.Listed.{length-listed, getD-listed, listed-same}
 
 module _ (p : Page) where
   pub length-shown : length (shown p) ≡ p .number

@@ -10,7 +10,8 @@ use Rattle.fields.proofs.Laws.Parts.{patch-whole, patch-patch-next}
 use Rattle.fields.proofs.Laws.Places.{Field, u32}
 use Rattle.fields.proofs.Laws.Tests.{length-unused}
 use Rattle.page.specs.Layout.{joined}
-use Rattle.page.proofs.Laws.Joined.{joined-append, joined-one, length-joined}
+use Rattle.lists.proofs.Joined.{joined-append, joined-one}
+use Rattle.page.proofs.Laws.Joined.{length-joined}
 
 module _ (s : List ℕ) (o : ℕ) where
   -- the first number

@@ -8,13 +8,14 @@ use borrow.Author.Tests.{eqb-true}
 use Rattle.page.specs.Layout.{page-size, next-of}
 use Rattle.image.specs.Images.{page-at, pages-in, image-of}
 use Rattle.image.specs.Sound.{chain-pages}
+use Rattle.image.proofs.Sizes.{sized, page-length}
 use Rattle.image.proofs.Cells.{cell-free, cell-never, never-level}
 use Rattle.view.specs.View.{Linked, ends, leads, Supplied}
-use Rattle.audit.specs.Counting.{chain-ends}
-use Rattle.audit.proofs.Levels.{free-level-is, page-length}
-use Rattle.audit.proofs.Chain.{Link, link, pages-none, pages-more}
-use Rattle.audit.proofs.Sound.{the-head, Sound-facts}
-use Rattle.audit.proofs.Counting.{Counted, sound-counted}
+use Rattle.soundness.specs.Counting.{chain-ends}
+use Rattle.soundness.proofs.Levels.{free-level-is}
+use Rattle.soundness.proofs.Chain.{Link, link, pages-none, pages-more}
+use Rattle.soundness.proofs.Sound.{the-head, Sound-facts}
+use Rattle.soundness.proofs.Counting.{Counted, sound-counted}
 use Rattle.state.proofs.From.Load.{state-in}
 
 -- ---- the chain
@@ -48,5 +49,5 @@ sound-supplied half img f =
       unused =
           λ p l b.
           let k : p < pages-in half img = omega (arith, f .fit .head .pages-is) in
-          cell-never half (page-at half img p) (never-level (page-size half) (page-at half img p) (omega arith) (page-length half img (f .fit .whole) p k) (f .fit .never p l k));
+          cell-never half (page-at half img p) (never-level (page-size half) (page-at half img p) (omega arith) (page-length (sized half img (f .fit .whole)) p k) (f .fit .never p l k));
     }

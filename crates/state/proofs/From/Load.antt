@@ -10,7 +10,7 @@ use Rattle.page.proofs.Laws.Trees.{length-entries-of}
 use Rattle.image.specs.Images.{page-at}
 use Rattle.tree.specs.Tree.{Ent, Kid, Ents, bare, Tree}
 use Rattle.tree.specs.Cut.{State}
-use Rattle.audit.proofs.Sound.{the-head, the-chain}
+use Rattle.soundness.proofs.Sound.{the-head, the-chain}
 
 module _ (half : ℕ) (img : List ℕ) where
   -- what is below an entry of level l that leads to page p

@@ -5,6 +5,8 @@ use mathlib.Core.Bool.{true, cond, and-eq-true-iff}
 use mathlib.Core.List.{List}
 use native.Mathlib.Omega.{arith}
 use lib.ListN.{length, length-map}
+use Rattle.lists.proofs.All.{all-at}
+use Rattle.page.proofs.Laws.Places.{place-in}
 use Rattle.rule.specs.declared.Pair.{Pair}
 use Rattle.rule.specs.Pairs.{combine}
 use Rattle.page.specs.declared.Entry.{Entry}
@@ -20,13 +22,13 @@ use Rattle.image.specs.Instant.{Looked, stopped, leaf-answer, above, look, look
 use Rattle.tree.specs.Tree.{Ent, Kid, Ents, no-ent, bare, ent-of, pair-under, pair-in}
 use Rattle.tree.specs.Cut.{State, root-ent}
 use Rattle.view.specs.View.{Shows, Shown}
-use Rattle.view.proofs.Lists.{place-in, all-at}
 use Rattle.view.proofs.Ways.{at-bare}
-use Rattle.audit.proofs.Fitness.{Fit-facts}
-use Rattle.audit.proofs.Tree.{tree-parts}
-use Rattle.audit.proofs.Sound.{the-head, Sound-facts, sound-facts}
+use Rattle.fit.proofs.Laws.Pages.{PageFit}
+use Rattle.soundness.proofs.Tree.{tree-parts}
+use Rattle.soundness.proofs.Sound.{the-head, Sound-facts, sound-facts}
 use Rattle.state.proofs.From.Cells.{tree-top}
-use Rattle.state.proofs.From.Shape.{root-fewest, least-one}
+use Rattle.tree.proofs.Seg.{least-one}
+use Rattle.state.proofs.From.Shape.{root-fewest}
 
 -- an answer: all pages fit, the pair, and so many pages read
 abbrev pub answer : Pair → ℕ → Looked
@@ -46,7 +48,7 @@ module _ (half : ℕ) (h : Head) (img : List ℕ) (t : ℕ) where
     found : place t (bare es) < length es
 
   step : (l : ℕ) (at : Place) (x : Ent (Kid (suc l))) → at .level ≡ l → l < free-level → 1 ≤ fewest half at
-      → Fit-facts half h at (page-at half img (x .entry .child)) → Shows (suc l) (image-of half img .page) x → Step l (x .entry .child) (x .kid)
+      → PageFit half h at (page-at half img (x .entry .child)) → Shows (suc l) (image-of half img .page) x → Step l (x .entry .child) (x .kid)
   unfolding Shows image-of entries-in ent-of
   step l at x v small some f shown =
       let s : List ℕ = page-at half img (x .entry .child) in
@@ -54,7 +56,7 @@ module _ (half : ℕ) (h : Head) (img : List ℕ) (t : ℕ) where
       let es : entries-of half s ≡ bare (x .kid) = sym (ap entries-in (cell-tree half s (omega (arith, f .level)))) ∙ ap entries-in (shown .0) in
       let n : length (entries-of half s) ≡ number-of s = length-entries-of half s ∙ omega (arith, f .most) in
       let m : length (bare (x .kid)) ≡ length (x .kid) = length-map (x .kid) (λ y. y .entry) in
-      let c : i < length (entries-of half s) = place-in t (entries-of half s) (omega (arith, f .fewest)) in
+      let c : i < length (entries-of half s) = place-in t (entries-of half s) (omega (arith, f .least)) in
       record {
         inside = omega arith;
         same =

@@ -1,0 +1,118 @@
+-- How high a tree can grow: a level more takes so many pages that no image has them. Assumes nothing.
+use Prim.Native.Nat.{ℕ, zero, suc, _+_, _*_, _-_, _≤_, _<_}
+use mathlib.Core.Path.{_≡_, refl, _∙_}
+use mathlib.Core.Bool.{Bool, true, false}
+use mathlib.Core.List.{List, _++_}
+use native.Mathlib.Omega.{arith}
+use native.Mathlib.Nat.{mul-le-mul-left, mul-le-mul-right}
+use lib.Dec.{leb}
+use lib.ListN.{length, length-append}
+use borrow.Author.Tests.{leb-true, leb-false}
+use Rattle.lists.specs.Lists.{sum}
+use Rattle.lists.proofs.Totals.{from}
+use Rattle.image.specs.Sound.{times}
+use Rattle.lists.proofs.Times.{times-append, Within, short-of-once}
+use Rattle.tree.specs.Tree.{Ent, Kid, Tree}
+use Rattle.tree.specs.Cut.{State}
+use Rattle.tree.specs.Shape.{Asked, Seg, done, more, Shaped, Formed, root-least}
+use Rattle.tree.specs.Held.{times-spare, held}
+use Rattle.tree.specs.Counts.{pages-of, least-under}
+use Rattle.tree.proofs.Conservation.Weights.{under}
+use Rattle.tree.proofs.Conservation.Pages.{held-is, pages-number, Same-pages}
+
+-- m at the least of each
+seg-sum : {A : Type 0} {Q : Asked A} {lo hi : ℕ} {es : List (Ent A)} (m : ℕ) (f : Ent A → ℕ) → ((a b : ℕ) (x : Ent A) → Q a b x → m ≤ f x)
+    → Seg Q lo hi es → length es * m ≤ sum f es
+unfolding sum
+seg-sum m f h done = omega arith
+seg-sum m f h (more {lo} {mid} {x = x} e lt q r) = omega (arith, h lo mid x q, seg-sum m f h r)
+
+under-least : (half : ℕ) (B : Asked (Kid 0)) (l a b : ℕ) (x : Ent (Kid l)) → Shaped half B l a b x → least-under half l ≤ under (λ p. 1) l x
+unfolding least-under under Shaped
+under-least half B zero a b x q = omega arith
+under-least half B (suc l) a b x q =
+    omega (
+      arith,
+      mul-le-mul-right (least-under half l) (q .0 .least),
+      seg-sum (least-under half l) (λ y. under (λ p. 1) l y) (λ c d y. under-least half B l c d y) (q .1),
+    )
+
+pub pages-least : {half : ℕ} {B : Asked (Kid 0)} (T : Tree) → Formed half B T → suc (root-least (T .level) * least-under half (T .level)) ≤ length (pages-of T)
+pages-least {half} {B} T F =
+    let l = T .level in
+    omega (
+      arith,
+      pages-number T,
+      mul-le-mul-right (least-under half l) (F .least),
+      seg-sum (least-under half l) (λ x. under (λ p. 1) l x) (λ a b x. under-least half B l a b x) (F .spans),
+    )
+
+-- a level more has no fewer
+least-rises : (half l m : ℕ) → l ≤ m → least-under half l ≤ least-under half m
+unfolding least-under
+least-rises half zero m h = omega arith
+least-rises half (suc l) zero h = absurd (omega arith)
+least-rises half (suc l) (suc m) h = omega (arith, mul-le-mul-left half (least-rises half l m (omega arith)))
+
+inner-least : (half l : ℕ) → 0 < l → root-least l * least-under half l ≡ 2 * least-under half l
+unfolding root-least
+inner-least half zero h = absurd (omega arith)
+inner-least half (suc l) h = refl
+
+-- the pages of two entries of a root above level m
+pub level-most : {half : ℕ} {B : Asked (Kid 0)} (m : ℕ) (T : Tree) → Formed half B T → length (pages-of T) ≤ 2 * least-under half (suc m) → T .level ≤ m
+level-most {half} m T F h = go (leb (T .level) m) refl
+  where
+    go : (b : Bool) → leb (T .level) m ≡ b → T .level ≤ m
+    go true e = leb-true (T .level) m e
+    go false e =
+        let lt : m < T .level = leb-false (T .level) m e in
+        absurd (omega (arith, pages-least T F, least-rises half (suc m) (T .level) lt, inner-least half (T .level) (omega arith)))
+
+all-pages : State → List ℕ
+all-pages Y = pages-of (Y .tree) ++ Y .supply .chain
+
+held-all : (p : ℕ) (Y : State) → held p Y ≡ times p (all-pages Y) + from (Y .supply .mark) p
+unfolding all-pages times-spare
+held-all p Y = omega (arith, held-is p Y, times-append p (pages-of (Y .tree)) (Y .supply .chain))
+
+-- no page is held twice, and page 0 not at all: all pages of tree and chain lie below the high mark
+module _ (Y : State) (once : (p : ℕ) → held p Y ≤ 1) (head-apart : held 0 Y ≡ 0) where
+  all-within : Within (Y .supply .mark - 1) (all-pages Y)
+  all-within p h = (go p h, past (leb (Y .supply .mark) p) refl)
+    where
+      go : (p : ℕ) → 1 ≤ times p (all-pages Y) → 1 ≤ p
+      go zero h = absurd (omega (arith, held-all 0 Y))
+      go (suc p) h = omega arith
+
+      past : (b : Bool) → leb (Y .supply .mark) p ≡ b → p ≤ Y .supply .mark - 1
+      past true e = absurd (omega (arith, once p, rw e at (held-all p Y)))
+      past false e = omega (arith, leb-false (Y .supply .mark) p e)
+
+  pub pages-below-mark : length (pages-of (Y .tree)) + length (Y .supply .chain) ≤ Y .supply .mark - 1
+  unfolding all-pages
+  pages-below-mark =
+      omega (
+        arith,
+        length-append (pages-of (Y .tree)) (Y .supply .chain),
+        short-of-once (Y .supply .mark - 1) (all-pages Y) all-within (λ p. omega (arith, once p, held-all p Y)),
+      )
+
+pub level-once : {half : ℕ} {B : Asked (Kid 0)} (m : ℕ) (Y : State) → Formed half B (Y .tree) → ((p : ℕ) → held p Y ≤ 1) → held 0 Y ≡ 0
+    → Y .supply .mark ≤ suc (2 * least-under half (suc m)) → Y .tree .level ≤ m
+level-once m Y F once apart h = level-most m (Y .tree) F (omega (arith, pages-below-mark Y once apart))
+
+-- also after a step that keeps the pages
+pub level-same : {half : ℕ} {B : Asked (Kid 0)} (m : ℕ) (Y Z : State) → Same-pages Y Z → Formed half B (Z .tree) → ((p : ℕ) → held p Y ≤ 1) → held 0 Y ≡ 0
+    → Z .supply .mark ≤ suc (2 * least-under half (suc m)) → Z .tree .level ≤ m
+level-same m Y Z same F once apart = level-once m Z F (λ p. omega (arith, once p, same .same-held p)) (same .same-held 0 ∙ apart)
+
+-- with 12 entries at the least a root of level 4 has 3,770 pages below it: the height is 4 at the most
+module _ {B : Asked (Kid 0)} where
+  pub level-most-12 : (T : Tree) → Formed 12 B T → length (pages-of T) ≤ 1023 → T .level ≤ 3
+  unfolding least-under
+  level-most-12 T F h = level-most 3 T F (omega arith)
+
+  pub level-once-12 : (Y : State) → Formed 12 B (Y .tree) → ((p : ℕ) → held p Y ≤ 1) → held 0 Y ≡ 0 → Y .supply .mark ≤ 1024 → Y .tree .level ≤ 3
+  unfolding least-under
+  level-once-12 Y F once apart h = level-once 3 Y F once apart (omega arith)
