@@ -12,8 +12,8 @@ use Rattle.page.proofs.Laws.Places.{place-is}
 use Rattle.fit.proofs.Laws.Pages.{PageFit}
 use Rattle.fit.proofs.Laws.Spans.{bound, bound-next, bound-in, bound-rises}
 
-pub found-at : {half : ℕ} {h : Head} {at : Place} {s : List ℕ} → PageFit half h at s → (t i : ℕ) → i < number-of s → start-at s i ≤ t → t < end-at s (at .hi) i
-    → place t (entries-of half s) ≡ i
+pub found-at : {half : ℕ} {h : Head} {at : Place} {s : List ℕ} → PageFit half h at s → (t i : ℕ) → i < number-of s
+    → start-at s i ≤ t → t < end-at s (at .hi) i → place t (entries-of half s) ≡ i
 found-at {half} {at = at} {s} f t i l a b =
     place-is half s t (f .most) i l a
     (λ j x y.

@@ -42,12 +42,6 @@ module _ (p : Page) where
   unfolding shown firsts
   shown-firsts h = ap (λ n. firsts n p) h
 
-  pub shown-length : length (shown p) ≡ p .number
-  shown-length = rw (shown-firsts refl) (firsts-length (p .number))
-
-  pub shown-get : (i : ℕ) → i < p .number → at (shown p) i ≡ shown-at p i
-  shown-get i h = rw (shown-firsts refl) (firsts-at (p .number) no-entry i h)
-
 -- the page said to have n entries
 abbrev pub cut : ℕ → Page → Page
 cut n p =

@@ -8,7 +8,6 @@ use lib.Dec.{eqb}
 use Rattle.lists.specs.Lists.{joined}
 unfoldable pub use Rattle.lists.specs.Lists.{times, all-of}
 use Rattle.fields.specs.Bytes.{every}
-use Rattle.page.specs.declared.Entry.{Entry}
 use Rattle.page.specs.declared.Head.{Head}
 use Rattle.page.specs.Layout.{number-of, child-at, entries-of, next-of, free-ok, never-used-ok, head-of}
 use Rattle.page.specs.Fit.{Place, root-place, place-below, page-fit, head-fit}

@@ -1,6 +1,6 @@
 -- What a fit length and a fit head give. Assumes nothing.
-use Prim.Native.Nat.{ℕ, _+_, _*_, _≤_, _<_}
-use mathlib.Core.Path.{_≡_, refl, sym, ap, _∙_}
+use Prim.Native.Nat.{ℕ, _*_, _<_}
+use mathlib.Core.Path.{_≡_, refl}
 use mathlib.Core.Bool.{Bool, true, false, cond}
 use mathlib.Core.List.{List}
 use native.Mathlib.Omega.{arith}
@@ -12,7 +12,6 @@ use Rattle.page.specs.Fit.{head-fit}
 use Rattle.fit.proofs.Laws.Heads.{Ranges, fit-ranges}
 use Rattle.image.specs.Images.{page-at, pages-in, length-ok}
 use Rattle.image.proofs.Sizes.{sized}
-use Rattle.lent.specs.declared.Opening.{Opening}
 use Rattle.lent.specs.declared.Opening.the-variants.{Fit, Unfit}
 use Rattle.lent.specs.Opened.{Within, Opened, opening}
 

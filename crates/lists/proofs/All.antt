@@ -1,7 +1,7 @@
 -- What holds of each element of a list: of the one in a place, of an append and the parts, and with others in the place of some.
 -- Assumes nothing.
 use Prim.Native.Nat.{ℕ, zero, suc, _<_}
-use mathlib.Core.List.{List, [], _∷_, _++_, map}
+use mathlib.Core.List.{List, _∷_, _++_, map}
 use native.Mathlib.Omega.{arith}
 use lib.ListN.{length, take, drop, getD}
 use Rattle.lists.specs.Lists.{splice, All, all-none, all-more}

@@ -13,12 +13,12 @@ use Rattle.page.specs.Entries.{at as entry-in, place}
 use Rattle.page.specs.Layout.{capacity, number-of, start-at, entry-at, entries-of}
 use Rattle.page.specs.Fit.{Place, place-below, page-fit, most-height}
 use Rattle.page.proofs.Laws.Trees.{length-entries-of, at-entries-of}
-use Rattle.fit.proofs.Laws.Pages.{PageFit, page-fit-is, entry-first}
+use Rattle.fit.proofs.Laws.Pages.{PageFit, entry-first}
 use Rattle.image.specs.Images.{Image, entries-in, page-at, image-of}
 use Rattle.image.specs.Sound.{tree-fit}
 use Rattle.lent.specs.Opened.{Within}
 use Rattle.lent.proofs.Laws.{page-length}
-use Rattle.soundness.proofs.Tree.{tree-parts}
+use Rattle.soundness.proofs.Tree.{tree-parts, tree-top}
 use Rattle.lookup.specs.Levels.{Searched}
 use Rattle.page.proofs.Laws.Places.{place-within, place-started}
 use Rattle.lookup.proofs.Laws.Levels.{fit-searched}
@@ -32,15 +32,9 @@ use Rattle.needs.proofs.Counts.{settle-adds}
 
 -- ---- a page
 
-top-fit : (h : Head) (img : List ℕ) (l : ℕ) (at : Place) (p : ℕ) → tree-fit 12 h img l at p ≡ true
-    → page-fit 12 h at (page-at 12 img p) ≡ true
-unfolding tree-fit
-top-fit h img zero at p e = e
-top-fit h img (suc l) at p e = (simp and-eq-true-iff at e) .0
-
 module _ {img : List ℕ} {t l p : ℕ} (k : Fit-from img t l p) where
   page-is-fit : PageFit 12 (k .head) (k .at) (page-at 12 img p)
-  page-is-fit = page-fit-is 12 (k .head) (k .at) (page-at 12 img p) .0 (top-fit (k .head) img l (k .at) p (k .fit))
+  page-is-fit = tree-top 12 (k .head) img l (k .at) p (k .fit)
 
   pub within : Within img p
   within = omega (arith, k .size, k .inside)

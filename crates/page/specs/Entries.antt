@@ -1,9 +1,8 @@
 -- A page's entries as a list: finding the entry of an instant, and the edits that the steps make. Assumes nothing.
-use Prim.Native.Nat.{ℕ, zero, suc, _+_}
+use Prim.Native.Nat.{ℕ, suc, _+_}
 use mathlib.Core.Bool.{cond}
 use mathlib.Core.List.{List, [], _∷_, _++_, map}
-use lib.ListN.{length, getD, take, drop}
-use lib.IntN.{pos}
+use lib.ListN.{getD, take, drop}
 use lib.Dec.{leb}
 unfoldable pub use Rattle.lists.specs.Lists.{splice}
 use Rattle.rule.specs.declared.Pair.{Pair}

@@ -1,9 +1,8 @@
 -- Document 01, "The page": where the numbers of a page stand, over half the capacity of a page, which is 12. Assumes nothing.
-use Prim.Native.Nat.{ℕ, zero, suc, _+_, _*_, _-_, _/_, min}
-use mathlib.Core.Bool.{Bool, true, false, cond, _&&_}
+use Prim.Native.Nat.{ℕ, _+_, _*_, _-_, min}
+use mathlib.Core.Bool.{Bool, _&&_}
 use mathlib.Core.List.{List, [], _∷_, _++_}
-use lib.ListN.{length, take, drop}
-use lib.IntN.{ℤ}
+use lib.ListN.{length}
 use lib.Dec.{eqb}
 unfoldable pub use Rattle.lists.specs.Lists.{listed, joined}
 use Rattle.rule.specs.declared.Pair.{Pair}

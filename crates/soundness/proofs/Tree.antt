@@ -8,7 +8,6 @@ use Prim.Native.Nat.{ℕ, zero, suc, _+_, _-_, _≤_, _<_, min}
 use native.Mathlib.Omega.{arith}
 use native.Mathlib.Decide.{ℕ-discrete, decLe}
 use lib.ListN.{length}
-use lib.Dec.{eqb}
 use Rattle.fields.proofs.Laws.Tests.{every-all}
 use Rattle.page.specs.declared.Head.{Head}
 use Rattle.page.specs.Layout.{capacity, level-of, number-of, start-at, child-at, entry-at, entries-of, listed, joined}
@@ -45,6 +44,17 @@ unfolding tree-fit
 tree-parts half h img l at q t =
     let k = simp and-eq-true-iff at t in
     (page-fit-is half h at (page-at half img q) .0 (k .0), every-all _ _ (k .1))
+
+-- the page itself
+pub top-fit : (half : ℕ) (h : Head) (img : List ℕ) (l : ℕ) (at : Place) (q : ℕ) → tree-fit half h img l at q ≡ true
+    → page-fit half h at (page-at half img q) ≡ true
+unfolding tree-fit
+top-fit half h img zero at q t = t
+top-fit half h img (suc l) at q t = (simp and-eq-true-iff at t) .0
+
+pub tree-top : (half : ℕ) (h : Head) (img : List ℕ) (l : ℕ) (at : Place) (q : ℕ) → tree-fit half h img l at q ≡ true
+    → PageFit half h at (page-at half img q)
+tree-top half h img l at q t = page-fit-is half h at (page-at half img q) .0 (top-fit half h img l at q t)
 
 module _ (half : ℕ) (img : List ℕ) (l q : ℕ) (m : number-of (page-at half img q) ≤ capacity half) where
   tree-more : tree-pages half img (suc l) q
@@ -209,7 +219,7 @@ module _ (half : ℕ) (h : Head) (img : List ℕ) where
       let k = tree-parts half h img l at q t in
       let s : List ℕ = page-at half img q in
       let looks : ℕ → List Visit = λ i. visits half h img every-entry l (place-below half s at i) (child-at half s i) in
-      let fits : page-fit half h at s ≡ true = (simp and-eq-true-iff at t) .0 in
+      let fits = top-fit half h img (suc l) at q t in
       ap
       (λ c.
       cond c (q ∷ found-fit half h img (cond c (each-in-turn (number-of s) looks) []))

@@ -14,7 +14,7 @@ use Rattle.steps.specs.Supply.{entries, put}
 use Rattle.steps.specs.Spread.{Spreading, start-of, spread-entries}
 use Rattle.edit.specs.Shows.{Shows}
 use Rattle.edit.proofs.Edits.{shows-number, shows-as, shows-then}
-use Rattle.edit.proofs.Places.{shown-length}
+use Rattle.page.proofs.Laws.Decoded.{length-shown}
 use Rattle.store.specs.Holding.{Holds, Some, Each, Within, Loaded}
 use Rattle.store.proofs.Holding.{holds-length}
 use Rattle.spread.specs.declared.Task.{Task}
@@ -148,7 +148,7 @@ replaced-number : (page : Page) (y : Entry) {page′ : Page} {l i : ℕ} → i <
     → page′ .number ≡ page .number
 unfolding splice
 replaced-number page y {i = i} l s =
-    shows-number s ∙ simp (length-append, length-take, length-drop, shown-length page) (omega arith)
+    shows-number s ∙ simp (length-append, length-take, length-drop, length-shown page) (omega arith)
 
 module _ (q : Task) (level hi p : ℕ) where
   -- After i entries of the page: so it goes for every image that the bytes held.

@@ -83,8 +83,13 @@ pub seg-all : {A : Type 0} {Q : Asked A} {R : Ent A → Type 0} {lo hi : ℕ} {e
 seg-all f done = all-none
 seg-all f (more {lo} {mid} {x = x} e lt q r) = all-more (f lo mid x q) (seg-all f r)
 
--- a root has an entry
+-- a root has an entry, and need not have three
 pub least-one : (l : ℕ) → 1 ≤ root-least l
 unfolding root-least
 least-one zero = omega arith
 least-one (suc l) = omega arith
+
+pub least-two : (l : ℕ) → root-least l ≤ 2
+unfolding root-least
+least-two zero = omega arith
+least-two (suc l) = omega arith

@@ -1,6 +1,6 @@
 -- Numbers of a tree and of its supply: its pages, the pages taken, and how many pages there are at the least. Assumes nothing.
-use Prim.Native.Nat.{ℕ, zero, suc, _+_, _*_, _≤_}
-use mathlib.Core.List.{List, [], _∷_}
+use Prim.Native.Nat.{ℕ, zero, suc, _*_, _≤_}
+use mathlib.Core.List.{List, _∷_}
 use lib.ListN.{length}
 use Rattle.lists.specs.Lists.{joined, All}
 use Rattle.tree.specs.Tree.{Ents, Tree, pages-under}

@@ -1,10 +1,9 @@
 -- Pages taken one after the other: which they are, how many, and what is left. Assumes nothing.
-use Prim.Native.Nat.{ℕ, zero, suc, _+_, _≤_}
+use Prim.Native.Nat.{ℕ, zero, suc, _+_}
 use mathlib.Core.Path.{_≡_, refl, ap, _∙_}
 use mathlib.Core.List.{List, [], _∷_}
 use native.Mathlib.Omega.{arith}
 use native.Mathlib.Nat.{zero-add, suc-add}
-use lib.ListN.{length}
 use Rattle.lists.specs.Lists.{hit}
 use Rattle.lists.proofs.Times.{times-cons, times-none}
 use Rattle.image.specs.Images.{Image}
@@ -13,7 +12,7 @@ use Rattle.steps.specs.Supply.{taken, spares, pages-taken}
 use Rattle.tree.specs.Supply.{Supply, next-page, without-next}
 use Rattle.tree.specs.Held.{times-spare}
 use Rattle.tree.specs.Counts.{later}
-use Rattle.tree.proofs.Conservation.Supply.{later-more, later-add, later-mark, later-length}
+use Rattle.tree.proofs.Conservation.Supply.{later-add, later-mark, later-length}
 use Rattle.view.specs.View.{Supplied}
 use Rattle.view.proofs.Moves.{spare-next, spare-is, taken-supplied}
 

@@ -6,7 +6,6 @@ use mathlib.Core.List.{List, [], _∷_, _++_}
 use native.Mathlib.Omega.{arith}
 use lib.Dec.{eqb, ltb}
 use lib.ListN.{length, take, drop, length-map}
-use borrow.Author.Tests.{ne-eqb}
 use Rattle.lists.specs.Lists.{All, all-none, all-more, hit}
 use Rattle.lists.proofs.Choices.{cond-both}
 use Rattle.lists.proofs.Edits.{map-append, map-take, map-drop, map-splice, splice-two, only-first}

@@ -20,7 +20,6 @@ use Rattle.steps.specs.Supply.{entries}
 use Rattle.steps.specs.Change.{way-from, way}
 use Rattle.tree.specs.Cut.{State, root-ent}
 use Rattle.tree.specs.Tree.{Ent, Kid, Ents, no-ent, bare, pages-under}
-use Rattle.tree.specs.Shape.{root-least}
 use Rattle.tree.proofs.Seg.{least-one}
 use Rattle.tree.proofs.Find.{place-inside}
 use Rattle.view.specs.View.{Shows, Shown, Stocked, Full}

@@ -20,7 +20,7 @@ use Rattle.lists.proofs.Totals.{total-ones}
 use Rattle.lists.proofs.Joined.{joined-length}
 use Rattle.soundness.proofs.Sound.{the-head, sound-facts}
 use Rattle.soundness.proofs.Counting.{sound-counted}
-use Rattle.answers.proofs.Few.{turn-le, picked-le, length-under, join-few}
+use Rattle.image.proofs.Runs.{turn-le, picked-le, length-under, join-few}
 
 sum-le : (n : ℕ) (f g : ℕ → ℕ) (k m : ℕ) → ((i : ℕ) → k * f i ≤ m * g i) → k * total n f ≤ m * total n g
 unfolding total

@@ -2,7 +2,7 @@
 use mathlib.Core.Path.{_≡_, refl, sym, ap, _∙_}
 use mathlib.Core.Bool.{Bool, true, false, cond}
 use mathlib.Core.List.{List}
-use Prim.Native.Nat.{ℕ, suc, _+_, _*_, _-_, _≤_, _<_}
+use Prim.Native.Nat.{ℕ, suc, _+_, _-_, _≤_, _<_}
 use native.Mathlib.Omega.{arith}
 use Rattle.rule.specs.declared.Pair.{Pair}
 use Rattle.rule.specs.Pairs.{none, combine, Lawful}
@@ -12,7 +12,7 @@ use Rattle.page.specs.declared.Head.{Head}
 use Rattle.page.specs.Layout.{number-of}
 use Rattle.page.specs.Fit.{Place, root-place, place-below, page-fit}
 use Rattle.fit.proofs.Laws.Ways.{Way, root-way, way-bounded, below-way}
-use Rattle.image.specs.Images.{page-at, pages-in}
+use Rattle.image.specs.Images.{page-at}
 use Rattle.image.specs.Instant as image
 use Rattle.image.specs.Instant.{stopped, leaf-answer, above, look, look-up}
 use Rattle.lookup.specs.declared.Looked.{Looked}
@@ -24,7 +24,7 @@ use Rattle.lookup.specs.Answers.{looked}
 use Rattle.page.proofs.Laws.Places.{place-started}
 use Rattle.lookup.proofs.Laws.Levels.{Found, found-fit, found-in}
 use Rattle.lookup.proofs.Laws.Bounds.{Carried, carried-none, carried-below, carried-combinable}
-use Rattle.lookup.proofs.Laws.Looks.{Told, look-unfit, look-leaf, look-inner, look-told, under-below}
+use Rattle.lookup.proofs.Laws.Looks.{look-unfit, look-leaf, look-inner, look-none, under-below}
 
 -- ---- the answer below, seen from the root
 
@@ -33,13 +33,13 @@ unfoldable pub gone : (Pair → Pair → Pair) → Pair → ℕ → image.Looked
 gone comb acc n w = record { fit = w .fit; pair = cond (w .fit) (comb acc (w .pair)) none; pages = n + w .pages }
 
 module _ {comb : Pair → Pair → Pair} (laws : Lawful comb) where
-  gone-none : {l : ℕ} (w : image.Looked) → Told l w → gone comb none 0 w ≡ w
+  gone-none : (w : image.Looked) → (w .fit ≡ false → w .pair ≡ none) → gone comb none 0 w ≡ w
   unfolding gone
   gone-none w a = λ j. record { fit = w .fit; pair = go (w .fit) refl j; pages = e j }
     where
       go : (b : Bool) → w .fit ≡ b → cond b (comb none (w .pair)) none ≡ w .pair
       go true f = laws .unit (w .pair)
-      go false f = sym (a .unfit f)
+      go false f = sym (a f)
 
       e : 0 + w .pages ≡ w .pages
       e = omega arith
@@ -84,7 +84,7 @@ module _ {img : List ℕ} {h : Head} (o : Opened img h) where
         here = omega (arith, r .root-below, r .pages-is);
         begun = omega arith;
         carried = carried-none h (root-place h);
-        answer = gone-none (lawful (h .kind)) _ (look-told 12 h img t _ _ _) ∙ ap (λ k. look 12 k img t (k .height - 1) (root-place k) (k .root)) (o .shown);
+        answer = gone-none (lawful (h .kind)) _ (look-none 12 h img t _ _ _) ∙ ap (λ k. look 12 k img t (k .height - 1) (root-place k) (k .root)) (o .shown);
       }
 
   module _ {t : ℕ} {at : Place} {p : ℕ} {acc : Pair} {n : ℕ} (w : Walk img h t at p acc n) where

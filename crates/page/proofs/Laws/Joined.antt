@@ -1,7 +1,7 @@
 -- The laws of `joined`, the bytes of a list's elements one after the other, and of a run of places of k bytes each, of which the first
 -- hold a list's elements and the others are unused: both arrays of a tree page are such runs. Assumes nothing.
-use mathlib.Core.Path.{_≡_, refl, sym, ap, _∙_}
-use mathlib.Core.List.{List, [], _∷_, _++_, append-assoc, append-nil}
+use mathlib.Core.Path.{_≡_, sym, ap, _∙_}
+use mathlib.Core.List.{List, [], _∷_, _++_, append-assoc}
 use Prim.Native.Nat.{ℕ, zero, suc, _+_, _-_, _*_, _≤_, _<_}
 use native.Mathlib.Nat.{mul-zero, mul-suc, mul-add, add-comm, add-zero, sub-zero, add-sub-of-le}
 use native.Mathlib.Numerals.{add-one}

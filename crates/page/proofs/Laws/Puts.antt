@@ -7,7 +7,7 @@ use lib.ListN.{length, length-append}
 use Rattle.fields.specs.Bytes.{patch, unused}
 use Rattle.fields.specs.Numbers.{u32-bytes}
 use Rattle.fields.proofs.Laws.Parts.{patch-whole, patch-patch-next}
-use Rattle.fields.proofs.Laws.Places.{Field, u32}
+use Rattle.fields.proofs.Laws.Places.{u32}
 use Rattle.fields.proofs.Laws.Tests.{length-unused}
 use Rattle.page.specs.Layout.{joined}
 use Rattle.lists.proofs.Joined.{joined-append, joined-one}

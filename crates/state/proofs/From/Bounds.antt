@@ -1,30 +1,26 @@
 -- The pairs on every way of the tree that is loaded keep their bounds. Assumes nothing.
 use Prim.Native.Nat.{ℕ, zero, suc, _+_, _-_, _*_, _≤_, _<_}
 use mathlib.Core.Path.{_≡_, refl}
-use mathlib.Core.Bool.{true, false, and-eq-true-iff}
+use mathlib.Core.Bool.{true, false}
 use mathlib.Core.List.{List}
 use native.Mathlib.Omega.{arith}
 use lib.Dec.{eqb}
 use lib.IntN.{natAbs}
-use borrow.Author.Tests.{leb-true}
 use Rattle.lists.specs.Lists.{All}
 use Rattle.rule.specs.declared.Pair.{Pair}
 use Rattle.rule.specs.Time.{most-value}
-use Rattle.rule.specs.Bounds.{value-or-none}
-use Rattle.fields.proofs.Laws.Tests.{every-all}
 use Rattle.page.specs.declared.Head.{Head}
 use Rattle.page.specs.Layout.{number-of, pair-at, child-at, entry-at}
-use Rattle.page.specs.Fit.{Place, root-place, place-below, pair-ok, pairs-ok}
+use Rattle.page.specs.Fit.{Place, root-place, place-below}
 use Rattle.image.specs.Images.{page-at}
 use Rattle.image.specs.Sound.{tree-fit}
 use Rattle.tree.specs.Held.{Within}
 use Rattle.fit.proofs.Laws.Pages.{PageFit, Paired}
-use Rattle.soundness.proofs.Tree.{tree-parts}
+use Rattle.soundness.proofs.Tree.{tree-parts, tree-top}
 use Rattle.soundness.proofs.Sound.{the-head, Fit-image}
 use Rattle.state.specs.Good.{Any, Value-or-none, Bounds}
 use Rattle.state.proofs.From.Listed.{all-listed}
 use Rattle.state.proofs.From.Load.{loaded, load, load-listed, tree-in}
-use Rattle.state.proofs.From.Cells.{tree-top}
 
 -- What the tests of a page's pairs say of a measure: acc is what the pairs above the page add to.
 record Measured (half : ℕ) (h : Head) (norm : Pair → ℕ) (Each : Pair → Type 0) (most : ℕ) (acc : Place → ℕ) : Type 0 where

@@ -29,10 +29,9 @@ use Rattle.lists.proofs.Totals.{total-some, hit-other}
 use Rattle.lists.proofs.Times.{times-none, times-other}
 use Rattle.fit.proofs.Laws.Pages.{PageFit}
 use Rattle.soundness.proofs.Levels.{free-level-is}
-use Rattle.soundness.proofs.Tree.{tree-parts, tree-times}
+use Rattle.soundness.proofs.Tree.{tree-parts, tree-times, tree-top}
 use Rattle.soundness.proofs.Sound.{the-head, the-tree, Sound-facts, sound-facts}
 use Rattle.soundness.proofs.Used.{tree-level}
-use Rattle.state.proofs.From.Cells.{tree-top}
 
 -- ---- a page of the tree is fit at some place
 

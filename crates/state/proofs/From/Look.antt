@@ -1,7 +1,7 @@
 -- What an instant call finds in a sound image is the pair of the tree that it shows. Assumes nothing.
 use Prim.Native.Nat.{ℕ, zero, suc, _-_, _≤_, _<_}
 use mathlib.Core.Path.{_≡_, sym, ap, _∙_}
-use mathlib.Core.Bool.{true, cond, and-eq-true-iff}
+use mathlib.Core.Bool.{true, cond}
 use mathlib.Core.List.{List}
 use native.Mathlib.Omega.{arith}
 use lib.ListN.{length, length-map}
@@ -13,7 +13,7 @@ use Rattle.page.specs.declared.Entry.{Entry}
 use Rattle.page.specs.declared.Head.{Head}
 use Rattle.page.specs.Entries.{at as entry-in, place}
 use Rattle.page.specs.Layout.{number-of, pair-at, child-at, entry-at, entries-of, free-level}
-use Rattle.page.specs.Fit.{Place, root-place, place-below, fewest, page-fit, head-fit}
+use Rattle.page.specs.Fit.{Place, root-place, place-below, fewest, head-fit}
 use Rattle.page.proofs.Laws.Trees.{length-entries-of, at-entries-of}
 use Rattle.image.specs.Images.{entries-in, page-at, pages-in, image-of}
 use Rattle.image.specs.Sound.{tree-fit, sound}
@@ -24,9 +24,8 @@ use Rattle.tree.specs.Cut.{State, root-ent}
 use Rattle.view.specs.View.{Shows, Shown}
 use Rattle.view.proofs.Ways.{at-bare}
 use Rattle.fit.proofs.Laws.Pages.{PageFit}
-use Rattle.soundness.proofs.Tree.{tree-parts}
+use Rattle.soundness.proofs.Tree.{tree-parts, tree-top, top-fit}
 use Rattle.soundness.proofs.Sound.{the-head, Sound-facts, sound-facts}
-use Rattle.state.proofs.From.Cells.{tree-top}
 use Rattle.tree.proofs.Seg.{least-one}
 use Rattle.state.proofs.From.Shape.{root-fewest}
 
@@ -36,11 +35,6 @@ answer pair pages = record { fit = true; pair = pair; pages = pages }
 
 module _ (half : ℕ) (h : Head) (img : List ℕ) (t : ℕ) where
   -- the page is fit at its place
-  fit-top : (l : ℕ) (at : Place) (p : ℕ) → tree-fit half h img l at p ≡ true → page-fit half h at (page-at half img p) ≡ true
-  unfolding tree-fit
-  fit-top zero at p e = e
-  fit-top (suc l) at p e = (simp and-eq-true-iff at e) .0
-
   -- the entry found on a page is the tree's
   record Step (l : ℕ) (p : ℕ) (es : Ents l) : Type 0 where
     inside : place t (entries-of half (page-at half img p)) < number-of (page-at half img p)
@@ -81,7 +75,7 @@ module _ (half : ℕ) (h : Head) (img : List ℕ) (t : ℕ) where
     look-shown zero at x v small n e shown =
         let s : List ℕ = page-at half img (x .entry .child) in
         let k = step zero at x v small n (tree-top half h img zero at (x .entry .child) e) shown in
-        ap (λ c. cond c (leaf-answer (pair-at half s (place t (entries-of half s)))) stopped) (fit-top zero at (x .entry .child) e)
+        ap (λ c. cond c (leaf-answer (pair-at half s (place t (entries-of half s)))) stopped) (top-fit half h img zero at (x .entry .child) e)
         ∙ ap (λ (y : Entry). answer (y .pair) 1) (k .same)
     look-shown (suc l) at x v small n e shown =
         let s : List ℕ = page-at half img (x .entry .child) in
@@ -94,7 +88,7 @@ module _ (half : ℕ) (h : Head) (img : List ℕ) (t : ℕ) where
         let rest : look half h img t l d (child-at half s i) ≡ answer (pair-in (combine (h .kind)) l t (y .kid)) (suc l) =
         ap (look half h img t l d) c
         ∙ look-shown l d y (omega arith) (omega arith) some (rw c at (f .1 i (k .inside))) (deeper (suc l) x (k .found) shown) in
-        ap (λ q. cond q (above (combine (h .kind)) (pair-at half s i) (look half h img t l d (child-at half s i))) stopped) (fit-top (suc l) at (x .entry .child) e)
+        ap (λ q. cond q (above (combine (h .kind)) (pair-at half s i) (look half h img t l d (child-at half s i))) stopped) (top-fit half h img (suc l) at (x .entry .child) e)
         ∙ ap (above (combine (h .kind)) (pair-at half s i)) rest
         ∙ ap (λ (z : Entry). answer (combine (h .kind) (z .pair) (pair-in (combine (h .kind)) l t (y .kid))) (suc (suc l))) (k .same)
 

@@ -4,7 +4,7 @@ use mathlib.Core.Path.{_≡_, refl, sym, ap, _∙_}
 use mathlib.Core.Bool.{true, cond}
 use mathlib.Core.List.{List}
 use native.Mathlib.Omega.{arith}
-use borrow.Author.Tests.{eqb-true, eq-eqb, ne-eqb}
+use borrow.Author.Tests.{eq-eqb, ne-eqb}
 use Rattle.page.specs.declared.Head.{Head}
 use Rattle.page.specs.Layout.{number-of, start-at, child-at, entry-at}
 use Rattle.page.specs.Fit.{Place, root-place, place-below, end-at, fewest}
@@ -15,11 +15,10 @@ use Rattle.tree.specs.Shape.{Asked, Seg, Filled, Shaped, Leaf, Formed, root-lea
 use Rattle.tree.proofs.Seg.{least-one}
 use Rattle.fit.proofs.Laws.Pages.{PageFit}
 use Rattle.fit.proofs.Laws.Spans.{bound, bound-next, bound-in, bound-past, bound-rises}
-use Rattle.soundness.proofs.Tree.{tree-parts}
+use Rattle.soundness.proofs.Tree.{tree-parts, tree-top}
 use Rattle.soundness.proofs.Sound.{the-head, Fit-image}
 use Rattle.state.proofs.From.Listed.{seg-listed}
 use Rattle.state.proofs.From.Load.{loaded, load, load-listed, load-length, tree-in}
-use Rattle.state.proofs.From.Cells.{tree-top}
 
 -- ---- how many entries
 

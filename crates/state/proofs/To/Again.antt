@@ -4,14 +4,13 @@ use mathlib.Core.Path.{_≡_, refl, ap, _∙_}
 use mathlib.Core.List.{List, _∷_}
 use native.Mathlib.Omega.{arith}
 use lib.ListN.{length}
-use Rattle.lists.specs.Lists.{All, all-none, all-more}
+use Rattle.lists.specs.Lists.{All}
 use Rattle.page.specs.declared.Head.{Head}
 use Rattle.page.specs.Layout.{next-of}
 use Rattle.page.proofs.Laws.Frees.{next-of-free}
 use Rattle.image.specs.Images.{Cell, page-at, cell-bytes}
 use Rattle.image.specs.Sound.{times, chain-pages}
 use Rattle.tree.specs.Tree.{Ent, Kid, Ents}
-use Rattle.tree.specs.Shape.{Asked, Seg, done, more}
 use Rattle.tree.proofs.Seg.{seg-all}
 use Rattle.view.specs.View.{Shows, Linked, ends, leads}
 use Rattle.lists.proofs.Times.{times-same, times-cons}

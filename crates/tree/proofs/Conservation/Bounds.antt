@@ -16,7 +16,7 @@ use Rattle.page.specs.declared.Entry.{Entry}
 use Rattle.page.specs.Entries.{entry, at, place}
 use Rattle.steps.specs.Spread.{inside, meets, start-of, took}
 use Rattle.steps.specs.Heal.{heals, neighbour, left-of}
-use Rattle.tree.specs.Tree.{Ent, Kid, Ents, no-ent, bare, ent-of, pair-under, pair-in, Tree}
+use Rattle.tree.specs.Tree.{Ent, Kid, Ents, no-ent, bare, Tree}
 use Rattle.tree.specs.Supply.{Supply}
 use Rattle.tree.specs.Cut.{cut-leaf, kept, split, cut-ent, State, root-ent, grown, cut}
 use Rattle.tree.specs.Spread.{with-ends, spread-ent, spread-ents, spread}
@@ -52,26 +52,6 @@ module _ {_⊕_ : Pair → Pair → Pair} {norm : Pair → ℕ} {Each : Pair →
   unfolding Within
   none-within zero above h = (bounded .each-none, omega (arith, bounded .norm-none))
   none-within (suc l) above h = (bounded .each-none, omega (arith, bounded .norm-none), all-none)
-
-  -- ---- an instant's pair
-  under-within : (l above t : ℕ) (x : Ent (Kid l)) → Within norm Each most l above x → Each (pair-under _⊕_ l t x) × (above + norm (pair-under _⊕_ l t x) ≤ most)
-  unfolding pair-under ent-of Within
-  under-within zero above t x q = q
-  under-within (suc l) above t x q =
-      let p = x .entry .pair in
-      let here = above + norm p in
-      let i = place t (bare (x .kid)) in
-      let y = getD (x .kid) i (no-ent l) in
-      let r = under-within l here t y (all-getD i (q .2) (none-within l here (q .1))) in
-      (bounded .each-sum p (pair-under _⊕_ l t y) (q .0) (r .0), omega (arith, bounded .norm-sum p (pair-under _⊕_ l t y), r .1))
-
-  pub pair-within : (T : Tree) (t : ℕ) → Within-tree norm Each most T → Each (pair-in _⊕_ (T .level) t (T .ents)) × (norm (pair-in _⊕_ (T .level) t (T .ents)) ≤ most)
-  unfolding pair-in ent-of
-  pair-within T t a =
-      let l = T .level in
-      let i = place t (bare (T .ents)) in
-      let r = under-within l 0 t (getD (T .ents) i (no-ent l)) (all-getD i a (none-within l 0 (omega arith))) in
-      (r .0, omega (arith, r .1))
 
   -- ---- the cut
   module _ (half t : ℕ) where

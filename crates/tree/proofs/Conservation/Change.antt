@@ -1,7 +1,6 @@
 -- The five steps together: the pages are the same, those taken are known, and the bound of the pairs rises by the effect's measure.
 -- Assumes nothing.
 use Prim.Native.Nat.{ℕ, _+_, _≤_}
-use mathlib.Core.Path.{_≡_, _∙_}
 use Rattle.rule.specs.declared.Pair.{Pair}
 use Rattle.rule.specs.Pairs.{Lawful}
 use Rattle.tree.specs.Tree.{Kid}
@@ -17,19 +16,10 @@ use Rattle.tree.proofs.Spread.{spread-formed}
 use Rattle.tree.proofs.Heal.{heal-formed}
 use Rattle.tree.proofs.Change.{cuts-formed}
 use Rattle.tree.proofs.Conservation.Pages.{Same-pages, same-trans, cut-pages, spread-pages, heal-pages}
-use Rattle.tree.proofs.Conservation.Taken.{Taken, taken-both, cut-takes}
-use Rattle.tree.proofs.Conservation.Given.{heal-gives}
 use Rattle.tree.proofs.Conservation.Bounds.{Within-tree, cut-within, spread-within, heal-within}
 
 module _ {half : ℕ} (two : 2 ≤ half) {B : Asked (Kid 0)} (cutting : Cuttable B) (any : Pairless B) (joins : Joinable B) {_⊕_ : Pair → Pair → Pair} (lawful : Lawful _⊕_)
     (s e : ℕ) (Y : State) (F : Formed half B (Y .tree)) where
-  pub cuts-takes : (k : ℕ) × Taken k Y (cuts half s e Y)
-  unfolding cuts
-  cuts-takes =
-      let (j, a) = cut-takes half two s Y F in
-      let (k, b) = cut-takes half two e (cut half s Y) (cut-formed two cutting lawful s Y F) in
-      (j + k, taken-both Y (cut half s Y) (cuts half s e Y) a b)
-
   pub cuts-pages : Same-pages Y (cuts half s e Y)
   unfolding cuts
   cuts-pages =
@@ -56,13 +46,6 @@ module _ {half : ℕ} (two : 2 ≤ half) {B : Asked (Kid 0)} (cutting : Cuttable
         (same-trans (cuts half s e Y) combined (change half _⊕_ s e effect Y) (spread-pages _⊕_ s e effect (cuts half s e Y))
         (same-trans combined healed (change half _⊕_ s e effect Y) (heal-pages half two s combined combined-formed _⊕_)
         (heal-pages half two e healed healed-formed _⊕_)))
-
-    -- the high mark is where the cuts left it
-    pub change-mark : change half _⊕_ s e effect Y .supply .mark ≡ cuts half s e Y .supply .mark
-    unfolding change spread
-    change-mark =
-        heal-gives half two _⊕_ e (heal half _⊕_ s combined) healed-formed .mark
-        ∙ heal-gives half two _⊕_ s combined combined-formed .mark
 
 module _ {_⊕_ : Pair → Pair → Pair} {norm : Pair → ℕ} {Each : Pair → Type 0} (bounded : Bounded _⊕_ norm Each) (most half s e : ℕ) (Y : State)
     (a : Within-tree norm Each most (Y .tree)) where

@@ -1,6 +1,6 @@
 -- How high a tree can grow: a level more takes so many pages that no image has them. Assumes nothing.
 use Prim.Native.Nat.{ℕ, zero, suc, _+_, _*_, _-_, _≤_, _<_}
-use mathlib.Core.Path.{_≡_, refl, _∙_}
+use mathlib.Core.Path.{_≡_, refl}
 use mathlib.Core.Bool.{Bool, true, false}
 use mathlib.Core.List.{List, _++_}
 use native.Mathlib.Omega.{arith}
@@ -18,7 +18,7 @@ use Rattle.tree.specs.Shape.{Asked, Seg, done, more, Shaped, Formed, roo
 use Rattle.tree.specs.Held.{times-spare, held}
 use Rattle.tree.specs.Counts.{pages-of, least-under}
 use Rattle.tree.proofs.Conservation.Weights.{under}
-use Rattle.tree.proofs.Conservation.Pages.{held-is, pages-number, Same-pages}
+use Rattle.tree.proofs.Conservation.Pages.{held-is, pages-number}
 
 -- m at the least of each
 seg-sum : {A : Type 0} {Q : Asked A} {lo hi : ℕ} {es : List (Ent A)} (m : ℕ) (f : Ent A → ℕ) → ((a b : ℕ) (x : Ent A) → Q a b x → m ≤ f x)
@@ -102,17 +102,8 @@ pub level-once : {half : ℕ} {B : Asked (Kid 0)} (m : ℕ) (Y : State) → Form
     → Y .supply .mark ≤ suc (2 * least-under half (suc m)) → Y .tree .level ≤ m
 level-once m Y F once apart h = level-most m (Y .tree) F (omega (arith, pages-below-mark Y once apart))
 
--- also after a step that keeps the pages
-pub level-same : {half : ℕ} {B : Asked (Kid 0)} (m : ℕ) (Y Z : State) → Same-pages Y Z → Formed half B (Z .tree) → ((p : ℕ) → held p Y ≤ 1) → held 0 Y ≡ 0
-    → Z .supply .mark ≤ suc (2 * least-under half (suc m)) → Z .tree .level ≤ m
-level-same m Y Z same F once apart = level-once m Z F (λ p. omega (arith, once p, same .same-held p)) (same .same-held 0 ∙ apart)
-
 -- with 12 entries at the least a root of level 4 has 3,770 pages below it: the height is 4 at the most
-module _ {B : Asked (Kid 0)} where
-  pub level-most-12 : (T : Tree) → Formed 12 B T → length (pages-of T) ≤ 1023 → T .level ≤ 3
-  unfolding least-under
-  level-most-12 T F h = level-most 3 T F (omega arith)
-
-  pub level-once-12 : (Y : State) → Formed 12 B (Y .tree) → ((p : ℕ) → held p Y ≤ 1) → held 0 Y ≡ 0 → Y .supply .mark ≤ 1024 → Y .tree .level ≤ 3
-  unfolding least-under
-  level-once-12 Y F once apart h = level-once 3 Y F once apart (omega arith)
+pub level-once-12 : {B : Asked (Kid 0)} (Y : State) → Formed 12 B (Y .tree) → ((p : ℕ) → held p Y ≤ 1) → held 0 Y ≡ 0
+    → Y .supply .mark ≤ 1024 → Y .tree .level ≤ 3
+unfolding least-under
+level-once-12 Y F once apart h = level-once 3 Y F once apart (omega arith)

@@ -2,21 +2,20 @@
 -- Assumes nothing.
 use Prim.Native.Nat.{ℕ, zero, suc, _+_, _≤_}
 use mathlib.Core.Path.{_≡_, refl, _∙_}
-use mathlib.Core.List.{List}
 use native.Mathlib.Omega.{arith}
 use lib.ListN.{length}
 use Rattle.lists.proofs.Sums.{length-sum}
 use Rattle.lists.proofs.Times.{times-is}
 use Rattle.rule.specs.declared.Pair.{Pair}
 use Rattle.image.specs.Sound.{times}
-use Rattle.lists.specs.Lists.{total, All, all-none, all-more, sum, hit}
+use Rattle.lists.specs.Lists.{total, sum, hit}
 use Rattle.lists.proofs.Totals.{total-ones, total-or-from}
 use Rattle.tree.specs.Tree.{Ent, Kid, Ents, Tree}
 use Rattle.tree.specs.Cut.{State, cut}
 use Rattle.tree.specs.Spread.{spread}
 use Rattle.tree.specs.Heal.{heal}
-use Rattle.tree.specs.Shape.{Asked, Seg, done, more, Shaped, Formed, root-least}
-use Rattle.tree.proofs.Seg.{seg-all}
+use Rattle.tree.specs.Shape.{Asked, Seg, Shaped, Formed, root-least}
+use Rattle.tree.proofs.Seg.{seg-all, least-two}
 use Rattle.tree.specs.Held.{times-below, times-spare, held}
 use Rattle.tree.specs.Counts.{pages-of, Wide}
 use Rattle.tree.proofs.Conservation.Weights.{weight, weight-is, Even-states}
@@ -26,16 +25,12 @@ use Rattle.tree.proofs.Conservation.Heal.{heal-even}
 
 -- ---- a formed tree is wide
 
-root-least-most : (l : ℕ) → root-least l ≤ 2
-unfolding root-least
-root-least-most zero = omega arith
-root-least-most (suc l) = omega arith
-
 module _ {half : ℕ} (two : 2 ≤ half) where
   seg-wide : (B : Asked (Kid 0)) (l : ℕ) {lo hi : ℕ} {es : Ents l} → root-least l ≤ length es → Seg (λ a b x. Shaped half B l a b x) lo hi es → Wide l es
   unfolding Wide root-least Shaped
   seg-wide B zero h s = tt
-  seg-wide B (suc l) h s = (h, seg-all (λ a b (x : Ent (Kid (suc l))) q. seg-wide B l {lo = a} {hi = b} {es = x .kid} (omega (arith, q .0, root-least-most l)) (q .1)) s)
+  seg-wide B (suc l) h s =
+      (h, seg-all (λ a b (x : Ent (Kid (suc l))) q. seg-wide B l {lo = a} {hi = b} {es = x .kid} (omega (arith, q .0, least-two l)) (q .1)) s)
 
   pub formed-wide : {B : Asked (Kid 0)} (T : Tree) → Formed half B T → Wide (T .level) (T .ents)
   formed-wide {B} T F = seg-wide B (T .level) (F .least) (F .spans)

@@ -1,16 +1,15 @@
 -- The pages that a cut takes: how many, and what they leave of the chain and of the pages from the high mark on. Assumes nothing.
-use Prim.Native.Nat.{ℕ, zero, suc, _+_, _-_, _≤_}
-use mathlib.Core.Path.{_≡_, refl, ap, _∙_}
+use Prim.Native.Nat.{ℕ, _+_, _-_, _≤_}
+use mathlib.Core.Path.{_≡_, ap, _∙_}
 use mathlib.Core.Logic.{_↔_}
-use mathlib.Core.List.{List, [], _∷_}
 use native.Mathlib.Omega.{arith}
 use lib.ListN.{length, drop, length-drop}
 use lib.Seq.{drop-drop}
 use Rattle.tree.specs.Tree.{Kid}
-use Rattle.tree.specs.Supply.{Supply, without-next}
+use Rattle.tree.specs.Supply.{Supply}
 use Rattle.tree.specs.Cut.{State, cut}
 use Rattle.tree.specs.Shape.{Asked, Formed}
-use Rattle.tree.specs.Counts.{pages-of, later}
+use Rattle.tree.specs.Counts.{pages-of}
 use Rattle.tree.proofs.Conservation.Supply.{later-chain, later-mark}
 use Rattle.tree.proofs.Conservation.Cut.{cut-taken}
 use Rattle.tree.proofs.Conservation.Pages.{cut-pages}
@@ -46,7 +45,7 @@ module _ (half : ℕ) (two : 2 ≤ half) {B : Asked (Kid 0)} (t : ℕ) (Y : Stat
   cut-takes =
       let (k, e) = cut-taken half t Y in
       let chain : cut half t Y .supply .chain ≡ drop k (Y .supply .chain) = ap (λ (S : Supply). S .chain) e ∙ later-chain k (Y .supply) in
-      let mark : cut half t Y .supply .mark ≡ Y .supply .mark + (k - length (Y .supply .chain)) = ap (λ (S : Supply). S .mark) e ∙ later-mark k (Y .supply) in (
+      let mark = ap (λ (S : Supply). S .mark) e ∙ later-mark k (Y .supply) in (
         k,
         record {
           pages = omega (arith, cut-pages half two t Y F .same-number, ap length chain ∙ length-drop k (Y .supply .chain), mark);

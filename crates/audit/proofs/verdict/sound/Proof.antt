@@ -1,5 +1,5 @@
 -- `audit::verdict::sound` meets its contract: at each exit a part of soundness by counting fails, and those before it passed. Assumes nothing.
-use mathlib.Core.Path.{_≡_, sym, ap, _∙_}
+use mathlib.Core.Path.{sym, _∙_}
 use native.Mathlib.Omega.{arith}
 use borrow.Author.Needs.{needs}
 use borrow.Author.Tests.{not-true, not-false}
