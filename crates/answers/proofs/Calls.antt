@@ -14,7 +14,7 @@ use Rattle.image.specs.Images.{page-at, pages-in, length-ok}
 use Rattle.image.specs.Instant.{look-up}
 use Rattle.calls.specs.Refusals.{first}
 use Rattle.calls.specs.Calls.{head, head-ok, instant, instant-number}
-use Rattle.audit.proofs.Fitness.{head-facts}
+use Rattle.fit.proofs.Laws.Heads.{fit-ranges}
 use Rattle.answers.proofs.Rows.{asked}
 use Rattle.answers.proofs.Look.{look-pages}
 
@@ -55,5 +55,5 @@ module _ (half t : ℕ) (img : List ℕ) where
   unfolding look-up head head-ok
   look-up-pages e f =
       let h : Head = head half img in
-      let k = head-facts half (pages-in half img) (page-at half img 0) e in
+      let k = fit-ranges half (pages-in half img) (page-at half img 0) e in
       look-pages half h img t (h .height - 1) (root-place h) (h .root) f ∙ omega (arith, k .height-least)

@@ -23,7 +23,7 @@ use Rattle.calls.specs.Refusals.{first, scratch-ok, cleared, scratch-after}
 use Rattle.calls.specs.Changes.{withdraws}
 use Rattle.calls.specs.Calls.{head, head-ok, format, book-early, book-number, book, instant, instant-number, average-at, listing, audit-early, audit}
 use Rattle.calls.specs.Demands.{Demand-1}
-use Rattle.audit.proofs.Fitness.{head-facts}
+use Rattle.fit.proofs.Laws.Heads.{fit-ranges}
 use Rattle.answers.proofs.Rows.{kept, book-scratch, audit-scratch}
 use Rattle.answers.proofs.Look.{half-some, look-top, look-sum}
 use Rattle.answers.proofs.Calls.{Answered, answered, instant-pair, instant-pages, look-up-pages}
@@ -59,7 +59,7 @@ pub look-up-sum : (half t : ℕ) (img : List ℕ) → Answered half t img → eq
 unfolding look-up head head-ok root-place
 look-up-sum half t img f one =
     let h : Head = head half img in
-    let k = head-facts half (pages-in half img) (page-at half img 0) (f .head-fits) in
+    let k = fit-ranges half (pages-in half img) (page-at half img 0) (f .head-fits) in
     let top = look-top half h img t (h .height - 1) (root-place h) (h .root) (f .look-fits) in
     let some = half-some half h (page-at half img (h .root)) top in
     omega (arith, look-sum half h img t some one (h .height - 1) (root-place h) (h .root) (f .look-fits), k .changes-most)

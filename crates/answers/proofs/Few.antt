@@ -4,64 +4,30 @@ use mathlib.Core.Logic.{_≢_}
 use mathlib.Core.Bool.{Bool, true, false, cond, not, _&&_, and-eq-true-iff, true≢false}
 use mathlib.Core.List.{List, [], _∷_}
 use Prim.Native.Nat.{ℕ, zero, suc, _*_, _-_, _≤_}
-use native.Mathlib.Nat.{mul-add, mul-le-mul-left}
+use native.Mathlib.Nat.{mul-le-mul-left}
 use native.Mathlib.Omega.{arith}
-use lib.ListN.{length, length-append, length-map}
+use lib.ListN.{length, length-append}
 use lib.Dec.{eqb}
 use borrow.Author.Tests.{le-ltb}
-use Rattle.rule.specs.declared.Pair.{Pair}
-use Rattle.rule.specs.Pairs.{same-pair, combine}
+use Rattle.rule.specs.Pairs.{combine}
 use Rattle.rule.specs.Time.{span-ok, overlaps}
 use Rattle.page.specs.declared.Head.{Head}
 use Rattle.page.specs.Layout.{capacity, number-of, start-at, pair-at, child-at}
 use Rattle.page.specs.Fit.{Place, root-place, place-below, end-at, page-fit}
 use Rattle.image.specs.Images.{page-at, pages-in, length-ok}
-use Rattle.image.specs.Listing.{Run, Walked, nothing, stopped, then, in-turn, under, leaf-run, walk-page, walk, walk-over, join-after, join}
+use Rattle.image.specs.Listing.{Walked, nothing, stopped, in-turn, under, leaf-run, walk-page, walk, walk-over}
 use Rattle.image.specs.Trail.{Visit, each-in-turn, finds-fit, visits, entries-over}
 use Rattle.image.specs.Looks.{found-fit}
 use Rattle.calls.specs.Refusals.{first}
 use Rattle.calls.specs.Calls.{head-ok, runs-over, too-short, listing-number, listing}
 use Rattle.calls.specs.Walks.{Few-runs}
-use Rattle.audit.proofs.Sums.{total, total-ones}
-use Rattle.audit.proofs.Fitness.{fit-facts}
-use Rattle.audit.proofs.Sound.{the-head}
-use Rattle.audit.proofs.Tree.{found-append}
-use Rattle.audit.proofs.Trails.{all-visits, found-short}
-
--- ---- walks in turn
-
-pub turn-le : (n : ℕ) (f : ℕ → Walked) (g : ℕ → ℕ) (k : ℕ) → ((i : ℕ) → length (f i .runs) ≤ k * g i)
-    → length (in-turn n f .runs) ≤ k * total n g
-unfolding total in-turn then nothing
-turn-le zero f g k h = omega arith
-turn-le (suc n) f g k h =
-    rw (mul-add k (total n g) (g n)) (omega (arith, length-append (in-turn n f .runs) (f n .runs), turn-le n f g k h, h n))
-
-pub picked-le : (t : Bool) (w : Walked) (m : ℕ) → length (w .runs) ≤ m → length (cond t w nothing .runs) ≤ m
-unfolding nothing
-picked-le true w m e = e
-picked-le false w m e = omega arith
-
-pub length-under : (comb : Pair → Pair → Pair) (p : Pair) (w : Walked) → length (under comb p w .runs) ≡ length (w .runs)
-unfolding under
-length-under comb p w = length-map (w .runs) _
-
--- ---- joining makes them fewer
-
-join-after-few : (p : Pair) (rs : List Run) → length (join-after p rs) ≤ length rs
-unfolding join-after
-join-after-few p [] = omega arith
-join-after-few p (r ∷ rs) = pick (same-pair p (r .pair)) (join-after-few p rs) (join-after-few (r .pair) rs)
-  where
-    pick : (t : Bool) → length (join-after p rs) ≤ length rs → length (join-after (r .pair) rs) ≤ length rs
-        → length (cond t (join-after p rs) (r ∷ join-after (r .pair) rs)) ≤ suc (length rs)
-    pick true x y = omega arith
-    pick false x y = omega arith
-
-pub join-few : (rs : List Run) → length (join rs) ≤ length rs
-unfolding join
-join-few [] = omega arith
-join-few (r ∷ rs) = omega (arith, join-after-few (r .pair) rs)
+use Rattle.lists.specs.Lists.{total}
+use Rattle.lists.proofs.Totals.{total-ones}
+use Rattle.fit.proofs.Laws.Pages.{page-fit-is}
+use Rattle.image.proofs.Runs.{turn-le, picked-le, length-under, join-few}
+use Rattle.soundness.proofs.Sound.{the-head}
+use Rattle.soundness.proofs.Tree.{found-append}
+use Rattle.soundness.proofs.Trails.{all-visits, found-short}
 
 -- ---- a walk, by the pages that it finds fit
 
@@ -95,7 +61,7 @@ module _ (half : ℕ) (h : Head) (img : List ℕ) where
             let few : length (in-turn (number-of s) found .runs) ≤ 1 * total (number-of s) (λ _. 1) =
             turn-le (number-of s) found (λ _. 1) 1
             (λ i. picked-le (overlaps a b (start-at s i) (end-at s (at .hi) i)) (leaf-run a (start-at s i) (pair-at half s i)) 1 (omega arith)) in
-            omega (arith, few, total-ones (number-of s) (λ _. 1) (λ i l. refl), fit-facts half h at s e .most)
+            omega (arith, few, total-ones (number-of s) (λ _. 1) (λ i l. refl), page-fit-is half h at s .0 e .most)
         go false e = omega arith
     walk-few (suc l) at p =
         go (λ i. walk-few l (place-below half (page-at half img p) at i) (child-at half (page-at half img p) i)) (page-fit half h at (page-at half img p))

@@ -1,7 +1,7 @@
 -- What a lookup that met only fit pages says: how many it read, and how large its pair can be. Assumes nothing.
 use Prim.Native.Nat.{ℕ, zero, suc, _+_, _*_, _-_, _≤_, _<_}
 use mathlib.Core.Path.{_≡_, refl, ap, _∙_}
-use mathlib.Core.Bool.{Bool, true, false, cond, and-eq-true-iff, false≢true}
+use mathlib.Core.Bool.{Bool, true, false, cond, false≢true}
 use mathlib.Core.List.{List}
 use native.Mathlib.Omega.{arith}
 use lib.Dec.{eqb}
@@ -19,22 +19,15 @@ use Rattle.fit.proofs.Laws.Pages.{page-fit-is}
 use Rattle.image.specs.Images.{page-at}
 use Rattle.image.specs.Sound.{tree-fit}
 use Rattle.image.specs.Instant.{Looked, stopped, leaf-answer, above, look}
-use Rattle.audit.proofs.Fitness.{fit-facts}
-use Rattle.audit.proofs.Tree.{tree-parts}
-use Rattle.answers.proofs.Places.{found-in}
-
--- the first page of a fit tree
-pub tree-top : (half : ℕ) (h : Head) (img : List ℕ) (l : ℕ) (at : Place) (p : ℕ) → tree-fit half h img l at p ≡ true → page-fit half h at (page-at half img p) ≡ true
-unfolding tree-fit
-tree-top half h img zero at p e = e
-tree-top half h img (suc l) at p e = (simp and-eq-true-iff at e) .0
+use Rattle.soundness.proofs.Tree.{top-fit, tree-parts}
+use Rattle.page.proofs.Laws.Places.{place-within}
 
 -- a fit root has an entry, so that a page can have one
 pub half-some : (half : ℕ) (h : Head) (s : List ℕ) → page-fit half h (root-place h) s ≡ true → 1 ≤ half
 unfolding fewest root-place
 half-some half h s e =
-    let f = fit-facts half h (root-place h) s e in
-    omega (arith, some (eqb (h .height - 1) 0), f .fewest, f .most)
+    let f = page-fit-is half h (root-place h) s .0 e in
+    omega (arith, some (eqb (h .height - 1) 0), f .least, f .most)
   where
     some : (c : Bool) → 1 ≤ cond c 1 2
     some true = omega arith
@@ -112,8 +105,8 @@ module _ (half : ℕ) (h : Head) (img : List ℕ) (t : ℕ) where
   module _ (some : 1 ≤ half) where
     inside : (at : Place) (s : List ℕ) → page-fit half h at s ≡ true → place t (entries-of half s) < number-of s
     inside at s e =
-        let f = fit-facts half h at s e in
-        found-in f t (omega (arith, fewest-pos half at some, f .fewest))
+        let f = page-fit-is half h at s .0 e in
+        place-within half s t (f .most) (omega (arith, fewest-pos half at some, f .least))
 
     -- kind 1: the absolute sums on a fit page's way have a bound, and so has the sum found
     pub look-sum : eqb (h .kind) 1 ≡ true → (l : ℕ) (at : Place) (p : ℕ) → look half h img t l at p .fit ≡ true
@@ -142,10 +135,10 @@ module _ (half : ℕ) (h : Head) (img : List ℕ) (t : ℕ) where
     -- ---- where every page of the tree is fit
 
     pub look-fit : (l : ℕ) (at : Place) (p : ℕ) → tree-fit half h img l at p ≡ true → look half h img t l at p .fit ≡ true
-    look-fit zero at p e = found-leaf at p _ (tree-top half h img zero at p e) refl .fit
+    look-fit zero at p e = found-leaf at p _ (top-fit half h img zero at p e) refl .fit
     look-fit (suc l) at p e =
         let s : List ℕ = page-at half img p in
         let i : ℕ = place t (entries-of half s) in
-        let top = tree-top half h img (suc l) at p e in
+        let top = top-fit half h img (suc l) at p e in
         let low = look-fit l (place-below half s at i) (child-at half s i) (tree-parts half h img l at p e .1 i (inside at s top)) in
         found-inner at p i top refl l (record { fit = low; pair = refl }) .fit

@@ -17,10 +17,10 @@ use Rattle.image.specs.Trail.{Visit, each-in-turn, visits, trail, entry-of, ent
 use Rattle.image.specs.Looks.{pages-of}
 use Rattle.calls.specs.Calls.{head, head-ok, listing-number}
 use Rattle.calls.specs.Walks.{Short-walk, Short-walks, listing-looks}
-use Rattle.audit.proofs.Fitness.{head-facts}
-use Rattle.audit.proofs.Sound.{the-head}
-use Rattle.audit.proofs.Trails.{length-pages, up-to-fewer, all-visits, trail-once, trail-in, trail-short, trail-fit-short, audit-short, audit-fits, audit-tree}
-use Rattle.audit.proofs.Looks.{looks-inside, looks-once}
+use Rattle.fit.proofs.Laws.Heads.{fit-ranges}
+use Rattle.soundness.proofs.Sound.{the-head}
+use Rattle.soundness.proofs.Trails.{length-pages, up-to-fewer, all-visits, trail-once, trail-in, trail-short, trail-fit-short, audit-short, audit-fits, audit-tree}
+use Rattle.soundness.proofs.Looks.{looks-inside, looks-once}
 
 any : (half : ℕ) (img : List ℕ) (into : Place → List ℕ → ℕ → Bool) → head-ok half img ≡ true → Short-walk half img into
 unfolding head head-ok
@@ -92,7 +92,7 @@ of-instant half t img fits =
       arith,
       up-to-fewer half h img (all-visits half img (entry-of half t)),
       way-short half t h img (h .height - 1) (root-place h) (h .root),
-      head-facts half (pages-in half img) (page-at half img 0) fits .height-least,
+      fit-ranges half (pages-in half img) (page-at half img 0) fits .height-least,
     )
 
 -- ---- a listing

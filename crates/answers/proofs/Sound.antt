@@ -12,8 +12,9 @@ use Rattle.image.specs.Instant.{look-up}
 use Rattle.image.specs.Listing.{walk-over}
 use Rattle.calls.specs.Calls.{head-ok, instant, listing}
 use Rattle.calls.specs.Book.{listing-of}
-use Rattle.audit.proofs.Sound.{the-head, sound-facts, sound-whole}
-use Rattle.answers.proofs.Look.{half-some, tree-top, look-fit}
+use Rattle.soundness.proofs.Tree.{top-fit}
+use Rattle.soundness.proofs.Sound.{the-head, sound-facts, sound-whole}
+use Rattle.answers.proofs.Look.{half-some, look-fit}
 use Rattle.answers.proofs.Walk.{walk-fit}
 use Rattle.answers.proofs.Calls.{Answered, answers, instant-pair}
 use Rattle.answers.proofs.Agree.{listing-answered}
@@ -29,7 +30,7 @@ module _ (half : ℕ) (img : List ℕ) (fits : sound half img ≡ true) where
   sound-look t =
       let h : Head = the-head half img in
       let tree = sound-facts half img fits .fit .tree in
-      let some = half-some half h (page-at half img (h .root)) (tree-top half h img (h .height - 1) (root-place h) (h .root) tree) in
+      let some = half-some half h (page-at half img (h .root)) (top-fit half h img (h .height - 1) (root-place h) (h .root) tree) in
       look-fit half h img t some (h .height - 1) (root-place h) (h .root) tree
 
   pub sound-walk : (a b : ℕ) → walk-over half img a b .fit ≡ true

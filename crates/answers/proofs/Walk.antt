@@ -17,9 +17,9 @@ use Rattle.image.specs.Images.{page-at}
 use Rattle.image.specs.Sound.{tree-fit}
 use Rattle.image.specs.Instant.{look}
 use Rattle.image.specs.Listing.{Walked, nothing, stopped, then, in-turn, under, leaf-run, walk-page, walk}
-use Rattle.audit.proofs.Fitness.{Fit-facts, fit-facts}
-use Rattle.audit.proofs.Spans.{bound, bound-next, bound-in, bound-past, bound-rises}
-use Rattle.audit.proofs.Tree.{tree-parts}
+use Rattle.fit.proofs.Laws.Spans.{bound, bound-next, bound-in, bound-past, bound-rises}
+use Rattle.soundness.proofs.Tree.{tree-parts}
+use Rattle.fit.proofs.Laws.Pages.{PageFit, page-fit-is}
 use Rattle.answers.proofs.Tiles.{Tiles, done, tiles-none, tiles-one, tiles-append, tiles-map}
 use Rattle.answers.proofs.Places.{found-at}
 use Rattle.answers.proofs.Look.{Found, found-leaf, found-inner}
@@ -86,10 +86,10 @@ module _ (half : ℕ) (h : Head) (a b : ℕ) (some : 1 ≤ half) (l : a < b) (at
   unfolding walk-page
   page-tiles {Q} below e g =
       let k = went-on _ _ e in
-      let f : Fit-facts half h at s = fit-facts half h at s (k .0) in
+      let f : PageFit half h at s = page-fit-is half h at s .0 (k .0) in
       let n : ℕ = number-of s in
       let c : ℕ → ℕ = bound s (at .hi) in
-      let first : c 0 ≡ at .lo = bound-in s (at .hi) 0 (omega (arith, fewest-pos half at some, f .fewest)) ∙ f .first in
+      let first : c 0 ≡ at .lo = bound-in s (at .hi) 0 (omega (arith, fewest-pos half at some, f .least)) ∙ f .first in
       let last : c n ≡ at .hi = bound-past s (at .hi) n (omega arith) in
       let all : Tiles Q (within a b (c 0)) (within a b (c n)) (in-turn n (picked a b (at .hi) s below) .runs) =
       turn-tiles n (picked a b (at .hi) s below) (λ i. within a b (c i)) (k .1)
@@ -115,7 +115,7 @@ module _ (half : ℕ) (h : Head) (img : List ℕ) (a b : ℕ) (some : 1 ≤ half
   walk-tiles zero at p e =
       let s : List ℕ = page-at half img p in
       let top = walk-top half h img a b zero at p e in
-      let f = fit-facts half h at s top in
+      let f = page-fit-is half h at s .0 top in
       page-tiles half h a b some l at s (λ i. leaf-run a (start-at s i) (pair-at half s i)) e
       (λ i m x y fits.
       tiles-one (omega arith) (omega (arith, bound-rises f i m, bound-in s (at .hi) i m, bound-next s (at .hi) i))
@@ -124,7 +124,7 @@ module _ (half : ℕ) (h : Head) (img : List ℕ) (a b : ℕ) (some : 1 ≤ half
       let s : List ℕ = page-at half img p in
       let below : ℕ → Walked = λ i. under (combine (h .kind)) (pair-at half s i) (walk half h img a b v (place-below half s at i) (child-at half s i)) in
       let top = walk-top half h img a b (suc v) at p e in
-      let f = fit-facts half h at s top in
+      let f = page-fit-is half h at s .0 top in
       page-tiles half h a b some l at s below e
       (λ i m x y fits.
       tiles-map (combine (h .kind) (pair-at half s i)) (walk-tiles v (place-below half s at i) (child-at half s i) fits)

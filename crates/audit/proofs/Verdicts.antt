@@ -16,13 +16,14 @@ use Rattle.fit.proofs.Tests.{passes, fails}
 use Rattle.fit.proofs.Laws.Ways.{root-way}
 use Rattle.audit.specs.declared.Counted.{Counted}
 use Rattle.audit.specs.declared.Counted.the-variants.{Fit, Unfit}
-use Rattle.audit.specs.Counting.{chain-ends, sound-by-counting}
+use Rattle.soundness.specs.Counting.{chain-ends, sound-by-counting}
 use Rattle.lent.specs.Opened.{Opened}
-use Rattle.lent.proofs.Laws.{sized, opened-ranges, opened-size}
+use Rattle.image.proofs.Sizes.{sized}
+use Rattle.lent.proofs.Laws.{opened-ranges, opened-size}
 use Rattle.audit.specs.Walks.{Standing, counted}
 use Rattle.audit.proofs.Walks.{counted-fit, counted-unfit, false-of}
-use Rattle.audit.proofs.Sound.{head-test}
-use Rattle.audit.proofs.Counting.{counting-sound}
+use Rattle.soundness.proofs.Sound.{head-test}
+use Rattle.soundness.proofs.Counting.{counting-sound}
 
 -- and a is what the walk from the root down answered
 pub record Walked (img : List ℕ) (h : Head) (a : Counted) : Type 0 where
@@ -39,12 +40,12 @@ module _ {img : List ℕ} {h : Head} (o : Opened img h) where
       let r = opened-ranges o in
       record {
         size = opened-size o;
-        most = omega (arith, sized img (o .whole) .most, r .pages);
-        changes = r .changes;
+        most = omega (arith, sized 12 img (o .whole) .most, r .pages-is);
+        changes = r .changes-most;
         above = 0;
         way = root-way (pages-in 12 img) h r;
-        some = r .root .0;
-        below = omega (arith, r .root .1, r .pages);
+        some = r .root-least;
+        below = omega (arith, r .root-below, r .pages-is);
       }
 
   pub root-walked : {b : Place} {a : Counted} → b ≡ root-place h → a ≡ counted 12 h img b (h .root) → Walked img h a
@@ -76,6 +77,6 @@ module _ {img : List ℕ} {h : Head} {a : Counted} (w : Walked img h a) where
     pub sound-rest : {c u : Bool} → eqb (k + h .chain) (h .mark - 1) ≡ true → c ≡ chain-ends 12 img (h .chain) (h .free)
         → u ≡ every (h .pages - h .mark) (λ i. never-used-ok (page-at 12 img (h .mark + i))) → (c && u) ≡ sound 12 img
     sound-rest s v x =
-        let n = opened-ranges (w .opened) .pages in
+        let n = opened-ranges (w .opened) .pages-is in
         passes fit-tree (passes (same-count ∙ s) (ap₂ _&&_ v (x ∙ ap (λ k. every (k - h .mark) (λ i. never-used-ok (page-at 12 img (h .mark + i)))) n)))
         ∙ sound-parts (w .opened)

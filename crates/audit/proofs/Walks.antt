@@ -21,8 +21,8 @@ use Rattle.audit.specs.declared.Counted.the-variants.{Fit, Unfit}
 use Rattle.lent.specs.Opened.{Within}
 use Rattle.lent.proofs.Laws.{page-length}
 use Rattle.audit.specs.Walks.{Standing, Inner, counted, counted-below}
-use Rattle.audit.proofs.Sums.{total}
-use Rattle.audit.proofs.Tree.{tree-parts, tree-length, tree-short}
+use Rattle.lists.specs.Lists.{total}
+use Rattle.soundness.proofs.Tree.{top-fit, tree-parts, tree-length, tree-short}
 
 -- ---- the answer is a number exactly where the tree is fit
 
@@ -62,13 +62,8 @@ module _ (half : ℕ) (h : Head) (img : List ℕ) (at : Place) (p : ℕ) where
 
   -- ---- the page itself
 
-  tree-page : (l : ℕ) → tree-fit half h img l at p ≡ true → page-fit half h at (page-at half img p) ≡ true
-  unfolding tree-fit
-  tree-page zero e = e
-  tree-page (suc l) e = (simp and-eq-true-iff at e) .0
-
   pub page-unfit : page-fit half h at (page-at half img p) ≡ false → Unfit ≡ counted half h img at p
-  page-unfit e = unfit-counted (λ t. true≢false (sym (tree-page (at .level) t) ∙ e))
+  page-unfit e = unfit-counted (λ t. true≢false (sym (top-fit half h img (at .level) at p t) ∙ e))
 
   -- the test of the page's bytes as the code has them
   pub tested : {s : List ℕ} {r t : Bool} → s ≡ page-at half img p → r ≡ page-fit half h at s → r ≡ t → page-fit half h at (page-at half img p) ≡ t

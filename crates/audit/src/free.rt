@@ -10,7 +10,7 @@ ghost use mathlib.Core.Path.{_≡_};
 ghost use Prim.Native.Nat.{_*_};
 ghost use lib.ListN.{length};
 ghost use Rattle.page.specs.Layout.{free-ok};
-ghost use Rattle.audit.specs.Counting.{chain-ends};
+ghost use Rattle.soundness.specs.Counting.{chain-ends};
 ghost use Rattle.audit.specs.Walks.{leads-to-free};
 
 // "Free page: level field 255, next free page (0 ends the chain), rest FF."

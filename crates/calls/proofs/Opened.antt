@@ -6,11 +6,14 @@ use Rattle.rule.specs.Bounds.{value-or-none}
 use Rattle.rule.specs.Averages.{nearest, hundredths, signed-as, average}
 use Rattle.fields.specs.Bytes.{part, patch, unused, all-are, every}
 use Rattle.fields.specs.Numbers.{num, digits, u32-at, i32-at, i64-at, u32-bytes, i32-bytes, i64-bytes}
-use Rattle.page.specs.Entries.{last-from, place, splice, inserted, push}
-use Rattle.page.specs.Layout.{level-of, number-of, listed, start-at, pair-at, child-at, entry-at, entries-of, unused-ok, joined, entry-bytes, tree-bytes, next-of, free-bytes, free-ok, never-used-ok, head-of, head-bytes}
+use Rattle.page.specs.Entries.{last-from, place, inserted, push}
+use Rattle.lists.specs.Lists.{splice}
+use Rattle.page.specs.Layout.{level-of, number-of, start-at, pair-at, child-at, entry-at, entries-of, unused-ok, entry-bytes, tree-bytes, next-of, free-bytes, free-ok, never-used-ok, head-of, head-bytes}
+use Rattle.lists.specs.Lists.{listed, joined}
 use Rattle.page.specs.Fit.{root-place, end-at, place-below, fewest, number-ok, starts-ok, child-ok, children-ok, pair-ok, pairs-ok, page-fit, ranges-ok, head-fit}
 use Rattle.image.specs.Images.{page-at, pages-in, length-ok, entries-in, next-in, cell-of, cell-bytes, image-of, image-bytes, fresh-page, fresh}
-use Rattle.image.specs.Sound.{tree-fit, tree-pages, chain-pages, times, all-of, each-once, sound}
+use Rattle.image.specs.Sound.{tree-fit, tree-pages, chain-pages, each-once, sound}
+use Rattle.lists.specs.Lists.{times, all-of}
 use Rattle.image.specs.Instant.{stopped, leaf-answer, above, look, look-up}
 use Rattle.image.specs.Listing.{run-bytes, nothing, stopped as stopped′, then, in-turn, under, leaf-run, walk-page, walk, join-after, join, walk-over}
 use Rattle.steps.specs.Supply.{entries, put, with-supply, spare, taken, given-back, spares, pages-taken, with-root, counted}

@@ -14,7 +14,8 @@ use Rattle.rule.specs.Pairs.{none, combine}
 use Rattle.rule.specs.Averages.{average}
 use Rattle.fields.specs.Bytes.{patch}
 use Rattle.page.specs.declared.Head.{Head}
-use Rattle.page.specs.Layout.{head-of, joined}
+use Rattle.page.specs.Layout.{head-of}
+use Rattle.lists.specs.Lists.{joined}
 use Rattle.page.specs.Fit.{head-fit, most-changes}
 use Rattle.image.specs.Images.{page-at, pages-in, length-ok, image-of, image-bytes, fresh}
 use Rattle.image.specs.Sound.{sound}

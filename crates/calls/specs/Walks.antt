@@ -11,7 +11,8 @@ use lib.Dec.{eqb}
 use Rattle.page.specs.Layout.{capacity}
 use Rattle.page.specs.Fit.{Place, root-place}
 use Rattle.image.specs.Images.{pages-in}
-use Rattle.image.specs.Sound.{tree-fit, tree-pages, times, sound}
+use Rattle.image.specs.Sound.{tree-fit, tree-pages, sound}
+use Rattle.lists.specs.Lists.{times}
 use Rattle.image.specs.Trail.{Visit, all-fit, trail, instant-trail, listing-trail, audit-trail}
 use Rattle.image.specs.Looks.{pages-of, found-fit, audit-looks}
 use Rattle.calls.specs.Calls.{head, head-ok, runs-over, listing-number, listing}

@@ -8,7 +8,8 @@ use lib.Dec.{leb, eqb}
 use borrow.Author.Tests.{eq-eqb, ne-eqb}
 use Rattle.page.specs.declared.Entry.{Entry}
 use Rattle.page.specs.declared.Page.{Page}
-use Rattle.page.specs.Entries.{at, place, splice}
+use Rattle.page.specs.Entries.{at, place}
+use Rattle.lists.specs.Lists.{splice}
 use Rattle.page.specs.Layout.{capacity}
 use Rattle.page.specs.Decoded.{shown}
 use Rattle.image.specs.Images.{Image, Cell}

@@ -3,7 +3,8 @@ use Prim.Native.Nat.{ℕ}
 use mathlib.Core.Path.{_≡_}
 use mathlib.Core.List.{List, [], _∷_}
 use Rattle.page.specs.declared.Entry.{Entry}
-use Rattle.page.specs.Entries.{entry, at, splice}
+use Rattle.page.specs.Entries.{entry, at}
+use Rattle.lists.specs.Lists.{splice}
 use Rattle.steps.specs.Cut.{Cutting}
 use Rattle.store.specs.Holding.{Holds}
 use Rattle.cut.specs.declared.Grown.{Grown}

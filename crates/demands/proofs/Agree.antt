@@ -22,7 +22,7 @@ use Rattle.calls.specs.Refusals.{first, scratch-ok}
 use Rattle.calls.specs.Calls.{head, book-early, book-number, book, instant-number, instant, average-at, audit-early, audit, listing}
 use Rattle.calls.specs.Book.{Book, book-pair, listing-of}
 use Rattle.calls.specs.Demands.{fixed-number, As-the-book}
-use Rattle.audit.proofs.Sound.{sound-whole}
+use Rattle.soundness.proofs.Sound.{sound-whole}
 use Rattle.answers.proofs.Sound.{sound-number, sound-pair, sound-listing}
 use Rattle.ledger.proofs.Runs.{listing-same}
 use Rattle.demands.proofs.Rows.{first-off, first-on}

@@ -23,7 +23,7 @@ use Rattle.page.specs.Fit.{most-changes, most-height}
 use Rattle.image.specs.Images.{Image, page-at, cell-bytes, image-of, image-bytes}
 use Rattle.image.specs.Sound.{sound}
 use Rattle.image.specs.Instant.{Looked, look-up}
-use Rattle.audit.proofs.Sound.{the-head, sound-facts}
+use Rattle.soundness.proofs.Sound.{the-head, sound-facts}
 use Rattle.steps.specs.Change.{change, change-names}
 use Rattle.calls.specs.Changes.{Side, effect}
 use Rattle.calls.specs.Calls.{head, changed, book}

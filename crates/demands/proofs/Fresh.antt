@@ -7,6 +7,7 @@ use mathlib.Core.List.{List}
 use native.Mathlib.Omega.{arith}
 use lib.Dec.{leb·zero}
 use borrow.Author.Tests.{not-false, ne-eqb, le-leb}
+use Rattle.lists.specs.Lists.{joined, all-none, all-more}
 use Rattle.rule.specs.declared.Pair.{Pair}
 use Rattle.rule.specs.Time.{END, kind-ok, window-ok}
 use Rattle.rule.specs.Pairs.{none}
@@ -15,13 +16,14 @@ use Rattle.page.specs.declared.Head.{Head}
 use Rattle.page.specs.Entries.{entry, last-from, place}
 use Rattle.page.specs.Fit.{most-height}
 use Rattle.image.specs.Images.{Image, pages-in, length-ok, image-of, image-bytes, fresh}
-use Rattle.image.specs.Sound.{times, sound}
+use Rattle.lists.specs.Lists.{times}
+use Rattle.image.specs.Sound.{sound}
 use Rattle.image.specs.Instant.{Looked}
 use Rattle.calls.specs.Calls.{head, format-number, format}
 use Rattle.calls.specs.Book.{empty-book, items-pair, book-pair}
-use Rattle.tree.specs.Tree.{Ent, Kid, ent-of, pair-under, pair-in, pages-under, over}
+use Rattle.tree.specs.Tree.{Ent, Kid, ent-of, pair-under, pair-in, pages-under}
 use Rattle.tree.specs.Shape.{done, more, Shaped, Leaf, root-least, Formed}
-use Rattle.tree.specs.Held.{all-none, all-more, Within, times-below, times-spare, held}
+use Rattle.tree.specs.Held.{Within, times-below, times-spare, held}
 use Rattle.view.proofs.Fresh.{fresh-state, fresh-shown}
 use Rattle.state.specs.Good.{Bounds, Structure, Good}
 use Rattle.state.proofs.From.Good.{pages-range}
@@ -39,13 +41,13 @@ module _ (half pages kind window : ℕ) (some : 1 ≤ half) (least : 2 ≤ pages
   fresh-formed = record { least = omega arith; most = omega arith; spans = more {lo = 0} {mid = END} refl (omega arith) refl done }
 
   fresh-held : (p : ℕ) → 1 ≤ p → held p fresh-state ≡ 1
-  unfolding held times-below times-spare times over pages-under
+  unfolding held times-below times-spare times joined pages-under
   fresh-held zero l = absurd (omega arith)
   fresh-held (suc zero) l = refl
   fresh-held (suc (suc p)) l = rw (ne-eqb (suc (suc p)) 1 (λ e. omega arith), le-leb 2 (suc (suc p)) (omega arith))
 
   head-held : held 0 fresh-state ≡ 0
-  unfolding held times-below times-spare times over pages-under
+  unfolding held times-below times-spare times joined pages-under
   head-held = refl
 
   fresh-bounds : Bounds kind 0 (fresh-state .tree)

@@ -6,13 +6,14 @@ use mathlib.Core.Bool.{not, _&&_}
 use mathlib.Core.List.{List, [], _∷_, _++_, append-nil}
 use native.Mathlib.Omega.{arith}
 use lib.Dec.{eqb}
+use Rattle.lists.specs.Lists.{All, all-none, all-more}
+use Rattle.lists.proofs.All.{all-append}
 use Rattle.calls.specs.Changes.{withdraws, Change}
 use Rattle.calls.specs.Calls.{Formatted, Booked}
 use Rattle.calls.specs.Book.{Book, empty-book, entered, entered-all, book-of}
 use Rattle.calls.specs.Trace.{Step, kept, accepted, Trace, formatted, extended}
-use Rattle.ledger.specs.Books.{Each, more, Spanned, Sided}
+use Rattle.ledger.specs.Books.{Spanned, Sided}
 use Rattle.ledger.proofs.Books.{entered-all-append, book-is}
-use Rattle.ledger.proofs.Totals.{each-append}
 use Rattle.ledger.proofs.Accepted.{passed}
 use Rattle.demands.proofs.Booked.{Wide}
 use Rattle.demands.proofs.Kept.{Kept, kept-accepted}
@@ -20,8 +21,8 @@ use Rattle.demands.proofs.Fresh.{kept-format}
 
 pub record Reached (half kind window : ℕ) (img : List ℕ) (cs : List Change) : Type 0 where
   pub kept : Kept half img (book-of kind window cs)
-  pub spanned : Each Spanned cs
-  pub sided : Each (Sided kind) cs
+  pub spanned : All Spanned cs
+  pub sided : All (Sided kind) cs
 
 pub book-kind : (kind window : ℕ) (cs : List Change) → book-of kind window cs .kind ≡ kind
 book-kind kind window cs = ap (λ (B : Book). B .kind) (book-is kind window cs)
@@ -42,8 +43,8 @@ module _ {half : ℕ} (wide : Wide half) {kind window : ℕ} where
             subst⁻¹ (Kept half after) (entered-all-append cs (c ∷ []) (empty-book kind window))
             (subst⁻¹ (λ x. Kept half x (entered 0 side v s e (book-of kind window cs))) (ap (λ (b : Booked). b .image) p)
             (kept-accepted wide side v s e scratch (R .kept) n));
-        spanned = each-append (R .spanned) (more {c = c} (a .span) Each.none);
-        sided = each-append (R .sided) (more {c = c} (ap (λ k. withdraws side && not (eqb k 1)) (sym same-kind) ∙ a .sided) Each.none);
+        spanned = all-append (R .spanned) (all-more {x = c} (a .span) all-none);
+        sided = all-append (R .sided) (all-more {x = c} (ap (λ k. withdraws side && not (eqb k 1)) (sym same-kind) ∙ a .sided) all-none);
       }
 
   pub reached : {img : List ℕ} {cs : List Change} → Trace half kind window img cs → Reached half kind window img cs
@@ -53,7 +54,7 @@ module _ {half : ℕ} (wide : Wide half) {kind window : ℕ} where
         kept =
             subst⁻¹ (λ x. Kept half x (empty-book kind window)) (ap (λ (f : Formatted). f .image) p)
             (kept-format half kind window before (sym (ap (λ (f : Formatted). f .number) p)) (omega (arith, wide .two)));
-        spanned = Each.none;
-        sided = Each.none;
+        spanned = all-none;
+        sided = all-none;
       }
   reached (extended T step) = reached-step (reached T) step

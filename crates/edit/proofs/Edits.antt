@@ -8,14 +8,16 @@ use lib.ListN.{length, take, drop}
 use lib.Seq.{take-append-le, take-suc, drop-at, set-split}
 use Rattle.page.specs.declared.Entry.{Entry}
 use Rattle.page.specs.declared.Page.{Page}
-use Rattle.page.specs.Entries.{at, no-entry, splice, inserted}
+use Rattle.page.specs.Entries.{at, no-entry, inserted}
+use Rattle.lists.specs.Lists.{splice}
 use Rattle.page.specs.Decoded.{shown}
 use Rattle.edit.specs.Shows.{Shows, firsts}
-use Rattle.edit.proofs.Places.{firsts-length, firsts-take, firsts-stored, shown-firsts, shown-length, Wide, stored}
+use Rattle.page.proofs.Laws.Decoded.{length-shown}
+use Rattle.edit.proofs.Places.{firsts-length, firsts-take, firsts-stored, shown-firsts, Wide, stored}
 
 -- the number follows from the entries
 pub shows-number : {l : ℕ} {es : List Entry} {r : Page} → Shows l es r → r .number ≡ length es
-shows-number {r = r} s = sym (shown-length r) ∙ ap length (s .entries)
+shows-number {r = r} s = sym (length-shown r) ∙ ap length (s .entries)
 
 pub shows-as : {l : ℕ} {es es′ : List Entry} {r : Page} → Shows l es r → es ≡ es′ → Shows l es′ r
 shows-as s same = record { level = s .level; entries = s .entries ∙ same }

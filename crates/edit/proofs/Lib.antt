@@ -1,4 +1,3 @@
-pub mod Listed
 pub mod Places
 pub mod Moved
 pub mod Edits

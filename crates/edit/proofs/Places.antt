@@ -11,6 +11,8 @@ use mir.Syntax.{w32, w64}
 use mir.Val.{toZ, ofZ}
 use mir.ValLaws.{toZ-ofZ}
 use lib.Seq.{getD-set-same, getD-set-other, set-getD, set-at, ext-getD}
+use Rattle.lists.specs.Lists.{listed}
+use Rattle.lists.proofs.Listed.{length-listed, getD-listed, listed-take}
 use Rattle.rule.specs.declared.Pair.{Pair}
 use Rattle.rule.proofs.Laws.{pair-eq}
 use Rattle.page.specs.declared.Entry.{Entry}
@@ -18,34 +20,27 @@ use Rattle.page.specs.declared.Page.{Page}
 use Rattle.page.specs.Entries.{entry, no-entry, at}
 use Rattle.page.specs.Decoded.{shown-at, shown}
 use Rattle.edit.specs.Shows.{firsts}
-use Rattle.edit.proofs.Listed.{listed-more, listed-length, listed-at, listed-take}
 
 module _ (p : Page) where
   pub firsts-more : (n : ℕ) → firsts (suc n) p ≡ firsts n p ++ (shown-at p n ∷ [])
-  unfolding firsts
-  firsts-more n = listed-more (λ i. shown-at p i) n
+  unfolding firsts listed
+  firsts-more n = refl
 
   pub firsts-length : (n : ℕ) → length (firsts n p) ≡ n
   unfolding firsts
-  firsts-length n = listed-length (λ i. shown-at p i) n
+  firsts-length n = length-listed n (λ i. shown-at p i)
 
   pub firsts-at : (n : ℕ) (d : Entry) (i : ℕ) → i < n → getD (firsts n p) i d ≡ shown-at p i
   unfolding firsts
-  firsts-at n d i h = listed-at (λ i. shown-at p i) n d i h
+  firsts-at n d i h = getD-listed n (λ i. shown-at p i) d i h
 
   pub firsts-take : (n k : ℕ) → k ≤ n → take k (firsts n p) ≡ firsts k p
   unfolding firsts
-  firsts-take n k h = listed-take (λ i. shown-at p i) n k no-entry h
+  firsts-take n k h = listed-take n k (λ i. shown-at p i) no-entry h
 
   pub shown-firsts : {n : ℕ} → p .number ≡ n → shown p ≡ firsts n p
   unfolding shown firsts
   shown-firsts h = ap (λ n. firsts n p) h
-
-  pub shown-length : length (shown p) ≡ p .number
-  shown-length = rw (shown-firsts refl) (firsts-length (p .number))
-
-  pub shown-get : (i : ℕ) → i < p .number → at (shown p) i ≡ shown-at p i
-  shown-get i h = rw (shown-firsts refl) (firsts-at (p .number) no-entry i h)
 
 -- the page said to have n entries
 abbrev pub cut : ℕ → Page → Page

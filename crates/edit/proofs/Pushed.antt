@@ -6,7 +6,7 @@ use native.Mathlib.Numerals.{add-one}
 use Rattle.rule.specs.declared.Pair.{Pair}
 use Rattle.page.specs.declared.Entry.{Entry}
 use Rattle.page.specs.declared.Page.{Page}
-use Rattle.page.specs.Layout.{listed}
+use Rattle.lists.specs.Lists.{listed}
 use Rattle.page.specs.Entries.{entry, push}
 use Rattle.page.specs.Decoded.{shown-at, shown}
 use Rattle.edit.specs.Shows.{Shows, firsts}

@@ -5,7 +5,7 @@ use mathlib.Core.List.{List}
 use Rattle.page.specs.declared.Entry.{Entry}
 use Rattle.page.specs.declared.Page.{Page}
 use Rattle.page.specs.Decoded.{shown-at, shown}
-use Rattle.page.specs.Layout.{listed}
+use Rattle.lists.specs.Lists.{listed}
 
 -- the first n places of a page, whether or not it says that it has so many entries
 unfoldable pub firsts : ℕ → Page → List Entry

@@ -5,7 +5,8 @@ use rule::Pair;
 ghost use mathlib.Core.Path.{_≡_};
 ghost use mathlib.Core.List.{[], _∷_};
 ghost use Prim.Native.Nat.{_<_, _≤_};
-ghost use Rattle.page.specs.Entries.{at, splice};
+ghost use Rattle.page.specs.Entries.{at};
+ghost use Rattle.lists.specs.Lists.{splice};
 ghost use Rattle.page.specs.Decoded.{shown};
 ghost use Rattle.edit.specs.Shows.{Shows};
 

@@ -3,7 +3,7 @@ use crate::join::joined;
 use page::Page;
 ghost use mathlib.Core.List.{[]};
 ghost use Prim.Native.Nat.{_<_, _≤_};
-ghost use Rattle.page.specs.Entries.{splice};
+ghost use Rattle.lists.specs.Lists.{splice};
 ghost use Rattle.page.specs.Decoded.{shown};
 ghost use Rattle.edit.specs.Shows.{Shows};
 

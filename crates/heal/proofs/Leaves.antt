@@ -10,7 +10,8 @@ use Rattle.rule.specs.Pairs.{combine, same-pair}
 use Rattle.page.specs.declared.Entry.{Entry}
 use Rattle.page.specs.declared.Page.{Page}
 use Rattle.page.specs.Decoded.{shown}
-use Rattle.page.specs.Entries.{at, place, splice}
+use Rattle.page.specs.Entries.{at, place}
+use Rattle.lists.specs.Lists.{splice}
 use Rattle.image.specs.Images.{Image, tree}
 use Rattle.edit.specs.Shows.{Shows}
 use Rattle.edit.proofs.Edits.{shows-then}

@@ -8,7 +8,8 @@ use Rattle.rule.specs.Pairs.{combine}
 use Rattle.page.specs.declared.Entry.{Entry}
 use Rattle.page.specs.declared.Page.{Page}
 use Rattle.page.specs.Decoded.{shown}
-use Rattle.page.specs.Entries.{at, splice}
+use Rattle.page.specs.Entries.{at}
+use Rattle.lists.specs.Lists.{splice}
 use Rattle.image.specs.Images.{Image, Cell, tree}
 use Rattle.edit.specs.Shows.{Shows}
 use Rattle.edit.proofs.Edits.{shows-number, shows-then, shows-as}

@@ -5,7 +5,8 @@ use Prim.Native.Nat.{ℕ, zero, suc, _+_, _-_, _<_, min}
 use native.Mathlib.Omega.{arith}
 use lib.ListN.{length, take, drop, length-append, length-take, length-drop}
 use Rattle.page.specs.declared.Entry.{Entry}
-use Rattle.page.specs.Entries.{at, splice}
+use Rattle.page.specs.Entries.{at}
+use Rattle.lists.specs.Lists.{splice}
 
 -- the first k of all, and the others: of the first list as many as it has, and what is left of k from the second one
 parts : {A : Type 0} (k : ℕ) (xs ys : List A) (m : ℕ) → m ≡ min k (length xs)

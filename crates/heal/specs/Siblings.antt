@@ -6,7 +6,8 @@ use lib.ListN.{length}
 use Rattle.rule.specs.Pairs.{none, combine}
 use Rattle.page.specs.declared.Entry.{Entry}
 use Rattle.page.specs.declared.Page.{Page}
-use Rattle.page.specs.Entries.{entry, at, splice}
+use Rattle.page.specs.Entries.{entry, at}
+use Rattle.lists.specs.Lists.{splice}
 use Rattle.image.specs.Images.{Image}
 use Rattle.steps.specs.Supply.{entries}
 use Rattle.steps.specs.Heal.{pushed}

@@ -8,8 +8,8 @@ use native.Mathlib.Decide.{decLt}
 use lib.ListN.{length, length-append}
 use Rattle.fields.specs.Bytes.{part, patch}
 use Rattle.fields.proofs.Laws.Parts.{part-append-left, patch-append-left, patch-append-right, patch-whole}
-use Rattle.page.specs.Layout.{listed, joined}
-use Rattle.page.proofs.Laws.Joined.{joined-append, joined-one}
+use Rattle.lists.specs.Lists.{listed, joined}
+use Rattle.lists.proofs.Joined.{joined-append, joined-one}
 use Rattle.page.proofs.Laws.Pieces.{part-last}
 
 -- the pieces below n

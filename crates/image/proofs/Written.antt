@@ -10,7 +10,8 @@ use borrow.Author.Tests.{eq-eqb, le-leb}
 use Rattle.fields.specs.Bytes.{Bytes, part}
 use Rattle.fields.proofs.Laws.Parts.{part-middle, part-append-right}
 use Rattle.fields.proofs.Laws.Digits.{bytes-append}
-use Rattle.page.specs.Layout.{page-size, head-of, head-bytes, listed}
+use Rattle.page.specs.Layout.{page-size, head-of, head-bytes}
+use Rattle.lists.specs.Lists.{listed}
 use Rattle.page.specs.Widths.{Head-fits}
 use Rattle.page.proofs.Laws.Heads.{bytes-head, length-head, head-of-head}
 use Rattle.page.proofs.Laws.Joined.{bytes-joined}

@@ -11,7 +11,8 @@ use Rattle.fields.specs.Bytes.{part, unused}
 use Rattle.page.specs.declared.Entry.{Entry}
 use Rattle.page.specs.declared.Head.{Head}
 use Rattle.page.specs.Entries.{entry}
-use Rattle.page.specs.Layout.{page-size, level-of, entries-of, next-of, free-level, head-of, tree-bytes, free-bytes, head-bytes, listed, joined}
+use Rattle.page.specs.Layout.{page-size, level-of, entries-of, next-of, free-level, head-of, tree-bytes, free-bytes, head-bytes}
+use Rattle.lists.specs.Lists.{listed, joined}
 
 -- the bytes of page p
 unfoldable pub page-at : ℕ → List ℕ → ℕ → List ℕ

@@ -6,7 +6,8 @@ use mathlib.Core.List.{List, [], _∷_, _++_, map}
 use lib.ListN.{length}
 use lib.Dec.{eqb, leb, ltb}
 use Rattle.page.specs.declared.Head.{Head}
-use Rattle.page.specs.Layout.{next-of, free-ok, head-of, listed}
+use Rattle.page.specs.Layout.{next-of, free-ok, head-of}
+use Rattle.lists.specs.Lists.{listed}
 use Rattle.image.specs.Images.{page-at, pages-in}
 use Rattle.image.specs.Trail.{Visit, finds-fit, all-fit, audit-trail}
 

@@ -1,13 +1,15 @@
 -- Document 01, "The page": the sound image. Each page below the high mark but the head is reachable exactly once: by the tree
 -- or by the chain of free pages. Assumes nothing.
 use Prim.Native.Nat.{ℕ, zero, suc, _+_, _-_}
-use mathlib.Core.Bool.{Bool, true, cond, _&&_}
+use mathlib.Core.Bool.{Bool, cond, _&&_}
 use mathlib.Core.List.{List, [], _∷_}
 use lib.ListN.{length}
 use lib.Dec.{eqb}
+use Rattle.lists.specs.Lists.{joined}
+unfoldable pub use Rattle.lists.specs.Lists.{times, all-of}
 use Rattle.fields.specs.Bytes.{every}
 use Rattle.page.specs.declared.Head.{Head}
-use Rattle.page.specs.Layout.{number-of, child-at, entries-of, next-of, free-ok, never-used-ok, head-of, joined}
+use Rattle.page.specs.Layout.{number-of, child-at, entries-of, next-of, free-ok, never-used-ok, head-of}
 use Rattle.page.specs.Fit.{Place, root-place, place-below, page-fit, head-fit}
 use Rattle.image.specs.Images.{page-at, pages-in, length-ok}
 
@@ -30,15 +32,6 @@ tree-pages half img (suc l) p =
 unfoldable pub chain-pages : ℕ → List ℕ → ℕ → ℕ → List ℕ
 chain-pages half img zero p = []
 chain-pages half img (suc most) p = cond (eqb p 0) [] (p ∷ chain-pages half img most (next-of (page-at half img p)))
-
--- how often p stands in a list
-unfoldable pub times : ℕ → List ℕ → ℕ
-times p [] = 0
-times p (q ∷ qs) = cond (eqb p q) 1 0 + times p qs
-
-unfoldable pub all-of : (ℕ → Bool) → List ℕ → Bool
-all-of ok [] = true
-all-of ok (p ∷ ps) = ok p && all-of ok ps
 
 -- "each page below the high mark except 0 is once in the tree or once in the chain"
 unfoldable pub each-once : ℕ → List ℕ → List ℕ → Bool

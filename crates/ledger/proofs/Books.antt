@@ -7,15 +7,16 @@ use native.Mathlib.Omega.{arith}
 use lib.Dec.{eqb}
 use lib.ListN.{length}
 use lib.IntN.{ℤ}
+use Rattle.lists.specs.Lists.{All}
 use Rattle.rule.specs.Time.{lengthened, covers}
 use Rattle.rule.specs.Pairs.{combine}
 use Rattle.rule.proofs.Laws.{lawful}
 use Rattle.calls.specs.Changes.{Side, effect, Change}
 use Rattle.calls.specs.Book.{Item, Book, empty-book, entered, entered-all, book-of, items-pair, book-pair}
 use Rattle.calls.specs.Trace.{made}
-use Rattle.calls.specs.Demands.{Reordered, Same-changes}
-use Rattle.ledger.specs.Books.{effect-of, item-of, items-onto, items-of, Each, Sided}
-use Rattle.ledger.proofs.Totals.{total, total-reordered, between, unit-right, cond-unit}
+use Rattle.calls.specs.Demands.{Same-changes}
+use Rattle.ledger.specs.Books.{effect-of, item-of, items-onto, items-of, Sided}
+use Rattle.ledger.proofs.Totals.{total, between, unit-right, cond-unit}
 use Rattle.ledger.proofs.Struck.{same-changes-total}
 use Rattle.ledger.proofs.Shares.{share, sided-undone}
 
@@ -74,12 +75,8 @@ module _ (kind w : ℕ) (t : ℕ) where
   unfolding book-of empty-book book-pair items-pair
   book-total cs = entered-all-pair cs (empty-book kind w) t ∙ unit-right (lawful kind) (total (combine kind) (share (within w t)) cs)
 
-  -- the order doesn't count
-  pub book-reordered : {xs ys : List Change} → Reordered xs ys → book-pair (book-of kind w xs) t ≡ book-pair (book-of kind w ys) t
-  book-reordered {xs} {ys} r = book-total xs ∙ total-reordered (lawful kind) (share (within w t)) r ∙ sym (book-total ys)
-
-  -- nor do entries that are struck out with their matching withdrawals
-  pub book-same-changes : {xs ys : List Change} → Same-changes xs ys → Each (Sided kind) xs → Each (Sided kind) ys
+  -- neither the order counts, nor entries that are struck out with their matching withdrawals
+  pub book-same-changes : {xs ys : List Change} → Same-changes xs ys → All (Sided kind) xs → All (Sided kind) ys
       → book-pair (book-of kind w xs) t ≡ book-pair (book-of kind w ys) t
   book-same-changes {xs} {ys} S h k =
       book-total xs

@@ -4,6 +4,7 @@ use mathlib.Core.Bool.{Bool, true, false, cond, _&&_, false≢true}
 use mathlib.Core.List.{List, [], _∷_}
 use lib.Dec.{eqb}
 use borrow.Author.Tests.{eqb-true, eq-eqb}
+use Rattle.lists.specs.Lists.{All, all-none, all-more}
 use Rattle.rule.specs.declared.Pair.{Pair}
 use Rattle.rule.specs.Pairs.{none, same-number, Lawful}
 use Rattle.rule.proofs.Tests.{both}
@@ -11,7 +12,7 @@ use Rattle.rule.proofs.Signed.{same-number-is}
 use Rattle.calls.specs.Changes.{entering, withdraws, Change}
 use Rattle.calls.specs.Aggregate.{same-booking, without, live-has, live-after, live-from, Matched}
 use Rattle.calls.specs.Demands.{Booking}
-use Rattle.ledger.specs.Books.{Each, more, Enters}
+use Rattle.ledger.specs.Books.{Enters}
 use Rattle.ledger.proofs.Totals.{total, left-comm, between}
 use Rattle.ledger.proofs.Struck.{entry, withdrawal, by-side, Undone}
 
@@ -28,32 +29,32 @@ matching b = by-side (λ d. same-booking (withdrawal b) d ≡ true → Enters d 
         .0 e in
         λ i. record { side = entering; v = h .0 i; s = h .1 .0 i; e = h .1 .1 i }
 
-without-enters : (c : Change) {live : List Change} → Each Enters live → Each Enters (without c live)
+without-enters : (c : Change) {live : List Change} → All Enters live → All Enters (without c live)
 unfolding without
-without-enters c Each.none = Each.none
-without-enters c (more {c = d} {cs = ds} p h) = go (same-booking c d) (without-enters c h)
+without-enters c all-none = all-none
+without-enters c (all-more {x = d} {xs = ds} p h) = go (same-booking c d) (without-enters c h)
   where
-    go : (x : Bool) → Each Enters (without c ds) → Each Enters (cond x ds (d ∷ without c ds))
+    go : (x : Bool) → All Enters (without c ds) → All Enters (cond x ds (d ∷ without c ds))
     go true k = h
-    go false k = more p k
+    go false k = all-more p k
 
-after-enters : (c : Change) (live : List Change) → Each Enters live → Each Enters (live-after c live)
+after-enters : (c : Change) (live : List Change) → All Enters live → All Enters (live-after c live)
 unfolding live-after withdraws
-after-enters c live h = by-side (λ c. Each Enters (live-after c live)) (λ b. more refl h) (λ b. without-enters (withdrawal b) h) c
+after-enters c live h = by-side (λ c. All Enters (live-after c live)) (λ b. all-more refl h) (λ b. without-enters (withdrawal b) h) c
 
 -- the live bookings are entries
-pub live-enters : (live cs : List Change) → Each Enters live → Each Enters (live-from live cs)
+pub live-enters : (live cs : List Change) → All Enters live → All Enters (live-from live cs)
 unfolding live-from
 live-enters live [] h = h
 live-enters live (c ∷ cs) h = live-enters (live-after c live) cs (after-enters c live h)
 
 module _ {_⊕_ : Pair → Pair → Pair} (L : Lawful _⊕_) (share : Change → Pair) where
   infixl 60 _⊕_
-  without-total : (b : Booking) {live : List Change} → share (entry b) ⊕ share (withdrawal b) ≡ none → Each Enters live → live-has (withdrawal b) live ≡ true
+  without-total : (b : Booking) {live : List Change} → share (entry b) ⊕ share (withdrawal b) ≡ none → All Enters live → live-has (withdrawal b) live ≡ true
       → total _⊕_ share (without (withdrawal b) live) ≡ share (withdrawal b) ⊕ total _⊕_ share live
   unfolding total without live-has
-  without-total b u Each.none e = absurd (false≢true e)
-  without-total b u (more {c = d} {cs = ds} p h) e = go (same-booking (withdrawal b) d) refl e (without-total b u h)
+  without-total b u all-none e = absurd (false≢true e)
+  without-total b u (all-more {x = d} {xs = ds} p h) e = go (same-booking (withdrawal b) d) refl e (without-total b u h)
     where
       W : Pair
       W = share (withdrawal b)
@@ -67,7 +68,7 @@ module _ {_⊕_ : Pair → Pair → Pair} (L : Lawful _⊕_) (share : Change →
           ∙ L .assoc W (share d) (total _⊕_ share ds)
       go false m k ih = ap (λ z. share d ⊕ z) (ih k) ∙ left-comm L (share d) W (total _⊕_ share ds)
 
-  after-total : (live cs : List Change) (c : Change) → Each Enters live → Undone _⊕_ share c → Matched live (c ∷ cs)
+  after-total : (live cs : List Change) (c : Change) → All Enters live → Undone _⊕_ share c → Matched live (c ∷ cs)
       → total _⊕_ share (live-after c live) ≡ share c ⊕ total _⊕_ share live
   unfolding total live-after Matched withdraws
   after-total live cs c n =
@@ -76,11 +77,11 @@ module _ {_⊕_ : Pair → Pair → Pair} (L : Lawful _⊕_) (share : Change →
       (λ b p m. without-total b (p refl b) n (m .0))
       c
 
-  pub live-total : (live cs : List Change) → Each Enters live → Each (Undone _⊕_ share) cs → Matched live cs
+  pub live-total : (live cs : List Change) → All Enters live → All (Undone _⊕_ share) cs → Matched live cs
       → total _⊕_ share (live-from live cs) ≡ total _⊕_ share cs ⊕ total _⊕_ share live
   unfolding total live-from Matched
   live-total live [] n h m = sym (L .unit (total _⊕_ share live))
-  live-total live (c ∷ cs) n (more p h) m =
+  live-total live (c ∷ cs) n (all-more p h) m =
       live-total (live-after c live) cs (after-enters c live n) h (m .1)
       ∙ ap (λ z. total _⊕_ share cs ⊕ z) (after-total live cs c n p m)
       ∙ between L (total _⊕_ share cs) (share c) (total _⊕_ share live)

@@ -5,13 +5,14 @@ use mathlib.Core.Bool.{Bool, true, false, cond, not, _&&_, and-false, true≢fal
 use mathlib.Core.List.{List, [], _∷_}
 use lib.Dec.{eqb}
 use borrow.Author.Tests.{eqb-true}
+use Rattle.lists.specs.Lists.{All, all-none, all-more}
+use Rattle.lists.proofs.All.{all-weaken}
 use Rattle.rule.specs.declared.Pair.{Pair}
 use Rattle.rule.specs.Pairs.{none, combine, opposite, entry-effect}
 use Rattle.rule.proofs.Laws.{lawful, invertible}
 use Rattle.calls.specs.Changes.{withdraws, effect, Change}
 use Rattle.calls.specs.Demands.{Booking}
-use Rattle.ledger.specs.Books.{effect-of, Each, more, Enters, Sided}
-use Rattle.ledger.proofs.Totals.{each-map}
+use Rattle.ledger.specs.Books.{effect-of, Enters, Sided}
 use Rattle.ledger.proofs.Struck.{entry, withdrawal, Undone}
 
 unfoldable pub share : (ℕ → ℕ → Bool) → Change → Pair
@@ -27,8 +28,8 @@ undone kind test b k = go (test (b .s) (b .e))
     go false = lawful kind .unit none
 
 -- where 22 turns back the withdrawals of the other kinds, there are none that would have to undo
-pub sided-undone : (kind : ℕ) (test : ℕ → ℕ → Bool) {cs : List Change} → Each (Sided kind) cs → Each (Undone (combine kind) (share test)) cs
-sided-undone kind test = each-map (λ c h w b. undone kind test b (go (withdraws (c .side)) (eqb kind 1) h w))
+pub sided-undone : (kind : ℕ) (test : ℕ → ℕ → Bool) {cs : List Change} → All (Sided kind) cs → All (Undone (combine kind) (share test)) cs
+sided-undone kind test = all-weaken (λ c h w b. undone kind test b (go (withdraws (c .side)) (eqb kind 1) h w))
   where
     go : (x y : Bool) → x && not y ≡ false → x ≡ true → y ≡ true
     go true true h w = refl
@@ -36,9 +37,9 @@ sided-undone kind test = each-map (λ c h w b. undone kind test b (go (withdraws
     go false y h w = absurd (true≢false (sym w))
 
 -- so every list will do for kind 1, and entries for every kind
-pub sided-totals : (cs : List Change) → Each (Sided 1) cs
-sided-totals [] = Each.none
-sided-totals (c ∷ cs) = more (and-false (withdraws (c .side))) (sided-totals cs)
+pub sided-totals : (cs : List Change) → All (Sided 1) cs
+sided-totals [] = all-none
+sided-totals (c ∷ cs) = all-more (and-false (withdraws (c .side))) (sided-totals cs)
 
-pub sided-entries : (kind : ℕ) {cs : List Change} → Each Enters cs → Each (Sided kind) cs
-sided-entries kind = each-map (λ c n. ap (λ x. x && not (eqb kind 1)) n)
+pub sided-entries : (kind : ℕ) {cs : List Change} → All Enters cs → All (Sided kind) cs
+sided-entries kind = all-weaken (λ c n. ap (λ x. x && not (eqb kind 1)) n)

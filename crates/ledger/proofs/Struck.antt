@@ -3,12 +3,12 @@
 use mathlib.Core.Path.{_≡_, refl, sym, ap, _∙_}
 use mathlib.Core.Bool.{true}
 use mathlib.Core.List.{List, [], _∷_, _++_}
+use Rattle.lists.specs.Lists.{All, all-more}
 use Rattle.rule.specs.declared.Pair.{Pair}
 use Rattle.rule.specs.Pairs.{none, Lawful}
 use Rattle.calls.specs.Changes.{Side, entering, withdrawing, withdraws, Change}
 use Rattle.calls.specs.Demands.{Booking, couples, Reordered, Same-changes}
-use Rattle.ledger.specs.Books.{Each, more}
-use Rattle.ledger.proofs.Totals.{total, total-reordered, each-reordered}
+use Rattle.ledger.proofs.Totals.{total, total-reordered, all-reordered}
 
 abbrev pub entry : Booking → Change
 entry b = record { side = entering; v = b .v; s = b .s; e = b .e }
@@ -30,19 +30,19 @@ Undone rule share c = withdraws (c .side) ≡ true → (b : Booking) → rule (s
 
 module _ {_⊕_ : Pair → Pair → Pair} (L : Lawful _⊕_) (share : Change → Pair) where
   infixl 60 _⊕_
-  pub couples-total : (bs : List Booking) (left : List Change) → Each (Undone _⊕_ share) (couples bs ++ left)
+  pub couples-total : (bs : List Booking) (left : List Change) → All (Undone _⊕_ share) (couples bs ++ left)
       → total _⊕_ share (couples bs ++ left) ≡ total _⊕_ share left
   unfolding total couples withdraws
   couples-total [] left h = refl
-  couples-total (b ∷ bs) left (more p (more q h)) =
+  couples-total (b ∷ bs) left (all-more p (all-more q h)) =
       sym (L .assoc (share (entry b)) (share (withdrawal b)) (total _⊕_ share (couples bs ++ left)))
       ∙ ap (λ z. z ⊕ total _⊕_ share (couples bs ++ left)) (q refl b)
       ∙ L .unit (total _⊕_ share (couples bs ++ left))
       ∙ couples-total bs left h
 
-  left-total : {xs : List Change} (bs : List Booking) (left : List Change) → Reordered xs (couples bs ++ left) → Each (Undone _⊕_ share) xs → total _⊕_ share xs ≡ total _⊕_ share left
-  left-total bs left r h = total-reordered L share r ∙ couples-total bs left (each-reordered r h)
+  left-total : {xs : List Change} (bs : List Booking) (left : List Change) → Reordered xs (couples bs ++ left) → All (Undone _⊕_ share) xs → total _⊕_ share xs ≡ total _⊕_ share left
+  left-total bs left r h = total-reordered L share r ∙ couples-total bs left (all-reordered r h)
 
-  pub same-changes-total : {xs ys : List Change} → Same-changes xs ys → Each (Undone _⊕_ share) xs → Each (Undone _⊕_ share) ys
+  pub same-changes-total : {xs ys : List Change} → Same-changes xs ys → All (Undone _⊕_ share) xs → All (Undone _⊕_ share) ys
       → total _⊕_ share xs ≡ total _⊕_ share ys
   same-changes-total S h k = left-total (S .struck-x) (S .left) (S .of-x) h ∙ sym (left-total (S .struck-y) (S .left) (S .of-y) k)

@@ -1,37 +1,29 @@
 -- The total of a list of changes under a combining rule, each change having a share: it doesn't turn on the order. Assumes nothing.
 use mathlib.Core.Path.{_≡_, refl, sym, ap, _∙_}
 use mathlib.Core.Bool.{Bool, true, false, cond}
-use mathlib.Core.List.{List, [], _∷_, _++_}
+use mathlib.Core.List.{List, [], _∷_}
+use Rattle.lists.specs.Lists.{All, all-none, all-more}
 use Rattle.rule.specs.declared.Pair.{Pair}
 use Rattle.rule.specs.Pairs.{none, Lawful}
 use Rattle.calls.specs.Changes.{Change}
 use Rattle.calls.specs.Demands.{Reordered, same, next, swap, then}
-use Rattle.ledger.specs.Books.{Each, more}
 
 unfoldable pub total : (Pair → Pair → Pair) → (Change → Pair) → List Change → Pair
 total rule share [] = none
 total rule share (c ∷ cs) = rule (share c) (total rule share cs)
 
 -- shares that agree on each change of the list
-pub total-same : (rule : Pair → Pair → Pair) (f g : Change → Pair) {cs : List Change} → Each (λ c. f c ≡ g c) cs → total rule f cs ≡ total rule g cs
+pub total-same : (rule : Pair → Pair → Pair) (f g : Change → Pair) {cs : List Change} → All (λ c. f c ≡ g c) cs → total rule f cs ≡ total rule g cs
 unfolding total
-total-same rule f g Each.none = refl
-total-same rule f g (more {c} {cs} e h) = rw (e, total-same rule f g h)
-
-pub each-map : {P Q : Change → Type 0} {cs : List Change} → ((c : Change) → P c → Q c) → Each P cs → Each Q cs
-each-map f Each.none = Each.none
-each-map f (more {c} p h) = more (f c p) (each-map f h)
-
-pub each-append : {P : Change → Type 0} {xs ys : List Change} → Each P xs → Each P ys → Each P (xs ++ ys)
-each-append Each.none k = k
-each-append (more p h) k = more p (each-append h k)
+total-same rule f g all-none = refl
+total-same rule f g (all-more {x = c} {xs = cs} e h) = rw (e, total-same rule f g h)
 
 -- a list of the same changes keeps what holds of each
-pub each-reordered : {P : Change → Type 0} {xs ys : List Change} → Reordered xs ys → Each P xs → Each P ys
-each-reordered same h = h
-each-reordered (next r) (more p h) = more p (each-reordered r h)
-each-reordered swap (more p (more q h)) = more q (more p h)
-each-reordered (then r s) h = each-reordered s (each-reordered r h)
+pub all-reordered : {P : Change → Type 0} {xs ys : List Change} → Reordered xs ys → All P xs → All P ys
+all-reordered same h = h
+all-reordered (next r) (all-more p h) = all-more p (all-reordered r h)
+all-reordered swap (all-more p (all-more q h)) = all-more q (all-more p h)
+all-reordered (then r s) h = all-reordered s (all-reordered r h)
 
 module _ {_⊕_ : Pair → Pair → Pair} (L : Lawful _⊕_) where
   infixl 60 _⊕_

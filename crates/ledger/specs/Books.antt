@@ -24,11 +24,6 @@ items-onto w (c ∷ cs) items = items-onto w cs (item-of w c ∷ items)
 unfoldable pub items-of : ℕ → List Change → List Item
 items-of w cs = items-onto w cs []
 
--- each change of a list
-pub data Each (P : Change → Type 0) : List Change → Type 0 where
-  none : Each P []
-  more : {c : Change} {cs : List Change} → P c → Each P cs → Each P (c ∷ cs)
-
 -- "A span [s, e) has s < e ≤ END."
 abbrev pub Spanned : Change → Type 0
 Spanned c = span-ok (c .s) (c .e) ≡ true

@@ -1,32 +1,19 @@
 -- What a fit length and a fit head give. Assumes nothing.
-use Prim.Native.Nat.{ℕ, _*_, _≤_, _<_}
+use Prim.Native.Nat.{ℕ, _*_, _<_}
 use mathlib.Core.Path.{_≡_, refl}
-use mathlib.Core.Bool.{Bool, true, false, cond, and-eq-true-iff}
+use mathlib.Core.Bool.{Bool, true, false, cond}
 use mathlib.Core.List.{List}
 use native.Mathlib.Omega.{arith}
 use lib.ListN.{length}
-use borrow.Author.Tests.{eqb-true, leb-true}
 use Rattle.fields.proofs.Laws.Parts.{length-part}
 use Rattle.page.specs.declared.Head.{Head}
 use Rattle.page.specs.Layout.{head-of}
 use Rattle.page.specs.Fit.{head-fit}
-use Rattle.fit.proofs.Laws.Heads.{Ranges, head-fit-is}
+use Rattle.fit.proofs.Laws.Heads.{Ranges, fit-ranges}
 use Rattle.image.specs.Images.{page-at, pages-in, length-ok}
+use Rattle.image.proofs.Sizes.{sized}
 use Rattle.lent.specs.declared.Opening.the-variants.{Fit, Unfit}
 use Rattle.lent.specs.Opened.{Within, Opened, opening}
-
--- the image's length is that of n pages, n in range
-pub record Sized (img : List ℕ) : Type 0 where
-  pub ok : length-ok 12 img ≡ true
-  pub size : length img ≡ 512 * pages-in 12 img
-  pub least : 2 ≤ pages-in 12 img
-  pub most : pages-in 12 img ≤ 1024
-
-pub sized : (img : List ℕ) → length-ok 12 img ≡ true → Sized img
-unfolding length-ok
-sized img ok =
-    let k = simp and-eq-true-iff at ok in
-    record { ok = ok; size = eqb-true _ _ (k .0); least = leb-true _ _ (k .1 .0); most = leb-true _ _ (k .1 .1) }
 
 -- a page that lies in the image has its 512 bytes
 pub page-length : (img : List ℕ) (p : ℕ) → Within img p → length (page-at 12 img p) ≡ 512
@@ -69,10 +56,10 @@ module _ (img : List ℕ) where
 -- what is known of an image that was opened
 module _ {img : List ℕ} {h : Head} (o : Opened img h) where
   pub opened-ranges : Ranges (pages-in 12 img) h
-  opened-ranges = rw (o .shown) (head-fit-is 12 (pages-in 12 img) (page-at 12 img 0) .0 (o .fit) .ranges)
+  opened-ranges = rw (o .shown) (fit-ranges 12 (pages-in 12 img) (page-at 12 img 0) (o .fit))
 
   pub opened-size : length img ≡ 512 * h .pages
-  opened-size = omega (arith, sized img (o .whole) .size, opened-ranges .pages)
+  opened-size = omega (arith, sized 12 img (o .whole) .size, opened-ranges .pages-is)
 
   -- every page that its head counts lies in it
   pub opened-within : (p : ℕ) → p < h .pages → Within img p

@@ -13,7 +13,7 @@ ghost use mathlib.Core.Bool.{true};
 ghost use Prim.Native.Nat.{_*_, _≤_};
 ghost use lib.ListN.{length};
 ghost use Rattle.fields.specs.Bytes.{patch};
-ghost use Rattle.page.specs.Layout.{joined};
+ghost use Rattle.lists.specs.Lists.{joined};
 ghost use Rattle.image.specs.Listing.{walk-over, join, run-bytes};
 ghost use Rattle.runs.specs.Open.{no-run};
 ghost use Rattle.lent.specs.Opened.{Opened};

@@ -12,7 +12,7 @@ use mir.Val.{toZ, ofZ, SFits}
 use mir.Facts.{toZ-ofZ}
 use borrow.Author.Tests.{ltb-true, not-true}
 use Rattle.io.specs.Counts.{clamped}
-use Rattle.edit.proofs.Moved.{Moved}
+use Rattle.libc.specs.Io.{Moved}
 use Rattle.fields.specs.Bytes.{part}
 use Rattle.fields.proofs.Laws.Parts.{part-patch-same}
 use Rattle.rule.specs.Time.{END}

@@ -18,7 +18,7 @@ ghost use Prim.Native.Nat.{_≤_};
 ghost use mathlib.Core.Path.{_≡_};
 ghost use mathlib.Core.Bool.{true, false};
 ghost use lib.ListN.{length, take};
-ghost use Rattle.edit.proofs.Moved.{Moved};
+ghost use Rattle.libc.specs.Io.{Moved};
 ghost use Rattle.luwbook.specs.Reached.{Printed, Standing, Ran, Takes, Well, Ends};
 
 // How much is read at once.

@@ -1,27 +1,26 @@
 -- From an entry of a sound image to the page below: what may be read there, and where the count goes on. Assumes nothing.
 use Prim.Native.Nat.{ℕ, zero, suc, _+_, _*_, _-_, _≤_, _<_}
 use mathlib.Core.Path.{_≡_, refl, sym, ap, _∙_, subst⁻¹}
-use mathlib.Core.Bool.{Bool, true, false, cond, and-eq-true-iff}
+use mathlib.Core.Bool.{Bool, true, false, cond}
 use mathlib.Core.List.{List}
 use native.Mathlib.Omega.{arith}
 use lib.Dec.{eqb, leb}
 use lib.ListN.{length}
 use borrow.Author.Tests.{eq-eqb, ne-eqb}
 use Rattle.page.specs.declared.Entry.{Entry}
-use Rattle.page.specs.declared.Head.{Head}
 use Rattle.page.specs.Entries.{at as entry-in, place}
 use Rattle.page.specs.Layout.{capacity, level-of, number-of, start-at, entry-at, entries-of}
-use Rattle.page.specs.Fit.{Place, place-below, page-fit, most-height}
+use Rattle.page.specs.Fit.{place-below, most-height}
 use Rattle.page.proofs.Laws.Trees.{length-entries-of, at-entries-of}
-use Rattle.fit.proofs.Laws.Pages.{PageFit, page-fit-is, entry-first}
+use Rattle.fit.proofs.Laws.Pages.{PageFit, entry-first}
 use Rattle.image.specs.Images.{Image, tree, entries-in, page-at, image-of}
-use Rattle.image.specs.Sound.{tree-fit}
-use Rattle.audit.proofs.Tree.{tree-parts}
-use Rattle.lookup.proofs.Laws.Finds.{place-within, place-started}
+use Rattle.soundness.proofs.Tree.{tree-parts}
+use Rattle.page.proofs.Laws.Places.{place-within, place-started}
 use Rattle.store.specs.declared.Found.{Found}
 use Rattle.store.specs.Holding.{Some-level, Each-level}
 use Rattle.store.specs.Ready.{Searchable, found-in}
 use Rattle.store.proofs.Holding.{holds-length}
+use Rattle.soundness.proofs.Tree.{tree-top}
 use Rattle.steps.specs.Supply.{entries}
 use Rattle.image.proofs.Cells.{cell-tree}
 use Rattle.needs.specs.declared.Need.{Need}
@@ -31,15 +30,9 @@ use Rattle.needs.proofs.Counts.{settle-adds}
 
 -- ---- a page
 
-top-fit : (h : Head) (img : List ℕ) (l : ℕ) (at : Place) (p : ℕ) → tree-fit 12 h img l at p ≡ true
-    → page-fit 12 h at (page-at 12 img p) ≡ true
-unfolding tree-fit
-top-fit h img zero at p e = e
-top-fit h img (suc l) at p e = (simp and-eq-true-iff at e) .0
-
 module _ {img : List ℕ} {t l p : ℕ} (k : Fit-from img t l p) where
   page-is-fit : PageFit 12 (k .head) (k .at) (page-at 12 img p)
-  page-is-fit = page-fit-is 12 (k .head) (k .at) (page-at 12 img p) .0 (top-fit (k .head) img l (k .at) p (k .fit))
+  page-is-fit = tree-top 12 (k .head) img l (k .at) p (k .fit)
 
   entries-read : entries (image-of 12 img) p ≡ entries-of 12 (page-at 12 img p)
   unfolding entries image-of entries-in

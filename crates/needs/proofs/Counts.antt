@@ -10,7 +10,8 @@ use lib.Seq.{getD-append-seam}
 use borrow.Author.Tests.{eqb-true, eqb-false, eq-eqb, ne-eqb, leb-false, le-leb, lt-leb}
 use Rattle.page.specs.declared.Entry.{Entry}
 use Rattle.page.specs.Layout.{capacity}
-use Rattle.page.specs.Entries.{entry, place, splice}
+use Rattle.page.specs.Entries.{entry, place}
+use Rattle.lists.specs.Lists.{splice}
 use Rattle.tree.specs.Tree.{Ent, Kid, Ents, no-ent, bare}
 use Rattle.tree.specs.Supply.{Supply, without-next}
 use Rattle.tree.specs.Cut.{Cutting, cut-leaf, kept, split, settled, cut-ent}
@@ -19,7 +20,8 @@ use Rattle.tree.proofs.Seg.{seg-one, seg-append, seg-part, seg-lt, seg-head}
 use Rattle.tree.proofs.Find.{Found, found, find}
 use Rattle.tree.proofs.Splice.{splice-at}
 use Rattle.view.proofs.Ways.{there}
-use Rattle.view.proofs.Taking.{later, later-more}
+use Rattle.tree.specs.Counts.{later}
+use Rattle.tree.proofs.Conservation.Supply.{later-more}
 use Rattle.needs.specs.declared.Need.{Need}
 use Rattle.needs.specs.Needs.{need, together, leaf-need, settle}
 use Rattle.needs.proofs.Rows.{Row, row}

@@ -9,7 +9,7 @@ use Rattle.fields.proofs.Laws.Digits.{bytes-part}
 use Rattle.page.proofs.Laws.Heads.{head-of-fits}
 use Rattle.image.specs.Images.{page-at, image-of}
 use Rattle.image.specs.Sound.{sound}
-use Rattle.audit.proofs.Sound.{Sound-facts, sound-facts}
+use Rattle.soundness.proofs.Sound.{Sound-facts, sound-facts}
 use Rattle.state.proofs.From.Canonical.{canonical, canonical-kept}
 use Rattle.state.proofs.From.Good.{pages-range}
 use Rattle.store.specs.Holding.{Holds}

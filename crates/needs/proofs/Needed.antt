@@ -27,7 +27,8 @@ use Rattle.tree.proofs.Seg.{le-or-lt}
 use Rattle.tree.proofs.Shapes.{Cuttable, Parts, leaf-cuttable}
 use Rattle.tree.proofs.Cut.{cut-formed}
 use Rattle.view.specs.View.{Shows, Supplied, Shown, Once, Stocked, Full}
-use Rattle.view.proofs.Taking.{later, taken-is}
+use Rattle.tree.specs.Counts.{later}
+use Rattle.view.proofs.Taking.{taken-is}
 use Rattle.view.proofs.Ways.{there, entries-are, at-bare, shows-on, stocked-on}
 use Rattle.view.proofs.Stepped.{once-after}
 use Rattle.view.proofs.Cut.{cut-is}

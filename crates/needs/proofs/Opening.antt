@@ -1,12 +1,11 @@
 -- The count from the root of a sound image. Assumes nothing.
 use Prim.Native.Nat.{ℕ, zero, suc, _+_, _*_, _-_, _≤_, _<_}
 use mathlib.Core.Path.{_≡_, refl, sym, ap, _∙_, subst, subst⁻¹}
-use mathlib.Core.Bool.{Bool, true, false, cond, and-eq-true-iff}
+use mathlib.Core.Bool.{Bool, true, false, cond}
 use mathlib.Core.List.{List}
 use native.Mathlib.Omega.{arith}
 use lib.Dec.{leb, ltb}
-use lib.ListN.{length}
-use borrow.Author.Tests.{eqb-true, le-leb, lt-leb}
+use borrow.Author.Tests.{le-leb, lt-leb}
 use Rattle.fields.specs.Bytes.{Bytes}
 use Rattle.rule.specs.Time.{END}
 use Rattle.rule.specs.Pairs.{none}
@@ -14,9 +13,10 @@ use Rattle.page.specs.declared.Entry.{Entry}
 use Rattle.page.specs.declared.Head.{Head}
 use Rattle.page.specs.Entries.{entry}
 use Rattle.page.specs.Fit.{root-place}
-use Rattle.image.specs.Images.{Image, pages-in, length-ok, image-of}
-use Rattle.audit.proofs.Fitness.{Head-facts}
-use Rattle.audit.proofs.Sound.{the-head, Fit-image, sound-facts}
+use Rattle.image.specs.Images.{Image, pages-in, image-of}
+use Rattle.fit.proofs.Laws.Heads.{Ranges}
+use Rattle.image.proofs.Sizes.{sized}
+use Rattle.soundness.proofs.Sound.{the-head, Fit-image, sound-facts}
 use Rattle.steps.specs.Cut.{root-entry}
 use Rattle.steps.specs.Change.{lacks-pages}
 use Rattle.needs.specs.declared.Need.{Need}
@@ -35,16 +35,12 @@ leads-from img t (suc l) e h k =
     let d : suc l - 1 ≡ l = omega arith in
     subst (λ n. Fit-from img t n (e .child)) d k
 
-length-is : (img : List ℕ) → length-ok 12 img ≡ true → length img ≡ 512 * pages-in 12 img
-unfolding length-ok
-length-is img ok = eqb-true _ _ ((simp and-eq-true-iff at ok) .0)
-
 module _ {img : List ℕ} {h : Head} (o : Sound-image img h) where
   facts : Fit-image 12 img
   facts = sound-facts 12 img (o .sound) .fit
 
-  pub head-is : Head-facts (pages-in 12 img) h
-  head-is = subst⁻¹ (Head-facts (pages-in 12 img)) (o .shown) (facts .head)
+  pub head-is : Ranges (pages-in 12 img) h
+  head-is = subst⁻¹ (Ranges (pages-in 12 img)) (o .shown) (facts .head)
 
   root-leads : Bytes img → (t : ℕ) → Leads img t (h .height) (entry 0 none (h .root))
   unfolding root-place
@@ -55,7 +51,7 @@ module _ {img : List ℕ} {h : Head} (o : Sound-image img h) where
       (record {
         head = the-head 12 img;
         at = root-place (the-head 12 img);
-        size = length-is img (f .whole) ∙ ap (λ n. 512 * n) (sym (f .head .pages-is));
+        size = sized 12 img (f .whole) .size ∙ ap (λ n. 512 * n) (sym (f .head .pages-is));
         holds = sound-holds img bytes (o .sound);
         least = f .head .root-least;
         inside = omega (arith, f .head .root-below, f .head .pages-is);

@@ -15,7 +15,8 @@ use Rattle.tree.specs.Shape.{Asked, Formed}
 use Rattle.tree.proofs.Shapes.{Cuttable}
 use Rattle.tree.proofs.Cut.{cut-formed, cut-past}
 use Rattle.view.proofs.Ways.{there}
-use Rattle.view.proofs.Taking.{later, later-more, later-add}
+use Rattle.tree.specs.Counts.{later}
+use Rattle.tree.proofs.Conservation.Supply.{later-more, later-add}
 use Rattle.needs.specs.declared.Need.{Need}
 use Rattle.needs.specs.Needs.{need, together, settle, with-new-root}
 use Rattle.needs.proofs.Rows.{there-one}

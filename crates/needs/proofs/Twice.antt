@@ -11,7 +11,8 @@ use lib.ListN.{length, getD, take, drop, length-take, length-drop}
 use lib.Seq.{getD-append-seam}
 use borrow.Author.Tests.{eqb-false, eq-eqb, ne-eqb, leb-true, leb-false}
 use Rattle.page.specs.Layout.{capacity}
-use Rattle.page.specs.Entries.{entry, at, place, splice}
+use Rattle.page.specs.Entries.{entry, at, place}
+use Rattle.lists.specs.Lists.{splice}
 use Rattle.tree.specs.Tree.{Ent, Kid, Ents, no-ent, bare, ent-of}
 use Rattle.tree.specs.Supply.{Supply, next-page}
 use Rattle.tree.specs.Cut.{kept, split, cut-leaf, cut-ent}

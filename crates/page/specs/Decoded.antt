@@ -7,7 +7,8 @@ use lib.IntN.{pos}
 use Rattle.page.specs.declared.Entry.{Entry}
 use Rattle.page.specs.declared.Page.{Page}
 use Rattle.page.specs.Entries.{entry}
-use Rattle.page.specs.Layout.{capacity, level-of, number-of, listed, entries-of}
+use Rattle.page.specs.Layout.{capacity, level-of, number-of, entries-of}
+use Rattle.lists.specs.Lists.{listed}
 
 -- the i-th place of the four arrays
 unfoldable pub shown-at : Page → ℕ → Entry

@@ -4,6 +4,7 @@ use mathlib.Core.Bool.{cond}
 use mathlib.Core.List.{List, [], _∷_, _++_, map}
 use lib.ListN.{getD, take, drop}
 use lib.Dec.{leb}
+unfoldable pub use Rattle.lists.specs.Lists.{splice}
 use Rattle.rule.specs.declared.Pair.{Pair}
 use Rattle.rule.specs.Pairs.{none}
 use Rattle.page.specs.declared.Entry.{Entry}
@@ -27,10 +28,6 @@ last-from t i found (e ∷ es) = last-from t (suc i) (cond (leb (e .start) t) i 
 
 unfoldable pub place : ℕ → List Entry → ℕ
 place t es = last-from t 0 0 es
-
--- xs in the place of the i-th entry
-unfoldable pub splice : {A : Type 0} → ℕ → List A → List A → List A
-splice i xs es = take i es ++ (xs ++ drop (suc i) es)
 
 -- e as the i-th entry, those from there on behind it
 unfoldable pub inserted : {A : Type 0} → ℕ → A → List A → List A

@@ -1,9 +1,10 @@
 -- Document 01, "The page": where the numbers of a page stand, over half the capacity of a page, which is 12. Assumes nothing.
-use Prim.Native.Nat.{ℕ, zero, suc, _+_, _*_, _-_, min}
+use Prim.Native.Nat.{ℕ, _+_, _*_, _-_, min}
 use mathlib.Core.Bool.{Bool, _&&_}
 use mathlib.Core.List.{List, [], _∷_, _++_}
 use lib.ListN.{length}
 use lib.Dec.{eqb}
+unfoldable pub use Rattle.lists.specs.Lists.{listed, joined}
 use Rattle.rule.specs.declared.Pair.{Pair}
 use Rattle.fields.specs.Bytes.{part, patch, unused, all-are}
 use Rattle.fields.specs.Numbers.{u32-at, i32-at, i64-at, u32-bytes, i32-bytes, i64-bytes}
@@ -34,11 +35,6 @@ level-of s = u32-at s 0
 unfoldable pub number-of : List ℕ → ℕ
 number-of s = u32-at s 4
 
--- the list of the values of f below n
-unfoldable pub listed : {A : Type 0} → ℕ → (ℕ → A) → List A
-listed zero f = []
-listed (suc n) f = listed n f ++ (f n ∷ [])
-
 unfoldable pub start-at : List ℕ → ℕ → ℕ
 start-at s i = u32-at s (start-place i)
 
@@ -66,10 +62,6 @@ unused-ok half s =
     && all-are 255 (part s (entry-place half n) (16 * past)))
 
 -- Writing a tree page
-
-unfoldable pub joined : {A : Type 0} → (A → List ℕ) → List A → List ℕ
-joined f [] = []
-joined f (x ∷ xs) = f x ++ joined f xs
 
 unfoldable pub entry-bytes : Entry → List ℕ
 entry-bytes e = i64-bytes (e .pair .sum) ++ (i32-bytes (e .pair .count) ++ u32-bytes (e .child))

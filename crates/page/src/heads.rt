@@ -21,7 +21,8 @@ ghost use Prim.Native.Nat.{_+_, _≤_};
 ghost use lib.ListN.{length};
 ghost use Rattle.fields.specs.Bytes.{patch};
 ghost use Rattle.fields.specs.Numbers.{u32-bytes};
-ghost use Rattle.page.specs.Layout.{joined, head-of, head-bytes};
+ghost use Rattle.lists.specs.Lists.{joined};
+ghost use Rattle.page.specs.Layout.{head-of, head-bytes};
 
 // The head's numbers.
 pub fn read_head(s: &[u8]) -> Head

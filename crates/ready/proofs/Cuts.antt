@@ -6,6 +6,7 @@ use mathlib.Core.List.{List, [], _∷_}
 use native.Mathlib.Omega.{arith}
 use lib.ListN.{length, length-map}
 use borrow.Author.Tests.{ne-eqb, lt-leb}
+use Rattle.lists.proofs.Edits.{length-splice}
 use Rattle.rule.specs.Time.{END}
 use Rattle.rule.specs.Pairs.{none, combine}
 use Rattle.page.specs.declared.Entry.{Entry}
@@ -13,7 +14,7 @@ use Rattle.page.specs.Fit.{most-height}
 use Rattle.page.specs.Layout.{capacity}
 use Rattle.page.specs.Entries.{entry, place}
 use Rattle.image.specs.Images.{Image}
-use Rattle.image.specs.Sound.{times}
+use Rattle.lists.specs.Lists.{times}
 use Rattle.steps.specs.Supply.{entries}
 use Rattle.steps.specs.Cut.{Cutting as CuttingX, cut-entry, root-entry, cut as cut-x}
 use Rattle.steps.specs.Change.{cut-names}
@@ -24,8 +25,7 @@ use Rattle.tree.specs.Supply.{Supply, without-next}
 use Rattle.tree.specs.Cut.{Cutting, kept, split, settled, cut-ent, State, root-ent, grown, cut}
 use Rattle.tree.specs.Shape.{Leaf}
 use Rattle.tree.specs.Held.{times-spare}
-use Rattle.held.proofs.Sums.{length-splice}
-use Rattle.held.proofs.Cut.{inner, inner-ents, cut-case}
+use Rattle.tree.proofs.Conservation.Cut.{inner, inner-ents, cut-case}
 use Rattle.view.specs.View.{Supplied, Stocked, Full}
 use Rattle.view.proofs.Taking.{firsts, later-held}
 use Rattle.view.proofs.Stepped.{Stepped, steady-of, held-is}

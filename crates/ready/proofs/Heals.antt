@@ -9,13 +9,18 @@ use lib.Dec.{eqb, ltb}
 use lib.ListN.{length, length-map}
 use lib.IntN.{natAbs}
 use borrow.Author.Tests.{ltb-true}
+use Rattle.lists.specs.Lists.{All, all-none, all-more, hit}
+use Rattle.lists.proofs.Choices.{cond-one}
+use Rattle.lists.proofs.All.{all-splice, all-weaken, all-at}
+use Rattle.lists.proofs.Totals.{hit-self}
 use Rattle.rule.specs.declared.Pair.{Pair}
 use Rattle.rule.specs.Pairs.{combine}
 use Rattle.rule.specs.Time.{END, most-value}
 use Rattle.rule.specs.Bounds.{Combinable}
 use Rattle.page.specs.declared.Entry.{Entry}
 use Rattle.page.specs.declared.Head.{Head}
-use Rattle.page.specs.Entries.{at, place, splice}
+use Rattle.page.specs.Entries.{at, place}
+use Rattle.lists.specs.Lists.{splice}
 use Rattle.page.specs.Fit.{most-changes}
 use Rattle.image.specs.Images.{Image}
 use Rattle.steps.specs.Supply.{entries, with-supply}
@@ -26,12 +31,11 @@ use Rattle.tree.specs.Tree.{Ent, Kid, Ents, no-ent, bare}
 use Rattle.tree.specs.Supply.{Supply, with-page}
 use Rattle.tree.specs.Cut.{State, root-ent}
 use Rattle.tree.specs.Heal.{Healing, turn, heal-ents}
-use Rattle.tree.specs.Held.{All, all-none, all-more, Within}
-use Rattle.held.proofs.Places.{all-splice, all-weaken}
-use Rattle.held.proofs.Bounds.{ents-within}
-use Rattle.held.proofs.Measures.{sums-bounded, counts-bounded, values-bounded}
+use Rattle.tree.specs.Held.{Within}
+use Rattle.tree.proofs.Conservation.Bounds.{ents-within}
+use Rattle.tree.proofs.Conservation.Measures.{sums-bounded, counts-bounded, values-bounded}
 use Rattle.view.specs.View.{Shows, Supplied}
-use Rattle.view.proofs.Lists.{cond-one, ent-at, all-at, hit, hit-self}
+use Rattle.view.proofs.Below.{ent-at}
 use Rattle.view.proofs.Moves.{lasting}
 use Rattle.view.proofs.Ways.{bare-same, entries-are, kids-shown, at-bare, there, has-place, from-root}
 use Rattle.view.proofs.Stepped.{steady-of}

@@ -5,14 +5,14 @@ use mathlib.Core.Bool.{Bool, true, false}
 use native.Mathlib.Omega.{arith}
 use lib.Dec.{eqb}
 use lib.IntN.{natAbs}
+use Rattle.lists.specs.Lists.{All}
+use Rattle.lists.proofs.All.{all-weaken}
 use Rattle.rule.specs.declared.Pair.{Pair}
 use Rattle.rule.specs.Time.{most-value}
 use Rattle.rule.specs.Bounds.{value-or-none, Effective, Combinable}
 use Rattle.rule.proofs.Laws.{values-combinable}
 use Rattle.page.specs.Fit.{most-changes}
 use Rattle.tree.specs.Tree.{Ent, Kid}
-use Rattle.tree.specs.Held.{All}
-use Rattle.held.proofs.Places.{all-weaken}
 use Rattle.state.proofs.To.Weights.{Weighed, weighed-below, sum-here, count-here, value-here}
 
 -- Two pairs that are met together in an index of this kind after so many changes and one more: for kind 1 their absolute values add to

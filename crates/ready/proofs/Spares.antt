@@ -5,14 +5,15 @@ use mathlib.Core.List.{List}
 use native.Mathlib.Omega.{arith}
 use native.Mathlib.Decide.{decLe}
 use lib.ListN.{length}
+use Rattle.lists.specs.Lists.{hit}
+use Rattle.lists.proofs.Totals.{hit-self}
 use Rattle.image.specs.Images.{Image, Cell}
 use Rattle.steps.specs.Supply.{spare}
 use Rattle.store.specs.Ready.{Free, Takable}
 use Rattle.tree.specs.Supply.{Supply, next-page, without-next}
 use Rattle.tree.specs.Held.{times-spare}
-use Rattle.held.proofs.Taken.{one-less}
+use Rattle.tree.proofs.Conservation.Supply.{one-less}
 use Rattle.view.specs.View.{Linked, ends, leads, Supplied}
-use Rattle.view.proofs.Lists.{hit, hit-self}
 use Rattle.view.proofs.Moves.{spare-from, spare-next, spare-is}
 
 -- A count by which no page is there twice, and the head isn't.

@@ -5,6 +5,9 @@ use mathlib.Core.Bool.{cond}
 use mathlib.Core.List.{List, [], _∷_}
 use native.Mathlib.Omega.{arith}
 use lib.IntN.{natAbs}
+use Rattle.lists.specs.Lists.{All}
+use Rattle.lists.proofs.All.{all-head, all-tail}
+use Rattle.lists.proofs.Totals.{hit-self}
 use Rattle.rule.specs.declared.Pair.{Pair}
 use Rattle.rule.specs.Pairs.{combine}
 use Rattle.rule.specs.Bounds.{Effective, Combinable}
@@ -13,7 +16,7 @@ use Rattle.page.specs.declared.Entry.{Entry}
 use Rattle.page.specs.declared.Head.{Head}
 use Rattle.page.specs.Fit.{most-changes}
 use Rattle.image.specs.Images.{Image, tree}
-use Rattle.image.specs.Sound.{times}
+use Rattle.lists.specs.Lists.{times}
 use Rattle.steps.specs.Supply.{entries}
 use Rattle.steps.specs.Spread.{start-of, sent}
 use Rattle.spread.specs.declared.Task.{Task}
@@ -21,9 +24,9 @@ use Rattle.spread.specs.Spreadable.{inside-by, meets-by, below-by, sent-by, Ent
 use Rattle.tree.specs.Tree.{Ent, Kid, Ents, bare, pages-under}
 use Rattle.tree.specs.Cut.{State, root-ent}
 use Rattle.tree.specs.Spread.{spread-ent}
-use Rattle.tree.specs.Held.{All, times-below}
+use Rattle.tree.specs.Held.{times-below}
 use Rattle.view.specs.View.{Shows}
-use Rattle.view.proofs.Lists.{hit-self, all-head, all-tail, under-suc, below-cons}
+use Rattle.view.proofs.Below.{under-suc, below-cons}
 use Rattle.view.proofs.Moves.{all-shows}
 use Rattle.view.proofs.Stepped.{once-is}
 use Rattle.view.proofs.Ways.{entries-are, kids-shown}

@@ -5,22 +5,25 @@ use mathlib.Core.List.{List}
 use native.Mathlib.Omega.{arith}
 use lib.ListN.{length}
 use lib.IntN.{natAbs}
+use Rattle.lists.specs.Lists.{All}
+use Rattle.lists.proofs.All.{all-at}
+use Rattle.lists.proofs.Totals.{hit-self}
 use Rattle.rule.specs.Time.{END}
 use Rattle.page.specs.declared.Entry.{Entry}
 use Rattle.page.specs.Entries.{place}
 use Rattle.image.specs.Images.{Image, tree}
-use Rattle.image.specs.Sound.{times}
+use Rattle.lists.specs.Lists.{times}
 use Rattle.steps.specs.Supply.{entries}
 use Rattle.store.specs.Ready.{In-image, Searchable}
 use Rattle.tree.specs.Tree.{Ent, Kid, no-ent, bare, pages-under, ent-of}
 use Rattle.tree.specs.Supply.{Supply}
 use Rattle.tree.specs.Cut.{State, root-ent}
 use Rattle.tree.specs.Shape.{Seg, Shaped, Leaf}
-use Rattle.tree.specs.Held.{All, times-spare}
+use Rattle.tree.specs.Held.{times-spare}
 use Rattle.tree.proofs.Seg.{seg-lt}
 use Rattle.tree.proofs.Find.{Has, find-ent}
 use Rattle.view.specs.View.{Shows, Once, Stocked, Full}
-use Rattle.view.proofs.Lists.{ent-at, all-at, hit-self, under-suc, below-at}
+use Rattle.view.proofs.Below.{ent-at, under-suc, below-at}
 use Rattle.view.proofs.Ways.{entries-are, there, has-place, stocked-on, shows-on}
 use Rattle.view.proofs.Stepped.{held-is, once-is}
 use Rattle.view.proofs.Formed.{formed-full}

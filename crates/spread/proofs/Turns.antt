@@ -7,16 +7,17 @@ use lib.ListN.{length, drop, length-append, length-take, length-drop}
 use lib.Seq.{take-at, drop-at, getD-at}
 use Rattle.page.specs.declared.Entry.{Entry}
 use Rattle.page.specs.declared.Page.{Page}
-use Rattle.page.specs.Entries.{at, splice, no-entry}
+use Rattle.page.specs.Entries.{at, no-entry}
+use Rattle.lists.specs.Lists.{splice}
 use Rattle.page.specs.Decoded.{shown}
 use Rattle.image.specs.Images.{Image, tree}
 use Rattle.steps.specs.Supply.{entries, put}
 use Rattle.steps.specs.Spread.{Spreading, start-of, spread-entries}
 use Rattle.edit.specs.Shows.{Shows}
 use Rattle.edit.proofs.Edits.{shows-number, shows-as, shows-then}
-use Rattle.edit.proofs.Places.{shown-length}
 use Rattle.store.specs.Holding.{Holds, Some, Each, Each-level, Loaded}
 use Rattle.store.specs.Ready.{In-image, Tree-page}
+use Rattle.page.proofs.Laws.Decoded.{length-shown}
 use Rattle.store.proofs.Holding.{holds-length}
 use Rattle.spread.specs.declared.Task.{Task}
 use Rattle.spread.specs.Spreadable.{took-by, page-by, sent-by, Takes, Entries-spreadable, Below-spreadable, Page-spreadable}
@@ -151,7 +152,7 @@ replaced-number : (page : Page) (y : Entry) {page′ : Page} {l i : ℕ} → i <
     → page′ .number ≡ page .number
 unfolding splice
 replaced-number page y {i = i} l s =
-    shows-number s ∙ simp (length-append, length-take, length-drop, shown-length page) (omega arith)
+    shows-number s ∙ simp (length-append, length-take, length-drop, length-shown page) (omega arith)
 
 module _ (q : Task) (level hi p : ℕ) where
   -- After i entries of the page: so it goes for every image that the bytes held.

@@ -27,7 +27,7 @@ use Rattle.tree.specs.Change.{cuts, change}
 use Rattle.tree.specs.Held.{held}
 use Rattle.tree.proofs.Shapes.{leaf-cuttable, leaf-pairless, leaf-joinable}
 use Rattle.tree.proofs.Change.{change-pairs}
-use Rattle.view.proofs.Lists.{times-cons}
+use Rattle.lists.proofs.Times.{times-cons}
 use Rattle.view.proofs.Stepped.{Steady, Stepped, then, absent}
 use Rattle.state.specs.Good.{Structure, Good}
 use Rattle.state.proofs.Steps.{counted-keeps, cut-step, cut-keeps, spread-step, spread-keeps, heal-step, heal-keeps, marks-fit}

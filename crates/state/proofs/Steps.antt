@@ -29,10 +29,10 @@ use Rattle.tree.proofs.Shapes.{leaf-cuttable, leaf-pairless, leaf-joinable, for
 use Rattle.tree.proofs.Cut.{cut-formed}
 use Rattle.tree.proofs.Spread.{spread-formed}
 use Rattle.tree.proofs.Heal.{heal-formed}
-use Rattle.held.proofs.Bounds.{within-more, cut-within, spread-within, heal-within}
-use Rattle.held.proofs.Measures.{sums-bounded, counts-bounded, values-bounded}
-use Rattle.held.proofs.Taken.{taken-both, taken-number, taken-fits, cut-takes}
-use Rattle.held.proofs.Given.{heal-gives}
+use Rattle.tree.proofs.Conservation.Bounds.{within-more, cut-within, spread-within, heal-within}
+use Rattle.tree.proofs.Conservation.Measures.{sums-bounded, counts-bounded, values-bounded}
+use Rattle.tree.proofs.Conservation.Taken.{taken-both, taken-number, taken-fits, cut-takes}
+use Rattle.tree.proofs.Conservation.Given.{heal-gives}
 use Rattle.view.specs.View.{Full}
 use Rattle.view.proofs.Stepped.{Stepped, once-after, counted-shown}
 use Rattle.view.proofs.Cut.{cut-is}

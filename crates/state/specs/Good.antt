@@ -5,6 +5,7 @@ use mathlib.Core.Path.{_≡_}
 use mathlib.Core.Bool.{true, false}
 use lib.Dec.{eqb}
 use lib.IntN.{natAbs}
+use Rattle.lists.specs.Lists.{All}
 use Rattle.rule.specs.declared.Pair.{Pair}
 use Rattle.rule.specs.Time.{most-value, kind-ok, window-ok}
 use Rattle.rule.specs.Bounds.{value-or-none}
@@ -14,7 +15,7 @@ use Rattle.image.specs.Images.{Image}
 use Rattle.tree.specs.Tree.{Tree}
 use Rattle.tree.specs.Cut.{State}
 use Rattle.tree.specs.Shape.{Formed, Leaf}
-use Rattle.tree.specs.Held.{All, Within, held}
+use Rattle.tree.specs.Held.{Within, held}
 use Rattle.view.specs.View.{Shown}
 
 -- nothing is asked of a pair by itself

@@ -3,7 +3,8 @@ use mathlib.Core.Path.{refl}
 use Rattle.steps.specs.Cases.{Cases}
 use Rattle.rule.specs.Time.{span-ok, value-ok, kind-ok, window-ok, lengthened, covers, overlaps}
 use Rattle.rule.specs.Pairs.{same-number, same-pair, added, greater, lesser, better, combine}
-use Rattle.page.specs.Entries.{last-from, place, splice, inserted, push}
+use Rattle.page.specs.Entries.{last-from, place, inserted, push}
+use Rattle.lists.specs.Lists.{splice}
 use Rattle.image.specs.Images.{page-at, pages-in, length-ok, entries-in, next-in, cell-of, cell-bytes, image-of, image-bytes, fresh-page, fresh}
 use Rattle.steps.specs.Supply.{entries, put, with-supply, spare, taken, given-back, spares, pages-taken, with-root, counted}
 use Rattle.steps.specs.Cut.{cut-leaf-entry, kept, split, settled, cut-entry, root-entry, raised, grown, cut}

@@ -7,7 +7,8 @@ use lib.Dec.{eqb, leb}
 use Rattle.rule.specs.Pairs.{none}
 use Rattle.rule.specs.Time.{END}
 use Rattle.page.specs.declared.Entry.{Entry}
-use Rattle.page.specs.Entries.{entry, at, place, splice}
+use Rattle.page.specs.Entries.{entry, at, place}
+use Rattle.lists.specs.Lists.{splice}
 use Rattle.page.specs.Layout.{capacity}
 use Rattle.image.specs.Images.{Image, tree}
 use Rattle.steps.specs.Supply.{entries, put, spare, taken, with-root}

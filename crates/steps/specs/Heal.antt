@@ -7,7 +7,8 @@ use lib.Dec.{eqb, ltb}
 use Rattle.rule.specs.declared.Pair.{Pair}
 use Rattle.rule.specs.Pairs.{none, same-pair}
 use Rattle.page.specs.declared.Entry.{Entry}
-use Rattle.page.specs.Entries.{entry, at, place, splice, push}
+use Rattle.page.specs.Entries.{entry, at, place, push}
+use Rattle.lists.specs.Lists.{splice}
 use Rattle.image.specs.Images.{Image, tree}
 use Rattle.steps.specs.Supply.{entries, put, given-back, with-root}
 

@@ -17,7 +17,7 @@ use Rattle.page.specs.Decoded.{shown-at, shown}
 use Rattle.page.specs.Widths.{Entry-fits, Entries-fit}
 use Rattle.page.proofs.Page.{the-type}
 use Rattle.page.proofs.Laws.Entries.{no-entry-fits}
-use Rattle.page.proofs.Laws.Listed.{listed-each}
+use Rattle.lists.proofs.Listed.{listed-each}
 
 -- what an array's type says of each element, and what holds of what stands past the end, holds at every place
 module _ {A B : Type 0} (to : A → B) (own : B → List Val → Fml) (P : A → Type 0)

@@ -14,7 +14,8 @@ use Rattle.rule.specs.Pairs.{none, Lawful}
 use Rattle.rule.specs.Time.{END}
 use Rattle.page.specs.declared.Entry.{Entry}
 use Rattle.page.specs.Layout.{capacity}
-use Rattle.page.specs.Entries.{entry, place, splice}
+use Rattle.page.specs.Entries.{entry, place}
+use Rattle.lists.specs.Lists.{splice}
 use Rattle.tree.specs.Tree.{Ent, Kid, Ents, no-ent, bare, Tree, pair-in, pair-at}
 use Rattle.tree.specs.Supply.{Supply}
 use Rattle.tree.specs.Cut.{cut-leaf, kept, split, settled, cut-ent, State, root-ent, grown, cut}

@@ -7,12 +7,19 @@ use mathlib.Core.List.{List, _∷_, _++_}
 use native.Mathlib.Omega.{arith}
 use native.Mathlib.Nat.{zero-add}
 use lib.Dec.{leb}
-use lib.ListN.{length, getD}
+use lib.ListN.{length, getD, length-map}
 use lib.Seq.{getD-append-seam}
 use Rattle.page.specs.Entries.{last-from, place}
+use Rattle.page.proofs.Laws.Places.{place-in}
 use Rattle.tree.specs.Tree.{Ent, Kid, Ents, no-ent, bare, ent-of}
 use Rattle.tree.specs.Shape.{Asked, Seg, done, more}
 use Rattle.tree.proofs.Seg.{le-or-lt, from-yes, from-no, seg-le}
+
+-- the entry that has t is one of the list
+pub place-inside : {A : Type 0} (t : ℕ) (es : List (Ent A)) → 1 ≤ length es → place t (bare es) < length es
+place-inside t es h =
+    let n : length (bare es) ≡ length es = length-map es (λ x. x .entry) in
+    omega (arith, place-in t (bare es) (omega arith))
 
 -- The entry that has t, at the place i; past the end it is the last one.
 pub data Found {A : Type 0} (Q : Asked A) (t : ℕ) : ℕ → ℕ → List (Ent A) → ℕ → Type 0 where

@@ -12,18 +12,19 @@ use borrow.Author.Tests.{ltb-true, ltb-false}
 use Rattle.rule.specs.declared.Pair.{Pair}
 use Rattle.rule.specs.Pairs.{same-pair, Lawful}
 use Rattle.rule.specs.Time.{END}
-use Rattle.tree.specs.Heal.{both}
+use Rattle.rule.proofs.Tests.{both}
 use Rattle.rule.proofs.Laws.{same-pair-is}
 use Rattle.page.specs.declared.Entry.{Entry}
 use Rattle.page.specs.Layout.{capacity}
-use Rattle.page.specs.Entries.{at, place, splice}
+use Rattle.page.specs.Entries.{at, place}
+use Rattle.lists.specs.Lists.{splice}
 use Rattle.steps.specs.Heal.{heals}
 use Rattle.tree.specs.Tree.{Ent, Kid, Ents, no-ent, bare, Tree, pair-in, pair-at}
 use Rattle.tree.specs.Supply.{Supply}
 use Rattle.tree.specs.Cut.{State}
 use Rattle.tree.specs.Heal.{Healing, turn, heal-ents, shrunk, heal}
 use Rattle.tree.specs.Shape.{Asked, Seg, done, more, Filled, Shaped, Formed, root-least}
-use Rattle.tree.proofs.Seg.{seg-some, seg-append}
+use Rattle.tree.proofs.Seg.{seg-some, seg-append, least-two}
 use Rattle.tree.proofs.Find.{Found, found, find, Beside, first, next, beside}
 use Rattle.tree.proofs.Splice.{splice-at, splice-next}
 use Rattle.tree.proofs.Same.{Same, with-kid, same-refl, same-trans, same-within, same-one, same-leaf, same-pair-in, pair-in-one}
@@ -137,11 +138,6 @@ module _ (half : ℕ) (B : Asked (Kid 0)) (joins : Joinable B) (_⊕_ : Pair →
       go (found {x = x} {ys = ys} before e lt q behind le after) = leaf-gone x (beside x ys before) e lt q behind
 
 -- ---- by the level
-
-least-two : (l : ℕ) → root-least l ≤ 2
-unfolding root-least
-least-two zero = omega arith
-least-two (suc l) = omega arith
 
 not-one : (n : ℕ) → eqb (suc (suc n)) 1 ≡ false
 not-one n = eqb·suc-suc (suc n) 0 ∙ eqb·suc-zero n

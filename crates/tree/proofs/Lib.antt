@@ -11,3 +11,4 @@ pub mod Push
 pub mod Turn
 pub mod Heal
 pub mod Change
+pub mod Conservation

@@ -8,10 +8,11 @@ use native.Mathlib.Omega.{arith}
 use lib.Dec.{leb}
 use lib.ListN.{length, take, drop}
 use borrow.Author.Tests.{leb-true, leb-false, le-leb, lt-leb}
+use Rattle.lists.specs.Lists.{All, all-none, all-more}
 use Rattle.page.specs.Entries.{at}
 use Rattle.steps.specs.Spread.{start-of}
 use Rattle.tree.specs.Tree.{Ent, bare}
-use Rattle.tree.specs.Shape.{Asked, Seg, done, more}
+use Rattle.tree.specs.Shape.{Asked, Seg, done, more, root-least}
 
 pub le-or-lt : (a b : ℕ) → (a ≤ b) ⊎ (b < a)
 le-or-lt a b = go (leb a b) refl
@@ -75,3 +76,20 @@ pub seg-map : {A : Type 0} {Q R : Asked A} {lo hi : ℕ} {es : List (Ent A)}
 seg-map f done = done
 seg-map {lo} {hi} f (more {mid} {x} e lt q r) =
     more e lt (f lo mid x (omega arith) (omega (arith, seg-le r)) q) (seg-map (λ a b y l h. f a b y (omega arith) h) r)
+
+-- what holds of each entry within its bounds
+pub seg-all : {A : Type 0} {Q : Asked A} {R : Ent A → Type 0} {lo hi : ℕ} {es : List (Ent A)}
+    → ((a b : ℕ) (x : Ent A) → Q a b x → R x) → Seg Q lo hi es → All R es
+seg-all f done = all-none
+seg-all f (more {lo} {mid} {x = x} e lt q r) = all-more (f lo mid x q) (seg-all f r)
+
+-- a root has an entry, and need not have three
+pub least-one : (l : ℕ) → 1 ≤ root-least l
+unfolding root-least
+least-one zero = omega arith
+least-one (suc l) = omega arith
+
+pub least-two : (l : ℕ) → root-least l ≤ 2
+unfolding root-least
+least-two zero = omega arith
+least-two (suc l) = omega arith

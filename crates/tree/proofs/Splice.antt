@@ -3,7 +3,7 @@ use Prim.Native.Nat.{suc}
 use mathlib.Core.Path.{_≡_, refl, ap}
 use mathlib.Core.List.{List, [], _∷_, _++_}
 use lib.ListN.{length, getD}
-use Rattle.page.specs.Entries.{splice}
+use Rattle.lists.specs.Lists.{splice}
 
 module _ {A : Type 0} where
   pub splice-at : (xs : List A) (x : A) (ys zs : List A) → splice (length xs) zs (xs ++ x ∷ ys) ≡ xs ++ (zs ++ ys)

@@ -11,8 +11,7 @@ use borrow.Author.Tests.{leb-true, le-leb, ltb-true, lt-ltb}
 use Rattle.rule.specs.declared.Pair.{Pair}
 use Rattle.rule.specs.Pairs.{none, Lawful}
 use Rattle.rule.specs.Time.{END, covers, overlaps}
-use Rattle.tree.specs.Heal.{both}
-use Rattle.fit.proofs.Tests.{fails}
+use Rattle.rule.proofs.Tests.{both, fails}
 use Rattle.rule.proofs.Window.{covers-is}
 use Rattle.page.specs.Entries.{entry}
 use Rattle.steps.specs.Spread.{inside, start-of, took}

@@ -13,7 +13,8 @@ use Rattle.rule.specs.declared.Pair.{Pair}
 use Rattle.rule.specs.Pairs.{none, Lawful}
 use Rattle.page.specs.declared.Entry.{Entry}
 use Rattle.page.specs.Layout.{capacity}
-use Rattle.page.specs.Entries.{entry, at, splice}
+use Rattle.page.specs.Entries.{entry, at}
+use Rattle.lists.specs.Lists.{splice}
 use Rattle.steps.specs.Heal.{neighbour, left-of}
 use Rattle.tree.specs.Tree.{Ent, Kid, Ents, no-ent, bare, pair-in}
 use Rattle.tree.specs.Supply.{Supply, with-page}
@@ -115,7 +116,7 @@ module _ (half : ℕ) (_⊕_ : Pair → Pair → Pair) (l : ℕ) (pre : Ents (su
 
 -- ---- the short page and its neighbour
 
-neighbour-next : (n : ℕ) → neighbour (suc n) ≡ n
+pub neighbour-next : (n : ℕ) → neighbour (suc n) ≡ n
 unfolding neighbour
 neighbour-next n = ap (λ z. cond z 1 (suc n - 1)) (eqb·suc-zero n) ∙ omega arith
 

@@ -6,7 +6,8 @@ use lib.ListN.{length, take, drop, getD}
 use lib.Dec.{eqb, leb}
 use Rattle.rule.specs.Pairs.{none}
 use Rattle.rule.specs.Time.{END}
-use Rattle.page.specs.Entries.{entry, at, place, splice}
+use Rattle.page.specs.Entries.{entry, at, place}
+use Rattle.lists.specs.Lists.{splice}
 use Rattle.page.specs.Layout.{capacity}
 use Rattle.tree.specs.Tree.{Ent, Kid, no-ent, bare, Tree}
 use Rattle.tree.specs.Supply.{Supply, next-page, without-next}

@@ -6,7 +6,8 @@ use lib.ListN.{length, take, drop, getD}
 use lib.Dec.{eqb, ltb}
 use Rattle.rule.specs.declared.Pair.{Pair}
 use Rattle.rule.specs.Pairs.{none}
-use Rattle.page.specs.Entries.{entry, at, place, splice}
+use Rattle.page.specs.Entries.{entry, at, place}
+use Rattle.lists.specs.Lists.{splice}
 use Rattle.steps.specs.Heal.{heals, neighbour, left-of}
 use Rattle.tree.specs.Tree.{Ent, Kid, Ents, no-ent, bare}
 use Rattle.tree.specs.Supply.{Supply, with-page}

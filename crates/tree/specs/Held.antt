@@ -3,18 +3,19 @@
 use Prim.Native.Nat.{ℕ, zero, suc, _+_, _≤_}
 use mathlib.Core.Path.{_≡_}
 use mathlib.Core.Bool.{cond}
-use mathlib.Core.List.{List, [], _∷_}
+use mathlib.Core.List.{[], _∷_}
 use lib.Dec.{leb}
 use Rattle.rule.specs.declared.Pair.{Pair}
 use Rattle.rule.specs.Pairs.{none}
-use Rattle.image.specs.Sound.{times}
-use Rattle.tree.specs.Tree.{Ent, Kid, Ents, over, pages-under}
+use Rattle.lists.specs.Lists.{times}
+use Rattle.tree.specs.Tree.{Ent, Kid, Ents, pages-under}
+use Rattle.lists.specs.Lists.{joined, All}
 use Rattle.tree.specs.Supply.{Supply}
 use Rattle.tree.specs.Cut.{State}
 
 -- how often a list of entries has page p below it
 unfoldable pub times-below : (l : ℕ) → ℕ → Ents l → ℕ
-times-below l p es = times p (over (λ x. pages-under l x) es)
+times-below l p es = times p (joined (λ x. pages-under l x) es)
 
 -- how often a supply has page p: in the chain, or once from the high mark on
 unfoldable pub times-spare : ℕ → Supply → ℕ
@@ -31,11 +32,6 @@ pub record Bounded (_⊕_ : Pair → Pair → Pair) (norm : Pair → ℕ) (Each 
   pub norm-sum : (p q : Pair) → norm (_⊕_ p q) ≤ norm p + norm q
   pub each-none : Each none
   pub each-sum : (p q : Pair) → Each p → Each q → Each (_⊕_ p q)
-
--- Q of each entry
-pub data All {A : Type 0} (Q : Ent A → Type 0) : List (Ent A) → Type 0 where
-  all-none : All Q []
-  all-more : {x : Ent A} {xs : List (Ent A)} → Q x → All Q xs → All Q (x ∷ xs)
 
 module _ (norm : Pair → ℕ) (Each : Pair → Type 0) (most : ℕ) where
   -- each pair from here down is Each, and with the measures of the pairs above they add to no more than most on any way

@@ -6,3 +6,4 @@ pub mod Heal
 pub mod Change
 pub mod Shape
 pub mod Held
+pub mod Counts

@@ -1,8 +1,9 @@
 -- The tree that an image shows: every page with the pages below it. A means of proof: no statement of document 01 speaks of it.
 -- Assumes nothing.
 use Prim.Native.Nat.{ℕ, zero, suc}
-use mathlib.Core.List.{List, [], _∷_, _++_, map}
+use mathlib.Core.List.{List, [], _∷_, map}
 use lib.ListN.{getD}
+use Rattle.lists.specs.Lists.{joined}
 use Rattle.rule.specs.declared.Pair.{Pair}
 use Rattle.page.specs.declared.Entry.{Entry}
 use Rattle.page.specs.Entries.{no-entry, place}
@@ -47,15 +48,10 @@ module _ (_⊕_ : Pair → Pair → Pair) where
   unfoldable pub pair-in : (l : ℕ) → ℕ → Ents l → Pair
   pair-in l t es = pair-under l t (ent-of l t es)
 
--- the pages of all entries of a list, one after the other
-unfoldable pub over : {A : Type 0} → (A → List ℕ) → List A → List ℕ
-over f [] = []
-over f (x ∷ xs) = f x ++ over f xs
-
 -- the pages below an entry: its child, and those below that; none below a leaf's
 unfoldable pub pages-under : (l : ℕ) → Ent (Kid l) → List ℕ
 pages-under zero x = []
-pages-under (suc l) x = x .entry .child ∷ over (λ y. pages-under l y) (x .kid)
+pages-under (suc l) x = x .entry .child ∷ joined (λ y. pages-under l y) (x .kid)
 
 -- A whole tree: the level and number of the root page, and its entries.
 pub record Tree : Type 0 where

@@ -8,14 +8,21 @@ use native.Mathlib.Omega.{arith}
 use lib.Dec.{eqb, leb}
 use lib.ListN.{length, take, drop, length-map}
 use borrow.Author.Tests.{eqb-true, eq-eqb, ne-eqb, leb-true, leb-false}
+use Rattle.lists.specs.Lists.{All, all-none, all-more, hit}
+use Rattle.lists.proofs.Choices.{cond-both}
+use Rattle.lists.proofs.Edits.{map-splice}
+use Rattle.lists.proofs.All.{all-at}
+use Rattle.lists.proofs.Totals.{hit-self}
+use Rattle.lists.proofs.Times.{times-cons, times-append}
 use Rattle.rule.specs.declared.Pair.{Pair}
 use Rattle.rule.specs.Pairs.{none}
 use Rattle.rule.specs.Time.{END}
 use Rattle.page.specs.declared.Entry.{Entry}
 use Rattle.page.specs.declared.Head.{Head}
-use Rattle.page.specs.Entries.{entry, at, place, splice}
+use Rattle.page.specs.Entries.{entry, at, place}
+use Rattle.lists.specs.Lists.{splice}
 use Rattle.image.specs.Images.{Image, tree}
-use Rattle.image.specs.Sound.{times}
+use Rattle.lists.specs.Lists.{times}
 use Rattle.steps.specs.Supply.{put, taken, spares, pages-taken, with-supply, with-root}
 use Rattle.steps.specs.Cut.{Cutting as CuttingX, cut-leaf-entry, settled as settled-x, cut-entry, root-entry, raised, grown as grown-x, cut as cut-x}
 use Rattle.steps.specs.Change.{way, cut-names}
@@ -23,11 +30,13 @@ use Rattle.steps.proofs.Supply.{put-head, rooted-page, rooted-height, rooted-ro
 use Rattle.tree.specs.Tree.{Ent, Kid, Ents, bare, pages-under}
 use Rattle.tree.specs.Supply.{Supply, next-page, without-next}
 use Rattle.tree.specs.Cut.{Cutting, cut-leaf, kept, settled, cut-ent, State, root-ent, grown, cut}
-use Rattle.tree.specs.Held.{times-below, times-spare, All, all-none, all-more, held}
+use Rattle.tree.specs.Held.{times-below, times-spare, held}
 use Rattle.view.specs.View.{Shows, Supplied, Shown, Once, Stocked, Full}
-use Rattle.view.proofs.Lists.{below-leaf, cond-both, map-splice, all-at, hit, hit-self, times-cons, times-append, under-zero, under-suc, below-one, below-at, below-splice}
+use Rattle.view.proofs.Below.{below-leaf, under-zero, under-suc, below-one, below-at, below-splice}
 use Rattle.view.proofs.Moves.{leaves-shown, Frame, put-else, rooted-supplied, put-shows, splice-shown, lasting, put-supplied, spare-next, spare-is, taken-supplied, taken-lasting}
-use Rattle.view.proofs.Taking.{firsts, later, firsts-none, firsts-more, later-more, later-held, later-add, firsts-add, spares-are, taken-is}
+use Rattle.tree.specs.Counts.{later}
+use Rattle.tree.proofs.Conservation.Supply.{later-more, later-add}
+use Rattle.view.proofs.Taking.{firsts, firsts-none, firsts-more, later-held, firsts-add, spares-are, taken-is}
 use Rattle.view.proofs.Settle.{Grew, settles}
 use Rattle.view.proofs.Stepped.{state, Steady, Stepped, steady-of, steady-then, held-is, once-is}
 use Rattle.view.proofs.Ways.{way-held, kids-shown, bare-same, there, way-top, way-past, entries-are, at-bare, has-place, stocked-on, shows-on, way-in, way-below}

@@ -1,49 +1,29 @@
 -- What the bridge asks of a tree holds of every tree as sound images have it. Assumes nothing.
 use Prim.Native.Nat.{ℕ, zero, suc, _≤_}
-use mathlib.Core.List.{List}
 use native.Mathlib.Omega.{arith}
 use Rattle.tree.specs.Tree.{Ent, Kid}
 use Rattle.tree.specs.Cut.{State, root-ent}
-use Rattle.tree.specs.Shape.{Seg, done, more, Shaped, root-least, Formed}
-use Rattle.tree.specs.Held.{All, all-none, all-more}
+use Rattle.tree.specs.Shape.{Shaped, Formed}
+use Rattle.tree.proofs.Seg.{seg-all, seg-map, least-two}
 use Rattle.view.specs.View.{Stocked, Full, Ordered, Gapless}
-
-seg-all : {A : Type 0} {Q : ℕ → ℕ → Ent A → Type 0} (P : Ent A → Type 0) → ((a b : ℕ) (x : Ent A) → Q a b x → P x)
-    → {lo hi : ℕ} {es : List (Ent A)}
-    → Seg Q lo hi es
-    → All P es
-seg-all P f done = all-none
-seg-all P f (more {lo} {mid} {hi} {x} e k q r) = all-more (f lo mid x q) (seg-all P f r)
-
-seg-map : {A : Type 0} {Q P : ℕ → ℕ → Ent A → Type 0} → ((a b : ℕ) (x : Ent A) → Q a b x → P a b x)
-    → {lo hi : ℕ} {es : List (Ent A)}
-    → Seg Q lo hi es
-    → Seg P lo hi es
-seg-map f done = done
-seg-map f (more {lo} {mid} {hi} {x} e k q r) = more e k (f lo mid x q) (seg-map f r)
-
-least-two : (l : ℕ) → root-least l ≤ 2
-unfolding root-least
-least-two zero = omega arith
-least-two (suc l) = omega arith
 
 module _ (half : ℕ) (B : ℕ → ℕ → Ent (Kid 0) → Type 0) where
   shaped-stocked : 2 ≤ half → (l lo hi : ℕ) (x : Ent (Kid l)) → Shaped half B l lo hi x → Stocked l x
   unfolding Shaped Stocked
   shaped-stocked two zero lo hi x s = tt
   shaped-stocked two (suc l) lo hi x s =
-      (omega (arith, least-two l, s .0 .least), seg-all (λ y. Stocked l y) (λ a b y t. shaped-stocked two l a b y t) (s .1))
+      (omega (arith, least-two l, s .0 .least), seg-all (λ a b y t. shaped-stocked two l a b y t) (s .1))
 
   shaped-ordered : (l lo hi : ℕ) (x : Ent (Kid l)) → Shaped half B l lo hi x → Ordered l lo hi x
   unfolding Shaped Ordered
   shaped-ordered zero lo hi x s = tt
-  shaped-ordered (suc l) lo hi x s = seg-map (λ a b y t. shaped-ordered l a b y t) (s .1)
+  shaped-ordered (suc l) lo hi x s = seg-map (λ a b y _ _ t. shaped-ordered l a b y t) (s .1)
 
   pub formed-full : 2 ≤ half → (Y : State) → Formed half B (Y .tree) → Full Y
   unfolding Full Stocked root-ent
   formed-full two Y f =
-      (f .least, seg-all (λ y. Stocked (Y .tree .level) y) (λ a b y t. shaped-stocked two (Y .tree .level) a b y t) (f .spans))
+      (f .least, seg-all (λ a b y t. shaped-stocked two (Y .tree .level) a b y t) (f .spans))
 
   pub formed-gapless : (Y : State) → Formed half B (Y .tree) → Gapless Y
   unfolding Gapless Ordered root-ent
-  formed-gapless Y f = seg-map (λ a b y t. shaped-ordered (Y .tree .level) a b y t) (f .spans)
+  formed-gapless Y f = seg-map (λ a b y _ _ t. shaped-ordered (Y .tree .level) a b y t) (f .spans)

@@ -8,13 +8,19 @@ use native.Mathlib.Omega.{arith}
 use lib.Dec.{leb, ltb}
 use lib.ListN.{length, take, drop, length-map}
 use borrow.Author.Tests.{leb-true}
+use Rattle.lists.specs.Lists.{all-none, all-more, hit}
+use Rattle.lists.proofs.Choices.{cond-both, cond-one}
+use Rattle.lists.proofs.Edits.{map-splice}
+use Rattle.lists.proofs.Totals.{hit-self}
+use Rattle.lists.proofs.Times.{times-cons, times-none, times-append}
 use Rattle.rule.specs.declared.Pair.{Pair}
 use Rattle.rule.specs.Time.{END}
 use Rattle.page.specs.declared.Entry.{Entry}
 use Rattle.page.specs.declared.Head.{Head}
-use Rattle.page.specs.Entries.{entry, at, place, splice}
+use Rattle.page.specs.Entries.{entry, at, place}
+use Rattle.lists.specs.Lists.{splice}
 use Rattle.image.specs.Images.{Image, tree}
-use Rattle.image.specs.Sound.{times}
+use Rattle.lists.specs.Lists.{times}
 use Rattle.steps.specs.Supply.{put, with-supply}
 use Rattle.steps.specs.Heal.{heals, short, neighbour, left-of, shrunk as shrunk-x, turn as turn-x, heal-page, heal as heal-x}
 use Rattle.steps.specs.Change.{way-from, way, turned-to, heal-names}
@@ -24,9 +30,9 @@ use Rattle.tree.specs.Supply.{Supply}
 use Rattle.tree.specs.Cut.{State, root-ent}
 use Rattle.tree.specs.Shape.{Asked, root-least, Formed}
 use Rattle.tree.specs.Heal.{Healing, turn, heal-ents, shrunk, heal}
-use Rattle.tree.specs.Held.{times-below, times-spare, all-none, all-more, held}
+use Rattle.tree.specs.Held.{times-below, times-spare, held}
 use Rattle.view.specs.View.{Shows, Supplied, Shown, Once, Stocked, Full}
-use Rattle.view.proofs.Lists.{below-leaf, ent-at, cond-both, cond-one, map-splice, hit, hit-self, times-cons, times-none, times-append, under-suc, below-one, below-at, below-two, below-splice}
+use Rattle.view.proofs.Below.{below-leaf, ent-at, under-suc, below-one, below-at, below-two, below-splice}
 use Rattle.view.proofs.Moves.{leaves-shown, put-else, put-shows, splice-shown, lasting, put-supplied}
 use Rattle.view.proofs.Ways.{bare-same, from-root, entries-are, at-bare, there, has-place, stocked-on, shows-on, way-in, way-down}
 use Rattle.view.proofs.Stepped.{state, Stepped, steady-of, steady-then, held-is, once-is}

@@ -1,4 +1,4 @@
-pub mod Lists
+pub mod Below
 pub mod Moves
 pub mod Taking
 pub mod Ways

@@ -1,24 +1,28 @@
 -- What a write of a page leaves of what an image shows: what is below an entry, and the supply. Assumes nothing.
 use Prim.Native.Nat.{ℕ, zero, suc, _+_, _≤_}
 use mathlib.Core.Path.{_≡_, refl, sym, ap, _∙_, subst}
-use mathlib.Core.Bool.{Bool, true, false, cond}
 use mathlib.Core.List.{List, [], _∷_}
 use native.Mathlib.Omega.{arith}
-use lib.Dec.{eqb, leb}
+use lib.Dec.{eqb}
 use lib.ListN.{take, drop}
-use borrow.Author.Tests.{eq-eqb, ne-eqb, eqb-true, eqb-false, le-leb, leb-true, leb-false}
+use borrow.Author.Tests.{eq-eqb, ne-eqb, le-leb}
+use Rattle.lists.specs.Lists.{joined, All, all-none, all-more, hit}
+use Rattle.lists.proofs.Choices.{cond-one}
+use Rattle.lists.proofs.All.{all-append, all-take, all-drop}
+use Rattle.lists.proofs.Totals.{hit-self, hit-not, hit-from}
+use Rattle.lists.proofs.Times.{times-cons, times-none}
 use Rattle.page.specs.declared.Entry.{Entry}
 use Rattle.page.specs.declared.Head.{Head}
-use Rattle.page.specs.Entries.{splice}
+use Rattle.lists.specs.Lists.{splice}
 use Rattle.image.specs.Images.{Image, Cell, tree, free, next-in}
-use Rattle.image.specs.Sound.{times}
+use Rattle.lists.specs.Lists.{times}
 use Rattle.steps.specs.Supply.{put, with-supply, spare, taken, given-back, with-root}
 use Rattle.steps.proofs.Supply.{put-at, put-head}
-use Rattle.tree.specs.Tree.{Ent, Kid, Ents, bare, over, pages-under}
+use Rattle.tree.specs.Tree.{Ent, Kid, Ents, bare, pages-under}
 use Rattle.tree.specs.Supply.{Supply, next-page, without-next, with-page}
-use Rattle.tree.specs.Held.{times-below, times-spare, All, all-none, all-more}
+use Rattle.tree.specs.Held.{times-below, times-spare}
 use Rattle.view.specs.View.{Shows, Linked, ends, leads, Supplied}
-use Rattle.view.proofs.Lists.{cond-one, all-append, all-take, all-drop, hit, hit-self, hit-not, times-cons, times-none, under-suc, below-cons}
+use Rattle.view.proofs.Below.{under-suc, below-cons}
 
 -- ---- frames
 
@@ -105,7 +109,7 @@ module _ (l : ℕ) (x : Ent (Kid l)) (e : Entry) (c : e .child ≡ x .entry .chi
     where
       go : (l : ℕ) (x : Ent (Kid l)) → e .child ≡ x .entry .child → (q : ℕ) → times q (pages-under l (record { entry = e; kid = x .kid })) ≡ times q (pages-under l x)
       go zero x c q = unfold pages-under in refl
-      go (suc l) x c q = unfold pages-under in ap (λ (p : ℕ). times q (p ∷ over (λ y. pages-under l y) (x .kid))) c
+      go (suc l) x c q = unfold pages-under in ap (λ (p : ℕ). times q (p ∷ joined (λ y. pages-under l y) (x .kid))) c
 
 -- ---- the head's numbers but those on free pages
 
@@ -153,27 +157,13 @@ supplied-move {X} {X′} {S} W e frame s h =
 pub put-supplied : {X : Image} {S : Supply} (p : ℕ) (c : Cell) → Supplied X S → ((q : ℕ) → hit q p + times-spare q S ≤ 1) → Supplied (put p c X) S
 put-supplied {X} p c s h = supplied-move (λ q. hit q p) (put-head p c X) (put-else p c X) s h
 
--- from m on is m, or from the next on
-pub from-on : (q m : ℕ) → hit q m + cond (leb (suc m) q) 1 0 ≡ cond {A = ℕ} (leb m q) 1 0
-unfolding hit
-from-on q m = go (eqb q m) (leb (suc m) q) (leb m q) refl refl refl
-  where
-    go : (a b c : Bool) → eqb q m ≡ a → leb (suc m) q ≡ b → leb m q ≡ c → cond {A = ℕ} a 1 0 + cond b 1 0 ≡ cond c 1 0
-    go true true c e f g = absurd (omega (arith, eqb-true q m e, leb-true (suc m) q f))
-    go true false true e f g = refl
-    go true false false e f g = absurd (omega (arith, eqb-true q m e, leb-false m q g))
-    go false true true e f g = refl
-    go false true false e f g = absurd (omega (arith, leb-true (suc m) q f, leb-false m q g))
-    go false false true e f g = absurd (eqb-false q m e (omega (arith, leb-false (suc m) q f, leb-true m q g)))
-    go false false false e f g = refl
-
 pub spare-next : (q : ℕ) (S : Supply) → hit q (next-page S) + times-spare q (without-next S) ≡ times-spare q S
 unfolding next-page without-next times-spare
 spare-next q S = go (S .chain) (S .mark)
   where
     go : (c : List ℕ) (m : ℕ)
         → hit q (next-page (record { chain = c; mark = m })) + times-spare q (without-next (record { chain = c; mark = m })) ≡ times-spare q (record { chain = c; mark = m })
-    go [] m = omega (arith, from-on q m, times-none q)
+    go [] m = omega (arith, hit-from q m, times-none q)
     go (p ∷ ps) m = omega (arith, times-cons q p ps)
 
 linked-front : {pages : ℕ → Cell} {f p : ℕ} {ps : List ℕ} → Linked pages f (p ∷ ps) → f ≡ p

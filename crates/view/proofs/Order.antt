@@ -8,21 +8,26 @@ use mathlib.Core.List.{List, [], _∷_, _++_}
 use native.Mathlib.Omega.{arith}
 use lib.Dec.{leb, ltb}
 use borrow.Author.Tests.{leb-false, ltb-true, le-leb, lt-leb}
+use Rattle.lists.specs.Lists.{hit}
+use Rattle.lists.proofs.Choices.{cond-one}
+use Rattle.lists.proofs.Totals.{hit-is}
+use Rattle.lists.proofs.Times.{times-cons, times-none, times-append}
 use Rattle.rule.specs.declared.Pair.{Pair}
 use Rattle.rule.specs.Time.{END, overlaps}
 use Rattle.page.specs.declared.Entry.{Entry}
 use Rattle.page.specs.Entries.{last-from, place}
 use Rattle.image.specs.Images.{Image, tree}
-use Rattle.image.specs.Sound.{times}
+use Rattle.lists.specs.Lists.{times}
 use Rattle.steps.specs.Spread.{inside, start-of, took, spread as spread-x}
 use Rattle.steps.specs.Change.{way, spread-names}
 use Rattle.tree.specs.Tree.{Ent, Kid, Ents, bare}
 use Rattle.tree.specs.Shape.{Seg, done, more}
+use Rattle.tree.proofs.Seg.{seg-start, seg-le}
 use Rattle.tree.specs.Cut.{State, root-ent}
 use Rattle.tree.specs.Spread.{with-ends, spread-ent, spread}
 use Rattle.tree.proofs.Seg.{le-or-lt}
 use Rattle.view.specs.View.{Shows, Shown, Once, Ordered, Full, Gapless}
-use Rattle.view.proofs.Lists.{ent-at, cond-one, hit, hit-is, times-cons, times-none, times-append}
+use Rattle.view.proofs.Below.{ent-at}
 use Rattle.view.proofs.Ways.{there, way-in, way-top, way-within}
 use Rattle.view.proofs.Stepped.{held-is, Stepped, steady-of-same}
 use Rattle.view.proofs.Spread.{over-ends, sent-in, sent-below, entry-same, new, spread-root, spread-shown, spread-held}
@@ -55,15 +60,6 @@ module _ {A : Type 0} {Q : ℕ → ℕ → Ent A → Type 0} where
   last-some t i f g (more {lo} {mid} {hi} {x} {es} e m q r) h k =
       let b : leb (x .entry .start) t ≡ true = le-leb (x .entry .start) t (omega arith) in
       ap (λ (c : Bool). last-from t (suc i) (cond c i f) (bare es)) b ∙ sym (ap (λ (c : Bool). last-from t (suc i) (cond c i g) (bare es)) b)
-
-  seg-start : {lo hi : ℕ} {es : List (Ent A)} → Seg Q lo hi es → start-of hi (bare es) ≡ lo
-  unfolding start-of
-  seg-start done = refl
-  seg-start (more e k q r) = e
-
-  seg-le : {lo hi : ℕ} {es : List (Ent A)} → Seg Q lo hi es → lo ≤ hi
-  seg-le done = omega arith
-  seg-le (more e k q r) = let n = seg-le r in omega arith
 
 module _ (l t : ℕ) {Q : ℕ → ℕ → Ent (Kid l) → Type 0} {lo hi : ℕ} (x : Ent (Kid l)) {es : Ents l} (r : Seg Q lo hi es) where
   there-first : t < lo → there l t (x ∷ es) ≡ x

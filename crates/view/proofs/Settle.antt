@@ -5,22 +5,27 @@ use mathlib.Core.List.{[], _∷_}
 use native.Mathlib.Omega.{arith}
 use lib.Dec.{leb}
 use lib.ListN.{length, take, drop, length-map}
+use Rattle.lists.specs.Lists.{All, all-none, all-more, hit}
+use Rattle.lists.proofs.Choices.{cond-both}
+use Rattle.lists.proofs.Edits.{map-take, map-drop}
+use Rattle.lists.proofs.All.{all-take, all-drop}
 use Rattle.page.specs.declared.Entry.{Entry}
 use Rattle.page.specs.Entries.{entry, at}
 use Rattle.page.specs.Layout.{capacity}
 use Rattle.image.specs.Images.{Image, Cell, tree}
-use Rattle.image.specs.Sound.{times}
+use Rattle.lists.specs.Lists.{times}
 use Rattle.steps.specs.Supply.{put, taken}
 use Rattle.steps.specs.Cut.{Cutting as CuttingX, kept as kept-x, split as split-x, settled as settled-x}
 use Rattle.steps.proofs.Supply.{put-head, taken-page}
 use Rattle.tree.specs.Tree.{Ent, Kid, Ents, bare}
 use Rattle.tree.specs.Supply.{Supply, next-page, without-next}
 use Rattle.tree.specs.Cut.{Cutting, kept, split, settled}
-use Rattle.tree.specs.Held.{times-below, times-spare, All, all-none, all-more}
+use Rattle.tree.specs.Held.{times-below, times-spare}
 use Rattle.view.specs.View.{Shows, Supplied}
-use Rattle.view.proofs.Lists.{cond-both, map-take, map-drop, all-take, all-drop, hit, under-suc, below-cons, below-one, below-halves}
+use Rattle.view.proofs.Below.{under-suc, below-cons, below-one, below-halves}
 use Rattle.view.proofs.Moves.{Frame, put-else, shows-move, all-shows, put-shows, lasting, put-supplied, spare-next, spare-is, taken-supplied, taken-lasting}
-use Rattle.view.proofs.Taking.{firsts, later, firsts-none, firsts-more}
+use Rattle.tree.specs.Counts.{later}
+use Rattle.view.proofs.Taking.{firsts, firsts-none, firsts-more}
 
 -- What the cut of an entry does to an image and to the tree that it shows. Before counts the pages that were below the entry, W
 -- those that may be written besides pages taken.

@@ -5,12 +5,15 @@ use native.Mathlib.Omega.{arith}
 use lib.Dec.{eqb}
 use lib.ListN.{length, length-map}
 use borrow.Author.Tests.{eqb-true, lt-ltb, le-ltb}
+use Rattle.lists.specs.Lists.{hit}
+use Rattle.lists.proofs.Choices.{cond-both}
+use Rattle.lists.proofs.All.{all-at}
 use Rattle.rule.specs.declared.Pair.{Pair}
 use Rattle.rule.specs.Pairs.{none}
 use Rattle.page.specs.declared.Entry.{Entry}
 use Rattle.page.specs.Entries.{entry, at, push}
 use Rattle.image.specs.Images.{Image, tree}
-use Rattle.image.specs.Sound.{times}
+use Rattle.lists.specs.Lists.{times}
 use Rattle.steps.specs.Supply.{entries, put, given-back, with-root}
 use Rattle.steps.specs.Heal.{pushed as pushed-x, lowered, shrunk as shrunk-x}
 use Rattle.steps.proofs.Supply.{put-head}
@@ -20,7 +23,7 @@ use Rattle.tree.specs.Cut.{State, root-ent}
 use Rattle.tree.specs.Heal.{pushed, shrunk}
 use Rattle.tree.specs.Held.{times-below, times-spare, held}
 use Rattle.view.specs.View.{Shows, Supplied, Shown}
-use Rattle.view.proofs.Lists.{ent-at, cond-both, all-at, hit, under-suc, below-only}
+use Rattle.view.proofs.Below.{ent-at, under-suc, below-only}
 use Rattle.view.proofs.Moves.{Frame, put-else, shows-move, put-shows, lasting, put-supplied, given-supplied, given-else, given-lasting, spare-given, rooted-supplied}
 use Rattle.view.proofs.Ways.{entries-are, kids-shown, at-bare}
 use Rattle.view.proofs.Stepped.{state, Steady, steady-of, held-is}

@@ -4,22 +4,26 @@ use mathlib.Core.Path.{_≡_, refl, sym, ap, _∙_}
 use mathlib.Core.Bool.{Bool, true, false, cond}
 use mathlib.Core.List.{List, [], _∷_, _++_}
 use native.Mathlib.Omega.{arith}
+use Rattle.lists.specs.Lists.{All, all-none, all-more}
+use Rattle.lists.proofs.Choices.{cond-one}
+use Rattle.lists.proofs.All.{all-head, all-tail}
+use Rattle.lists.proofs.Times.{times-cons, times-none, times-append}
 use Rattle.rule.specs.declared.Pair.{Pair}
 use Rattle.rule.specs.Time.{END, overlaps}
 use Rattle.page.specs.declared.Entry.{Entry}
 use Rattle.page.specs.declared.Head.{Head}
 use Rattle.page.specs.Entries.{entry}
 use Rattle.image.specs.Images.{Image, tree}
-use Rattle.image.specs.Sound.{times}
+use Rattle.lists.specs.Lists.{times}
 use Rattle.steps.specs.Supply.{put}
 use Rattle.steps.specs.Spread.{inside, start-of, took, sent, spread-entries, spread-over, spread-page, spread as spread-x}
 use Rattle.steps.proofs.Supply.{put-head}
 use Rattle.tree.specs.Tree.{Ent, Kid, Ents, bare, pages-under}
 use Rattle.tree.specs.Cut.{State, root-ent}
 use Rattle.tree.specs.Spread.{with-ends, spread-ent, spread-ents, spread}
-use Rattle.tree.specs.Held.{times-below, All, all-none, all-more, held}
+use Rattle.tree.specs.Held.{times-below, held}
 use Rattle.view.specs.View.{Shows, Shown, Once}
-use Rattle.view.proofs.Lists.{cond-one, times-cons, times-none, times-append, under-zero, under-suc, below-cons, all-head, all-tail}
+use Rattle.view.proofs.Below.{under-zero, under-suc, below-cons}
 use Rattle.view.proofs.Moves.{Frame, put-else, shows-move, all-shows, put-shows, same-shows, same-under, supplied-move}
 use Rattle.view.proofs.Stepped.{held-is, once-is}
 use Rattle.view.proofs.Ways.{from-root, entries-are, kids-shown}

@@ -3,16 +3,20 @@ use Prim.Native.Nat.{ℕ, zero, suc, _+_, _≤_}
 use mathlib.Core.Path.{_≡_, refl, ap, _∙_}
 use mathlib.Core.List.{List, [], _∷_, _++_, List·Memᴰ, List·Memᴰ·head, List·Memᴰ·tail}
 use native.Mathlib.Omega.{arith}
+use Rattle.lists.specs.Lists.{hit}
+use Rattle.lists.proofs.Totals.{hit-is}
+use Rattle.lists.proofs.Times.{times-cons, times-none}
 use Rattle.page.specs.declared.Head.{Head}
 use Rattle.image.specs.Images.{Image}
-use Rattle.image.specs.Sound.{times}
+use Rattle.lists.specs.Lists.{times}
 use Rattle.steps.specs.Supply.{with-supply, counted}
 use Rattle.tree.specs.Tree.{Ents, pages-under}
 use Rattle.tree.specs.Supply.{Supply}
 use Rattle.tree.specs.Cut.{State, root-ent}
 use Rattle.tree.specs.Held.{times-spare, held}
 use Rattle.view.specs.View.{Shown, Once}
-use Rattle.view.proofs.Lists.{hit, hit-is, times-cons, times-none, times-append, under-suc}
+use Rattle.lists.proofs.Times.{times-append}
+use Rattle.view.proofs.Below.{under-suc}
 use Rattle.view.proofs.Moves.{Frame, lasting}
 
 abbrev pub state : (l root : ℕ) → Ents l → Supply → State

@@ -1,27 +1,25 @@
 -- Pages taken one after the other: which they are, how many, and what is left. Assumes nothing.
-use Prim.Native.Nat.{ℕ, zero, suc, _+_, _≤_}
+use Prim.Native.Nat.{ℕ, zero, suc, _+_}
 use mathlib.Core.Path.{_≡_, refl, ap, _∙_}
 use mathlib.Core.List.{List, [], _∷_}
 use native.Mathlib.Omega.{arith}
 use native.Mathlib.Nat.{zero-add, suc-add}
-use lib.ListN.{length}
+use Rattle.lists.specs.Lists.{hit}
+use Rattle.lists.proofs.Times.{times-cons, times-none}
 use Rattle.image.specs.Images.{Image}
-use Rattle.image.specs.Sound.{times}
+use Rattle.lists.specs.Lists.{times}
 use Rattle.steps.specs.Supply.{taken, spares, pages-taken}
 use Rattle.tree.specs.Supply.{Supply, next-page, without-next}
 use Rattle.tree.specs.Held.{times-spare}
+use Rattle.tree.specs.Counts.{later}
+use Rattle.tree.proofs.Conservation.Supply.{later-add, later-mark, later-length}
 use Rattle.view.specs.View.{Supplied}
-use Rattle.view.proofs.Lists.{hit, times-cons, times-none}
 use Rattle.view.proofs.Moves.{spare-next, spare-is, taken-supplied}
 
--- the first k pages that would be taken, and the supply once they are
+-- the first k pages that would be taken
 unfoldable pub firsts : ℕ → Supply → List ℕ
 firsts zero S = []
 firsts (suc k) S = next-page S ∷ firsts k (without-next S)
-
-unfoldable pub later : ℕ → Supply → Supply
-later zero S = S
-later (suc k) S = later k (without-next S)
 
 pub firsts-none : (q : ℕ) (S : Supply) → times q (firsts zero S) ≡ 0
 unfolding firsts
@@ -33,16 +31,6 @@ firsts-more q zero S = omega (arith, times-cons q (next-page S) [], times-none q
 firsts-more q (suc k) S =
     let r : times q (firsts (suc k) (without-next S)) ≡ times q (firsts k (without-next S)) + hit q (next-page (later k (without-next S))) = firsts-more q k (without-next S) in
     omega (arith, times-cons q (next-page S) (firsts (suc k) (without-next S)), times-cons q (next-page S) (firsts k (without-next S)))
-
-pub later-more : (k : ℕ) (S : Supply) → later (suc k) S ≡ without-next (later k S)
-unfolding later
-later-more zero S = refl
-later-more (suc k) S = later-more k (without-next S)
-
--- j pages more
-pub later-add : (j k : ℕ) (S : Supply) → later (j + k) S ≡ later j (later k S)
-later-add zero k S = rw (zero-add k) (unfold later in refl)
-later-add (suc j) k S = rw (suc-add j k, later-more (j + k) S, later-more j (later k S), later-add j k S)
 
 pub firsts-add : (q j k : ℕ) (S : Supply) → times q (firsts (j + k) S) ≡ times q (firsts k S) + times q (firsts j (later k S))
 firsts-add q zero k S = rw (zero-add k) (omega (arith, firsts-none q (later k S)))
@@ -64,28 +52,6 @@ spares-are zero s = refl
 spares-are (suc k) {X} {S} s =
     ap (λ (p : ℕ). p ∷ spares k (taken X)) (spare-is s) ∙ ap (λ (r : List ℕ). next-page S ∷ r) (spares-are k (taken-supplied s))
 
--- each page taken makes the chain one shorter or the high mark one higher
-record Counted (k : ℕ) (S R : Supply) : Type 0 where
-  shorter : length (R .chain) ≤ length (S .chain)
-  higher : S .mark ≤ R .mark
-  sum : length (S .chain) + R .mark ≡ length (R .chain) + S .mark + k
-
-counted-one : (S : Supply) → Counted 1 S (without-next S)
-unfolding without-next
-counted-one S = go (S .chain) (S .mark)
-  where
-    go : (c : List ℕ) (m : ℕ) → Counted 1 (record { chain = c; mark = m }) (without-next (record { chain = c; mark = m }))
-    go [] m = omega arith
-    go (p ∷ ps) m = omega arith
-
-later-counted : (k : ℕ) (S : Supply) → Counted k S (later k S)
-unfolding later
-later-counted zero S = omega arith
-later-counted (suc k) S =
-    let a : Counted 1 S (without-next S) = counted-one S in
-    let b : Counted k (without-next S) (later k (without-next S)) = later-counted k (without-next S) in
-    omega arith
-
 pub taken-is : (k : ℕ) {X Y : Image} {S : Supply} → Supplied X S → Supplied Y (later k S) → pages-taken X Y ≡ k
 unfolding pages-taken
-taken-is k {X} {Y} {S} s r = let c : Counted k S (later k S) = later-counted k S in omega (arith, s .length-true, r .length-true, s .mark, r .mark)
+taken-is k {X} {Y} {S} s r = omega (arith, s .length-true, r .length-true, s .mark, r .mark, later-length k S, later-mark k S)

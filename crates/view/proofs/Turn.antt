@@ -6,22 +6,27 @@ use mathlib.Core.List.{List, [], _∷_, _++_}
 use native.Mathlib.Omega.{arith}
 use lib.Dec.{eqb, ltb}
 use lib.ListN.{length, take, drop, length-map}
-use borrow.Author.Tests.{ne-eqb}
+use Rattle.lists.specs.Lists.{All, all-none, all-more, hit}
+use Rattle.lists.proofs.Choices.{cond-both}
+use Rattle.lists.proofs.Edits.{map-append, map-take, map-drop, map-splice, splice-two, only-first}
+use Rattle.lists.proofs.All.{all-append, all-take, all-drop, all-at}
 use Rattle.rule.specs.declared.Pair.{Pair}
 use Rattle.rule.specs.Pairs.{none}
 use Rattle.page.specs.declared.Entry.{Entry}
-use Rattle.page.specs.Entries.{entry, at, splice, push}
+use Rattle.page.specs.Entries.{entry, at, push}
+use Rattle.lists.specs.Lists.{splice}
 use Rattle.image.specs.Images.{Image, Cell, tree}
-use Rattle.image.specs.Sound.{times}
+use Rattle.lists.specs.Lists.{times}
 use Rattle.steps.specs.Supply.{entries, put, given-back}
 use Rattle.steps.specs.Heal.{neighbour, left-of, pushed as pushed-x, both as both-x, give as give-x, merge as merge-x, turn as turn-x}
 use Rattle.steps.proofs.Supply.{put-head}
 use Rattle.tree.specs.Tree.{Ent, Kid, Ents, no-ent, bare, pages-under}
 use Rattle.tree.specs.Supply.{Supply, with-page}
 use Rattle.tree.specs.Heal.{Healing, push-ents, pushed, both, emptied, give, merge, turn}
-use Rattle.tree.specs.Held.{times-below, times-spare, All, all-none, all-more}
+use Rattle.tree.proofs.Turn.{neighbour-next}
+use Rattle.tree.specs.Held.{times-below, times-spare}
 use Rattle.view.specs.View.{Shows, Supplied}
-use Rattle.view.proofs.Lists.{ent-at, cond-both, map-append, map-take, map-drop, map-splice, splice-two, only-first, all-append, all-take, all-drop, all-at, hit, under-suc, below-none, below-cons, below-one, below-append, below-halves, below-two, below-spliced}
+use Rattle.view.proofs.Below.{ent-at, under-suc, below-none, below-cons, below-one, below-append, below-halves, below-two, below-spliced}
 use Rattle.view.proofs.Moves.{Frame, put-else, shows-move, all-shows, put-shows, same-shows, same-under, lasting, put-supplied, given-supplied, given-else, given-lasting, spare-given}
 use Rattle.view.proofs.Ways.{entries-are, kids-shown, at-bare}
 
@@ -279,14 +284,10 @@ neighbour-zero : neighbour 0 ≡ 1
 unfolding neighbour
 neighbour-zero = refl
 
-neighbour-suc : (i : ℕ) → neighbour (suc i) ≡ i
-unfolding neighbour
-neighbour-suc i = rw (ne-eqb (suc i) 0 (λ e. omega arith)) (omega arith)
-
 -- the two at the left place and behind it are the i-th and its neighbour
 pub neighbours : (f : ℕ → ℕ) (i : ℕ) → f (left-of i) + f (suc (left-of i)) ≡ f i + f (neighbour i)
 neighbours f zero = rw (left-zero, neighbour-zero)
-neighbours f (suc i) = rw (left-suc i, neighbour-suc i) (omega arith)
+neighbours f (suc i) = rw (left-suc i, neighbour-next i) (omega arith)
 
 pub left-in : (i n : ℕ) → 2 ≤ n → i < n → suc (left-of i) < n
 left-in zero n h k = rw left-zero (omega arith)
@@ -294,7 +295,7 @@ left-in (suc i) n h k = rw (left-suc i) k
 
 pub neighbour-in : (i n : ℕ) → 2 ≤ n → i < n → neighbour i < n
 neighbour-in zero n h k = rw neighbour-zero (omega arith)
-neighbour-in (suc i) n h k = rw (neighbour-suc i) (omega arith)
+neighbour-in (suc i) n h k = rw (neighbour-next i) (omega arith)
 
 pub turns : (half : ℕ) (_⊕_ : Pair → Pair → Pair) (l : ℕ) (x : Ent (Kid (suc (suc l)))) (i : ℕ) (Z : Image) (R : Supply)
     → 2 ≤ length (x .kid)

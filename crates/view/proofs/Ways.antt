@@ -6,19 +6,25 @@ use native.Mathlib.Omega.{arith}
 use lib.Dec.{leb}
 use lib.ListN.{length, length-map, List·getD-map}
 use borrow.Author.Tests.{le-leb, lt-leb}
+use Rattle.lists.specs.Lists.{All}
+use Rattle.lists.proofs.Choices.{cond-one}
+use Rattle.lists.proofs.Edits.{map-splice, splice-same}
+use Rattle.lists.proofs.All.{all-at}
+use Rattle.lists.proofs.Times.{times-cons, times-none}
 use Rattle.rule.specs.Time.{END}
 use Rattle.page.specs.declared.Entry.{Entry}
-use Rattle.page.specs.Entries.{no-entry, at, place, splice}
+use Rattle.page.specs.Entries.{no-entry, at, place}
+use Rattle.lists.specs.Lists.{splice}
 use Rattle.image.specs.Images.{Image, entries-in}
-use Rattle.image.specs.Sound.{times}
+use Rattle.lists.specs.Lists.{times}
 use Rattle.steps.specs.Supply.{entries}
 use Rattle.steps.specs.Change.{way-from, way}
 use Rattle.tree.specs.Cut.{State, root-ent}
 use Rattle.tree.specs.Tree.{Ent, Kid, Ents, no-ent, bare, pages-under}
-use Rattle.tree.specs.Shape.{root-least}
-use Rattle.tree.specs.Held.{All}
+use Rattle.tree.proofs.Seg.{least-one}
+use Rattle.tree.proofs.Find.{place-inside}
 use Rattle.view.specs.View.{Shows, Shown, Stocked, Full}
-use Rattle.view.proofs.Lists.{ent-at, cond-one, map-splice, splice-same, all-at, place-in, times-cons, times-none, under-zero, under-suc, below-at}
+use Rattle.view.proofs.Below.{ent-at, under-zero, under-suc, below-at}
 
 pub entries-are : (l : ℕ) (X : Image) (x : Ent (Kid (suc l))) → Shows (suc l) (X .page) x → entries X (x .entry .child) ≡ bare (x .kid)
 unfolding Shows entries entries-in
@@ -39,11 +45,6 @@ bare-same l i zs es h e =
     ∙ ap (λ (r : List Entry). splice i r (bare es)) (e ∙ ap (λ (z : Entry). z ∷ []) (sym (at-bare l es i)))
     ∙ splice-same i (bare es) no-entry n
 
-least-one : (l : ℕ) → 1 ≤ root-least l
-unfolding root-least
-least-one zero = omega arith
-least-one (suc l) = omega arith
-
 -- the entry that has t
 abbrev pub there : (l t : ℕ) → Ents l → Ent (Kid l)
 there l t es = ent-at l es (place t (bare es))
@@ -51,10 +52,7 @@ there l t es = ent-at l es (place t (bare es))
 module _ (l t : ℕ) (x : Ent (Kid (suc l))) (k : Stocked (suc l) x) where
   pub has-place : place t (bare (x .kid)) < length (x .kid)
   unfolding Stocked
-  has-place =
-      let n : length (bare (x .kid)) ≡ length (x .kid) = length-map (x .kid) (λ y. y .entry) in
-      let h : place t (bare (x .kid)) < length (bare (x .kid)) = place-in t (bare (x .kid)) (omega (arith, least-one l, k .0)) in
-      omega arith
+  has-place = place-inside t (x .kid) (omega (arith, least-one l, k .0))
 
   pub stocked-on : Stocked l (there l t (x .kid))
   unfolding Stocked

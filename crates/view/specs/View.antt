@@ -4,13 +4,14 @@ use Prim.Native.Nat.{ℕ, zero, suc, _≤_, _<_}
 use mathlib.Core.Path.{_≡_}
 use mathlib.Core.List.{List, [], _∷_}
 use lib.ListN.{length}
+use Rattle.lists.specs.Lists.{All}
 use Rattle.image.specs.Images.{Image, Cell, tree, free, never-used}
 use Rattle.rule.specs.Time.{END}
 use Rattle.tree.specs.Tree.{Ent, Kid, bare}
 use Rattle.tree.specs.Supply.{Supply}
 use Rattle.tree.specs.Cut.{State, root-ent}
 use Rattle.tree.specs.Shape.{Seg, root-least}
-use Rattle.tree.specs.Held.{All, held}
+use Rattle.tree.specs.Held.{held}
 
 -- the pages hold what is below an entry of a page of level l
 unfoldable pub Shows : (l : ℕ) → (ℕ → Cell) → Ent (Kid l) → Type 0

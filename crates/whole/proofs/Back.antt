@@ -7,16 +7,16 @@ use native.Mathlib.Omega.{arith}
 use lib.ListN.{length, length-append}
 use mir.Syntax.{w32, w64}
 use mir.Val.{SFits}
+use Rattle.lists.specs.Lists.{All, all-none, all-more}
 use Rattle.fields.specs.Bytes.{part}
 use Rattle.fields.specs.Numbers.{u32-bytes, i32-bytes, i64-bytes}
 use Rattle.fields.proofs.Laws.Parts.{part-whole, part-part, part-append-left, part-append-right, part-middle}
 use Rattle.fields.proofs.Laws.Places.{u32, i32, i64}
-use Rattle.page.specs.Layout.{joined}
+use Rattle.lists.specs.Lists.{joined}
 use Rattle.image.specs.Listing.{Run, run-bytes}
 use Rattle.runs.proofs.Laws.Steps.{length-run-bytes}
 use Rattle.runs.proofs.Laws.Entries.{length-runs-bytes}
 use Rattle.program.specs.Listed.{run-at, runs-at}
-use Rattle.whole.proofs.Each.{Each, none, more}
 
 -- "16 bytes each: start (u32), count (i32), sum (i64)"
 pub record Fits (r : Run) : Type 0 where
@@ -73,11 +73,11 @@ module _ (s : List ℕ) (i : ℕ) (r : Run) (e : part s (16 * i) 16 ≡ run-byte
             };
       }
 
-pub runs-back : (s : List ℕ) (i : ℕ) {rs : List Run} → Each Fits rs
+pub runs-back : (s : List ℕ) (i : ℕ) {rs : List Run} → All Fits rs
     → part s (16 * i) (16 * length rs) ≡ joined run-bytes rs → runs-at s i (length rs) ≡ rs
 unfolding runs-at joined
-runs-back s i none e = refl
-runs-back s i (more {r} {rs} f fs) e =
+runs-back s i all-none e = refl
+runs-back s i (all-more {x = r} {xs = rs} f fs) e =
     let n : ℕ = 16 * length (r ∷ rs) in
     let k : ℕ = 16 * length rs in
     let rest : List ℕ = joined run-bytes rs in

@@ -16,11 +16,12 @@ use Rattle.image.specs.Images.{page-at, pages-in}
 use Rattle.image.specs.Listing.{Walked, nothing, stopped, in-turn, leaf-run, walk-page, walk, walk-over}
 use Rattle.image.specs.Sound.{tree-pages, sound}
 use Rattle.calls.specs.Calls.{runs-over}
-use Rattle.audit.proofs.Sums.{total, total-ones}
-use Rattle.audit.proofs.Times.{length-joined}
-use Rattle.audit.proofs.Sound.{the-head, sound-facts}
-use Rattle.audit.proofs.Counting.{sound-counted}
-use Rattle.answers.proofs.Few.{turn-le, picked-le, length-under, join-few}
+use Rattle.lists.specs.Lists.{total}
+use Rattle.lists.proofs.Totals.{total-ones}
+use Rattle.lists.proofs.Joined.{joined-length}
+use Rattle.soundness.proofs.Sound.{the-head, sound-facts}
+use Rattle.soundness.proofs.Counting.{sound-counted}
+use Rattle.image.proofs.Runs.{turn-le, picked-le, length-under, join-few}
 
 sum-le : (n : ℕ) (f g : ℕ → ℕ) (k m : ℕ) → ((i : ℕ) → k * f i ≤ m * g i) → k * total n f ≤ m * total n g
 unfolding total
@@ -42,7 +43,7 @@ pages-more : (img : List ℕ) (l p : ℕ)
 unfolding tree-pages entries-of entry-at
 pages-more img l p =
     ap suc
-    (length-joined (λ (e : Entry). tree-pages 12 img l (e .child)) (λ i. entry-at 12 (page-at 12 img p) i)
+    (joined-length (λ (e : Entry). tree-pages 12 img l (e .child)) (λ i. entry-at 12 (page-at 12 img p) i)
     (min (number-of (page-at 12 img p)) 24))
 
 sum-ones : (n : ℕ) → total n (λ _. 1) ≡ n

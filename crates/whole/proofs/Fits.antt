@@ -7,6 +7,8 @@ use native.Mathlib.Omega.{arith}
 use lib.Dec.{eqb}
 use lib.IntN.{natAbs}
 use borrow.Author.Tests.{eqb-true}
+use Rattle.lists.specs.Lists.{All, all-none, all-more}
+use Rattle.lists.proofs.All.{all-map}
 use Rattle.rule.specs.declared.Pair.{Pair}
 use Rattle.rule.specs.Pairs.{added, combine}
 use Rattle.rule.proofs.Signed.{natAbs-add}
@@ -20,7 +22,7 @@ use Rattle.page.specs.Fit.{Place, place-below}
 use Rattle.fit.proofs.Laws.Pages.{Total, page-fit-is}
 use Rattle.image.specs.Images.{page-at}
 use Rattle.image.specs.Listing.{Run, walk, leaf-run, under}
-use Rattle.whole.proofs.Each.{Each, none, more, each-page, each-map}
+use Rattle.whole.proofs.Each.{each-page}
 
 -- the bounds of a fit page, which its place carries down
 pub record Bound (h : Head) (at : Place) (r : Run) : Type 0 where
@@ -36,17 +38,17 @@ module _ (h : Head) (img : List ℕ) (bytes : Bytes img) (one : eqb (h .kind) 1 
   unfolding start-at page-at
   starts p i = u32 .at-fits (page-at 12 img p) (32 + 4 * i) (bytes-part img (512 * p) 512 bytes)
 
-  pub walk-bounds : (a b : ℕ) → a < 2 ^ 32 → (l : ℕ) (at : Place) (p : ℕ) → Each (Bound h at) (walk 12 h img a b l at p .runs)
+  pub walk-bounds : (a b : ℕ) → a < 2 ^ 32 → (l : ℕ) (at : Place) (p : ℕ) → All (Bound h at) (walk 12 h img a b l at p .runs)
   unfolding walk leaf-run under place-below
   walk-bounds a b lo zero at p =
       let s : List ℕ = page-at 12 img p in
       each-page 12 h a b at s _
-      (λ fit i l. more (record { start = omega (arith, starts p i); total = page-fit-is 12 h at s .0 fit .pairs i l .total one }) none)
+      (λ fit i l. all-more (record { start = omega (arith, starts p i); total = page-fit-is 12 h at s .0 fit .pairs i l .total one }) all-none)
   walk-bounds a b lo (suc l) at p =
       let s : List ℕ = page-at 12 img p in
       each-page 12 h a b at s _
       (λ fit i k.
-      each-map _
+      all-map _
       (λ (r : Run) (e : Bound h (place-below 12 s at i) r).
       record {
         start = e .start;

@@ -9,12 +9,15 @@ use lib.ListN.{length, replicate}
 use lib.Dec.{eqb}
 use mir.Syntax.{w32, w64}
 use borrow.Author.Tests.{eq-eqb}
+use Rattle.lists.specs.Lists.{All}
+use Rattle.lists.proofs.All.{all-weaken}
 use Rattle.rule.specs.Time.{END}
 use Rattle.rule.proofs.Signed.{sfits-natAbs}
 use Rattle.fields.specs.Bytes.{patch}
 use Rattle.fields.proofs.Laws.Parts.{part-patch-same}
 use Rattle.page.specs.declared.Head.{Head}
-use Rattle.page.specs.Layout.{page-size, joined}
+use Rattle.page.specs.Layout.{page-size}
+use Rattle.lists.specs.Lists.{joined}
 use Rattle.page.specs.Fit.{root-place}
 use Rattle.image.specs.Images.{pages-in}
 use Rattle.image.specs.Listing.{Run, run-bytes, walk-over}
@@ -25,7 +28,7 @@ use Rattle.calls.specs.Book.{Book, empty-book}
 use Rattle.calls.specs.Program.{Line, booking, unread, ran-line, runs-text, program}
 use Rattle.print.specs.Written.{runs-line}
 use Rattle.runs.proofs.Laws.Entries.{length-runs-bytes}
-use Rattle.audit.proofs.Sound.{the-head, sound-facts, sound-whole}
+use Rattle.soundness.proofs.Sound.{the-head, sound-facts, sound-whole}
 use Rattle.answers.proofs.Demand.{demand-1}
 use Rattle.answers.proofs.Sound.{sound-head, sound-walk}
 use Rattle.demands.proofs.Booked.{booked}
@@ -35,7 +38,7 @@ use Rattle.demands.proofs.All.{twelve}
 use Rattle.luwhenoka.proofs.Laws.Listings.{listing-0}
 use Rattle.program.specs.Going.{Going, at-first, line-run, goes, goes-on, ended, listing-text, listed-text}
 use Rattle.program.proofs.Whole.{goes-program}
-use Rattle.whole.proofs.Each.{Each, each-so, each-join}
+use Rattle.whole.proofs.Each.{each-join}
 use Rattle.whole.proofs.Fits.{Bound, walk-bounds}
 use Rattle.whole.proofs.Back.{Fits, runs-back}
 use Rattle.whole.proofs.Few.{runs-few}
@@ -98,12 +101,12 @@ reached-end g R = pick (eqb (length (g .line)) 0) (reached-run g R)
 
 -- ---- what is printed of such an image
 
-fits : {img : List ℕ} → Reached img → Each Fits (runs-over 12 0 END img)
+fits : {img : List ℕ} → Reached img → All Fits (runs-over 12 0 END img)
 unfolding runs-over walk-over head root-place
 fits {img} R =
     let h : Head = the-head 12 img in
     let most = sound-facts 12 img (R .kept .sound) .fit .head .changes-most in
-    each-so
+    all-weaken
     (λ (r : Run) (e : Bound h (root-place h) r).
     record {
       start = e .start;

@@ -6,7 +6,7 @@ use Prim.Native.Nat.{ℕ}
 use lib.ListN.{length}
 use lib.Dec.{eqb}
 use Rattle.rule.specs.Time.{END}
-use Rattle.page.specs.Layout.{joined}
+use Rattle.lists.specs.Lists.{joined}
 use Rattle.calls.specs.Calls.{listing}
 use Rattle.calls.specs.Program.{program}
 use Rattle.program.specs.Going.{Going, at-first, unwritten, line-run, goes-on, ended, listed-text}

@@ -1,10 +1,8 @@
 -- What a fit page is, fact by fact. Assumes nothing.
-use mathlib.Core.Path.{_≡_, sym, ap, _∙_}
+use mathlib.Core.Path.{_≡_, sym, _∙_}
 use mathlib.Core.Logic.{_↔_}
 use mathlib.Core.Bool.{true, false, true≢false}
-use Prim.Native.Nat.{ℕ, zero, suc, _+_, _*_, _-_, _≤_, _<_}
-use native.Mathlib.Decide.{decLt}
-use native.Mathlib.Numerals.{add-one}
+use Prim.Native.Nat.{ℕ, suc, _+_, _*_, _-_, _≤_, _<_}
 use native.Mathlib.Omega.{arith}
 use mathlib.Core.List.{List}
 use lib.Dec.{leb, ltb, eqb}
@@ -16,9 +14,9 @@ use Rattle.rule.specs.Bounds.{value-or-none}
 use Rattle.rule.proofs.Tests.{both}
 use Rattle.page.specs.declared.Head.{Head}
 use Rattle.page.specs.Layout.{capacity, level-of, number-of, start-at, pair-at, child-at, unused-ok}
-use Rattle.page.specs.Fit.{Place, end-at, fewest, starts-ok, child-ok, children-ok, pair-ok, pairs-ok, page-fit}
+use Rattle.page.specs.Fit.{Place, fewest, starts-ok, child-ok, children-ok, pair-ok, pairs-ok, page-fit}
 use Rattle.fit.proofs.Tests.{le-is, lt-is, eq-is, each-is, case-is}
-use Rattle.fit.proofs.Laws.Parts.{fewest-pos, number-is, end-next, end-last, child-leaf, child-inner, pair-total, pair-mark}
+use Rattle.fit.proofs.Laws.Parts.{fewest-pos, number-is, child-leaf, child-inner, pair-total, pair-mark}
 
 -- "an inner entry's child lies in 1 to n−1, a leaf's is 0"
 pub record Child (pages level child : ℕ) : Type 0 where
@@ -126,35 +124,6 @@ module _ (half : ℕ) (h : Head) (at : Place) (s : List ℕ) where
         λ f. parts .1 (f .level, ((f .least, f .most), ((f .first, (f .rising, f .last)), (f .unused, (f .children, f .pairs))))),
       )
 
-module _ {half : ℕ} {h : Head} {at : Place} {s : List ℕ} (fit : PageFit half h at s) (some : 1 ≤ half) where
-  -- a fit page has an entry
-  pub entry-first : 1 ≤ number-of s
-  entry-first = omega (arith, fewest-pos half at some, fit .least)
-
-  rising-by : (d i : ℕ) → i + d < number-of s → start-at s i ≤ start-at s (i + d)
-  rising-by zero i l =
-      let e : i + 0 ≡ i = omega arith in
-      omega (arith, ap (start-at s) e)
-  rising-by (suc d) i l =
-      let e : i + suc d ≡ suc (i + d) = omega arith in
-      omega (arith, ap (start-at s) e, rising-by d i (omega arith), fit .rising (i + d) (omega arith))
-
-  pub start-below : (i : ℕ) → i < number-of s → start-at s i < at .hi
-  start-below i l =
-      let e : i + (number-of s - 1 - i) ≡ number-of s - 1 = omega arith in
-      omega (arith, ap (start-at s) e, rising-by (number-of s - 1 - i) i (omega arith), fit .last)
-
-  -- an entry's span lies in its page's
-  pub end-after : (i : ℕ) → i < number-of s → start-at s i < end-at s (at .hi) i
-  end-after i l = go (decLt (i + 1) (number-of s))
-    where
-      go : Dec (i + 1 < number-of s) → start-at s i < end-at s (at .hi) i
-      go (yes m) = omega (arith, end-next s (at .hi) i m, ap (start-at s) (add-one i), fit .rising i (omega arith))
-      go (no m) = omega (arith, end-last s (at .hi) i (omega arith), start-below i l)
-
-  pub end-within : (i : ℕ) → i < number-of s → end-at s (at .hi) i ≤ at .hi
-  end-within i l = go (decLt (i + 1) (number-of s))
-    where
-      go : Dec (i + 1 < number-of s) → end-at s (at .hi) i ≤ at .hi
-      go (yes m) = omega (arith, end-next s (at .hi) i m, start-below (i + 1) m)
-      go (no m) = omega (arith, end-last s (at .hi) i (omega arith))
+-- a fit page has an entry
+pub entry-first : {half : ℕ} {h : Head} {at : Place} {s : List ℕ} → PageFit half h at s → 1 ≤ half → 1 ≤ number-of s
+entry-first {half} {at = at} fit some = omega (arith, fewest-pos half at some, fit .least)

@@ -13,7 +13,8 @@ use Rattle.page.specs.declared.Head.{Head}
 use Rattle.page.specs.Layout.{number-of, pair-at}
 use Rattle.page.specs.Fit.{Place, root-place, place-below, most-changes, most-height}
 use Rattle.fit.specs.Places.{Bounded}
-use Rattle.fit.proofs.Laws.Pages.{PageFit, end-after, end-within}
+use Rattle.fit.proofs.Laws.Pages.{PageFit}
+use Rattle.fit.proofs.Laws.Spans.{end-after, end-within}
 use Rattle.fit.proofs.Laws.Heads.{Ranges}
 
 -- What the absolute counts of n entries on a way add to at most, and their sums to a million times that.
@@ -45,7 +46,7 @@ bounded h n at c l a b =
 -- the root is under no entry
 pub root-way : (n : ℕ) (h : Head) → Ranges n h → Way h 0 (root-place h)
 unfolding root-place
-root-way n h r = record { level = omega (arith, r .height); span = record { before = omega arith; within = omega arith }; sums = omega arith; counts = omega arith }
+root-way n h r = record { level = omega (arith, r .height-most); span = record { before = omega arith; within = omega arith }; sums = omega arith; counts = omega arith }
 
 pub way-bounded : {h : Head} {n : ℕ} {at : Place} → Way h n at → h .changes ≤ most-changes → Bounded at
 way-bounded {h} {n} {at} w c = bounded h n at c (omega (arith, w .level)) (w .sums) (w .counts)
@@ -70,7 +71,7 @@ module _ {half : ℕ} {h : Head} {n : ℕ} {at : Place} {s : List ℕ} (way : Wa
   below-way v =
       record {
         level = omega (arith, way .level);
-        span = record { before = end-after fit some i l; within = omega (arith, way .span .within, end-within fit some i l) };
+        span = record { before = end-after fit i l; within = omega (arith, way .span .within, end-within fit i l) };
         sums = sums-below;
         counts = counts-below;
       }

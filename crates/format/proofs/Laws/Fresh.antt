@@ -1,38 +1,22 @@
 -- The bytes of a fresh image: the head, the root, and unused bytes. Assumes nothing.
 use mathlib.Core.Path.{_≡_, refl, sym, ap, _∙_}
-use mathlib.Core.Bool.{true, and-eq-true-iff}
 use mathlib.Core.List.{List, [], _∷_, _++_, append-assoc, append-nil}
 use Prim.Native.Nat.{ℕ, zero, suc, _+_, _-_, _*_, _≤_, _<_}
 use native.Mathlib.Nat.{mul-zero, mul-suc}
 use native.Mathlib.Omega.{arith}
 use lib.ListN.{length, length-append}
-use borrow.Author.Tests.{eqb-true, leb-true, ne-eqb}
+use borrow.Author.Tests.{ne-eqb}
 use Rattle.rule.specs.Pairs.{none}
 use Rattle.fields.specs.Bytes.{patch, unused}
 use Rattle.fields.proofs.Laws.Parts.{patch-whole, patch-patch-next}
 use Rattle.fields.proofs.Laws.Tests.{length-unused, unused-add}
 use Rattle.page.specs.Entries.{entry}
-use Rattle.page.specs.Layout.{page-size, listed, joined, tree-bytes, head-bytes}
-use Rattle.page.proofs.Laws.Joined.{joined-append, joined-one}
+use Rattle.page.specs.Layout.{page-size, tree-bytes, head-bytes}
+use Rattle.lists.specs.Lists.{listed, joined}
+use Rattle.lists.proofs.Joined.{joined-append, joined-one}
 use Rattle.page.proofs.Laws.Heads.{length-head}
 use Rattle.page.proofs.Laws.Trees.{length-tree}
-use Rattle.image.specs.Images.{pages-in, length-ok, cell-bytes, image-bytes, fresh-page, fresh}
-
--- ---- the length of an image
-
--- what the test of a length says: that of n pages, for an n in range
-pub record Sized (half : ℕ) (img : List ℕ) : Type 0 where
-  pub whole : length img ≡ page-size half * pages-in half img
-  pub least : 2 ≤ pages-in half img
-  pub most : pages-in half img ≤ 1024
-
-pub sized : (half : ℕ) (img : List ℕ) → length-ok half img ≡ true → Sized half img
-unfolding length-ok
-sized half img ok =
-    let k = simp and-eq-true-iff at ok in
-    record { whole = eqb-true _ _ (k .0); least = leb-true _ _ (k .1 .0); most = leb-true _ _ (k .1 .1) }
-
--- ---- the bytes
+use Rattle.image.specs.Images.{cell-bytes, image-bytes, fresh-page, fresh}
 
 -- "root 1, a leaf with entry 0, (0, 0)"
 abbrev pub root-bytes : ℕ → List ℕ

@@ -3,20 +3,22 @@ use mathlib.Core.Path.{_≡_, refl, ap, _∙_}
 use mathlib.Core.Bool.{Bool, true, false, cond, false≢true}
 use mathlib.Core.List.{List}
 use Prim.Native.Nat.{ℕ, zero, suc, _*_, _-_, _≤_, _<_}
-use native.Mathlib.Nat.{suc-mul, mul-le-mul-right}
+use native.Mathlib.Nat.{mul-le-mul-left}
 use native.Mathlib.Omega.{arith}
-use lib.ListN.{length, length-append, length-map}
-use Rattle.rule.specs.declared.Pair.{Pair}
+use lib.ListN.{length}
 use Rattle.rule.specs.Time.{overlaps}
+use Rattle.lists.proofs.Totals.{total-ones}
 use Rattle.page.specs.declared.Head.{Head}
 use Rattle.fields.specs.Bytes.{patch}
-use Rattle.page.specs.Layout.{number-of, start-at, child-at, head-of, joined}
+use Rattle.page.specs.Layout.{number-of, start-at, child-at, head-of}
+use Rattle.lists.specs.Lists.{joined}
 use Rattle.page.specs.Fit.{Place, root-place, end-at, place-below, page-fit}
-use Rattle.fit.proofs.Laws.Heads.{head-fit-is}
+use Rattle.fit.proofs.Laws.Heads.{fit-ranges}
 use Rattle.fit.proofs.Laws.Pages.{page-fit-is}
 use Rattle.image.specs.Images.{page-at, pages-in}
+use Rattle.image.proofs.Runs.{turn-le, picked-le, length-under}
 use Rattle.image.specs.Listing as image
-use Rattle.image.specs.Listing.{nothing, stopped, then, in-turn, under, leaf-run, walk-page, walk, walk-over, run-bytes, join}
+use Rattle.image.specs.Listing.{nothing, stopped, in-turn, leaf-run, walk-page, walk, walk-over, run-bytes, join}
 use Rattle.runs.specs.declared.Run.{Run}
 use Rattle.runs.specs.Open.{no-run}
 use Rattle.runs.proofs.Laws.Entries.{written-join, output-join}
@@ -34,11 +36,6 @@ unfoldable pub most-runs : ℕ → ℕ
 most-runs zero = 24
 most-runs (suc l) = 24 * most-runs l
 
-turn-few : (m n : ℕ) (f : ℕ → image.Walked) → ((i : ℕ) → length (f i .runs) ≤ m) → length (in-turn n f .runs) ≤ n * m
-unfolding in-turn then nothing
-turn-few m zero f h = omega arith
-turn-few m (suc n) f h = omega (arith, turn-few m n f h, h n, suc-mul n m, length-append (in-turn n f .runs) (f n .runs))
-
 page-few : (h : Head) (a b : ℕ) (at : Place) (s : List ℕ) (below : ℕ → image.Walked) (m : ℕ) → ((i : ℕ) → length (below i .runs) ≤ m)
     → length (walk-page 12 h a b at s below .runs) ≤ 24 * m
 unfolding walk-page stopped nothing
@@ -47,20 +44,16 @@ page-few h a b at s below m few = go (page-fit 12 h at s) refl
     found : ℕ → image.Walked
     found i = cond (overlaps a b (start-at s i) (end-at s (at .hi) i)) (below i) nothing
 
-    found-few : (i : ℕ) → length (found i .runs) ≤ m
-    found-few i = pick (overlaps a b (start-at s i) (end-at s (at .hi) i))
-      where
-        pick : (t : Bool) → length (cond t (below i) nothing .runs) ≤ m
-        pick true = few i
-        pick false = omega arith
-
     go : (t : Bool) → page-fit 12 h at s ≡ t → length (cond t (in-turn (number-of s) found) stopped .runs) ≤ 24 * m
-    go true e = omega (arith, turn-few m (number-of s) found found-few, mul-le-mul-right m (page-fit-is 12 h at s .0 e .most))
+    go true e =
+        omega (
+          arith,
+          turn-le (number-of s) found (λ _. 1) m
+              (λ i. picked-le (overlaps a b (start-at s i) (end-at s (at .hi) i)) (below i) (m * 1) (omega (arith, few i))),
+          ap (λ k. m * k) (total-ones (number-of s) (λ _. 1) (λ i l. refl)),
+          mul-le-mul-left m (page-fit-is 12 h at s .0 e .most),
+        )
     go false e = omega arith
-
-length-under : (comb : Pair → Pair → Pair) (p : Pair) (w : image.Walked) → length (under comb p w .runs) ≡ length (w .runs)
-unfolding under
-length-under comb p w = length-map (w .runs) _
 
 pub walk-few : (h : Head) (img : List ℕ) (a b l : ℕ) (at : Place) (p : ℕ) → length (walk 12 h img a b l at p .runs) ≤ most-runs l
 unfolding walk most-runs leaf-run
@@ -90,8 +83,8 @@ pub over-few : {img : List ℕ} {h : Head} (a b : ℕ) → Opened img h → leng
 unfolding walk-over
 over-few {img} {h} a b o =
     let k = head-of (page-at 12 img 0) in
-    let r = head-fit-is 12 (pages-in 12 img) (page-at 12 img 0) .0 (o .fit) .ranges in
-    omega (arith, walk-few k img a b (k .height - 1) (root-place k) (k .root), most-few (k .height - 1) (omega (arith, r .height)))
+    let r = fit-ranges 12 (pages-in 12 img) (page-at 12 img 0) (o .fit) in
+    omega (arith, walk-few k img a b (k .height - 1) (root-place k) (k .root), most-few (k .height - 1) (omega (arith, r .height-most)))
 
 -- ---- the two passes
 

@@ -110,8 +110,8 @@ sits-root {img} q o =
     let r = opened-ranges o in
     record {
       size = opened-size o;
-      changes = r .changes;
-      page = omega (arith, r .root .1, r .pages);
+      changes = r .changes-most;
+      page = omega (arith, r .root-below, r .pages-is);
       depth = 0;
       way = root-way (pages-in 12 img) (q .head) r;
       above = above-root (q .head);

@@ -1,4 +1,4 @@
--- Pairs combined along a way of fit pages stay within bounds, from above and from below. Assumes nothing.
+-- Pairs combined along a way of fit pages stay within bounds. Assumes nothing.
 use mathlib.Core.Path.{_≡_, refl}
 use mathlib.Core.Bool.{Bool, true, false}
 use Prim.Native.Nat.{ℕ, _+_, _≤_}
@@ -33,24 +33,12 @@ pub carried-none : (h : Head) (at : Place) → Carried h at none
 carried-none h at = record { sums = λ _. omega arith; counts = λ _. omega arith; mark = λ _. value-or-none-is none .1 (inl refl) }
 
 module _ {h : Head} {at below : Place} {p : Pair} (u : Under at p below) where
-  -- on the way down
   pub carried-below : {acc : Pair} → Carried h at acc → Paired h at p → Carried h below (combine (h .kind) acc p)
   carried-below {acc} c q =
       record {
         sums = λ e. omega (arith, u .sums, c .sums e, combine-sum-bound (h .kind) acc p);
         counts = λ e. omega (arith, u .counts, c .counts e, kind-count-bound (h .kind) acc p e);
         mark = λ e. combine-value-or-none (h .kind) acc p e (c .mark e) (q .mark e);
-      }
-
-  -- on the way back
-  pub paired-above : {q : Pair} → Paired h at p → Paired h below q → Paired h at (combine (h .kind) p q)
-  paired-above {q} a b =
-      record {
-        total = λ e. record {
-          sums = omega (arith, u .sums, b .total e .sums, combine-sum-bound (h .kind) p q);
-          counts = omega (arith, u .counts, b .total e .counts, kind-count-bound (h .kind) p q e);
-        };
-        mark = λ e. combine-value-or-none (h .kind) p q e (a .mark e) (b .mark e);
       }
 
 -- what was combined so far can be combined with the next pair of the way

@@ -14,7 +14,7 @@ use Rattle.fit.proofs.Laws.Pages.{PageFit, page-fit-is, entry-first}
 use Rattle.lookup.specs.declared.Level.{Level}
 use Rattle.lookup.specs.declared.Level.the-variants.{Entry, Unfit}
 use Rattle.lookup.specs.Levels.{Searched, level-answer}
-use Rattle.lookup.proofs.Laws.Finds.{place-within}
+use Rattle.page.proofs.Laws.Places.{place-within}
 
 -- An entry that is a page's answer: the page is fit, and it is the last entry starting at t or before.
 pub record Found (half : ℕ) (h : Head) (at : Place) (t : ℕ) (s : List ℕ) (pair : Pair) (child i : ℕ) : Type 0 where

@@ -21,10 +21,10 @@ use Rattle.lent.specs.Opened.{Within, Opened}
 use Rattle.lent.proofs.Laws.{opened-ranges, opened-within}
 use Rattle.lookup.specs.Levels.{Met}
 use Rattle.lookup.specs.Answers.{looked}
-use Rattle.lookup.proofs.Laws.Finds.{place-started}
+use Rattle.page.proofs.Laws.Places.{place-started}
 use Rattle.lookup.proofs.Laws.Levels.{Found, found-fit, found-in}
 use Rattle.lookup.proofs.Laws.Bounds.{Carried, carried-none, carried-below, carried-combinable}
-use Rattle.lookup.proofs.Laws.Looks.{Told, look-unfit, look-leaf, look-inner, look-told, under-below}
+use Rattle.lookup.proofs.Laws.Looks.{look-unfit, look-leaf, look-inner, look-none, under-below}
 
 -- ---- the answer below, seen from the root
 
@@ -33,13 +33,13 @@ unfoldable pub gone : (Pair → Pair → Pair) → Pair → ℕ → image.Looked
 gone comb acc n w = record { fit = w .fit; pair = cond (w .fit) (comb acc (w .pair)) none; pages = n + w .pages }
 
 module _ {comb : Pair → Pair → Pair} (laws : Lawful comb) where
-  gone-none : {l : ℕ} (w : image.Looked) → Told l w → gone comb none 0 w ≡ w
+  gone-none : (w : image.Looked) → (w .fit ≡ false → w .pair ≡ none) → gone comb none 0 w ≡ w
   unfolding gone
   gone-none w a = λ j. record { fit = w .fit; pair = go (w .fit) refl j; pages = e j }
     where
       go : (b : Bool) → w .fit ≡ b → cond b (comb none (w .pair)) none ≡ w .pair
       go true f = laws .unit (w .pair)
-      go false f = sym (a .unfit f)
+      go false f = sym (a f)
 
       e : 0 + w .pages ≡ w .pages
       e = omega arith
@@ -81,10 +81,10 @@ module _ {img : List ℕ} {h : Head} (o : Opened img h) where
       let r = opened-ranges o in
       record {
         way = root-way _ h r;
-        here = omega (arith, r .root, r .pages);
+        here = omega (arith, r .root-below, r .pages-is);
         begun = omega arith;
         carried = carried-none h (root-place h);
-        answer = gone-none (lawful (h .kind)) _ (look-told 12 h img t _ _ _) ∙ ap (λ k. look 12 k img t (k .height - 1) (root-place k) (k .root)) (o .shown);
+        answer = gone-none (lawful (h .kind)) _ (look-none 12 h img t _ _ _) ∙ ap (λ k. look 12 k img t (k .height - 1) (root-place k) (k .root)) (o .shown);
       }
 
   module _ {t : ℕ} {at : Place} {p : ℕ} {acc : Pair} {n : ℕ} (w : Walk img h t at p acc n) where
@@ -92,7 +92,7 @@ module _ {img : List ℕ} {h : Head} (o : Opened img h) where
     walk-within = opened-within o p (w .here)
 
     pub walk-met : Met at t
-    walk-met = record { begun = w .begun; bounded = way-bounded (w .way) (opened-ranges o .changes) }
+    walk-met = record { begun = w .begun; bounded = way-bounded (w .way) (opened-ranges o .changes-most) }
 
     pub walk-unfit : page-fit 12 h at (page-at 12 img p) ≡ false → looked (Unfit (n + 1)) ≡ look-up 12 img t
     walk-unfit e = sym (gone-stopped (combine (h .kind)) acc n) ∙ ap (gone (combine (h .kind)) acc n) (sym (look-unfit 12 h img t at p (at .level) e)) ∙ w .answer
@@ -102,7 +102,7 @@ module _ {img : List ℕ} {h : Head} (o : Opened img h) where
       walk-number = omega (arith, found-in f (omega arith), found-fit f .most)
 
       pub walk-combinable : Combinable acc pair
-      walk-combinable = rw (f .pairs) (carried-combinable (w .carried) (found-fit f .pairs i (found-in f (omega arith))) (opened-ranges o .changes))
+      walk-combinable = rw (f .pairs) (carried-combinable (w .carried) (found-fit f .pairs i (found-in f (omega arith))) (opened-ranges o .changes-most))
 
       pub walk-leaf : at .level ≡ 0 → looked (Answered (combine (h .kind) acc pair) (n + 1)) ≡ look-up 12 img t
       walk-leaf e =

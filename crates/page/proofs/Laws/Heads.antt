@@ -12,7 +12,8 @@ use Rattle.fields.proofs.Laws.Digits.{bytes-append, bytes-unused}
 use Rattle.fields.proofs.Laws.Places.{u32}
 use Rattle.fields.proofs.Laws.Tests.{length-unused, all-are-unused, unused-all-are}
 use Rattle.page.specs.declared.Head.{Head}
-use Rattle.page.specs.Layout.{page-size, listed, joined, head-of, head-bytes}
+use Rattle.page.specs.Layout.{page-size, head-of, head-bytes}
+use Rattle.lists.specs.Lists.{listed, joined}
 use Rattle.page.specs.Widths.{Head-fits}
 use Rattle.page.proofs.Laws.Joined.{bytes-joined, length-joined, part-joined, joined-parts}
 use Rattle.page.proofs.Laws.Pieces.{part-pieces, part-last}

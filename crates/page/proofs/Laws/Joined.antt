@@ -1,31 +1,23 @@
 -- The laws of `joined`, the bytes of a list's elements one after the other, and of a run of places of k bytes each, of which the first
 -- hold a list's elements and the others are unused: both arrays of a tree page are such runs. Assumes nothing.
-use mathlib.Core.Path.{_≡_, refl, sym, ap, _∙_}
-use mathlib.Core.List.{List, [], _∷_, _++_, append-assoc, append-nil}
+use mathlib.Core.Path.{_≡_, sym, ap, _∙_}
+use mathlib.Core.List.{List, [], _∷_, _++_, append-assoc}
 use Prim.Native.Nat.{ℕ, zero, suc, _+_, _-_, _*_, _≤_, _<_}
 use native.Mathlib.Nat.{mul-zero, mul-suc, mul-add, add-comm, add-zero, sub-zero, add-sub-of-le}
 use native.Mathlib.Numerals.{add-one}
 use native.Mathlib.Omega.{arith}
 use lib.ListN.{length, getD, length-append}
 use lib.Dec.{lit<}
+use Rattle.lists.specs.Lists.{listed, joined}
+use Rattle.lists.proofs.Listed.{length-listed}
+use Rattle.lists.proofs.Joined.{joined-append, joined-one, joined-more}
 use Rattle.fields.specs.Bytes.{Bytes, part, patch, unused}
 use Rattle.fields.proofs.Laws.Parts.{part-none, part-add, part-append-right, part-middle, patch-append-left, patch-append-right, patch-whole}
 use Rattle.fields.proofs.Laws.Digits.{bytes-append, bytes-unused}
 use Rattle.fields.proofs.Laws.Tests.{length-unused, unused-add}
-use Rattle.page.specs.Layout.{listed, joined}
-use Rattle.page.proofs.Laws.Listed.{length-listed}
 use Rattle.page.proofs.Laws.Pieces.{part-last}
 
 module _ {A : Type 0} (f : A → List ℕ) where
-  pub joined-append : (xs ys : List A) → joined f (xs ++ ys) ≡ joined f xs ++ joined f ys
-  unfolding joined
-  joined-append [] ys = refl
-  joined-append (x ∷ xs) ys = ap (λ l. f x ++ l) (joined-append xs ys) ∙ sym (append-assoc (f x) (joined f xs) (joined f ys))
-
-  pub joined-one : (x : A) → joined f (x ∷ []) ≡ f x
-  unfolding joined
-  joined-one x = append-nil (f x)
-
   pub bytes-joined : ((x : A) → Bytes (f x)) → (xs : List A) → Bytes (joined f xs)
   unfolding joined
   bytes-joined h [] i = lit< tt
@@ -59,8 +51,8 @@ module _ {A : Type 0} (f : A → List ℕ) (k : ℕ) (each : (x : A) → length 
   unfolding joined listed
   joined-parts s o zero x h = sym (rw mul-zero (part-none s o))
   joined-parts s o (suc n) x h =
-      joined-append f (listed n x) (x n ∷ [])
-      ∙ (λ j. joined-parts s o n x (λ i l. h i (omega arith)) j ++ (joined-one f (x n) ∙ h n (omega arith)) j)
+      joined-more f x n
+      ∙ (λ j. joined-parts s o n x (λ i l. h i (omega arith)) j ++ h n (omega arith) j)
       ∙ sym (part-add s o (k * n) k)
       ∙ ap (part s o) (sym (mul-suc k n))
 

@@ -9,8 +9,9 @@ use Rattle.fields.specs.Numbers.{u32-bytes}
 use Rattle.fields.proofs.Laws.Parts.{patch-whole, patch-patch-next}
 use Rattle.fields.proofs.Laws.Places.{u32}
 use Rattle.fields.proofs.Laws.Tests.{length-unused}
-use Rattle.page.specs.Layout.{joined}
-use Rattle.page.proofs.Laws.Joined.{joined-append, joined-one, length-joined}
+use Rattle.lists.specs.Lists.{joined}
+use Rattle.lists.proofs.Joined.{joined-append, joined-one}
+use Rattle.page.proofs.Laws.Joined.{length-joined}
 
 module _ (s : List ℕ) (o : ℕ) where
   -- the first number

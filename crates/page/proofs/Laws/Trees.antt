@@ -15,9 +15,10 @@ use Rattle.fields.proofs.Laws.Places.{u32}
 use Rattle.fields.proofs.Laws.Tests.{length-unused, unused-add, all-are-unused, unused-all-are}
 use Rattle.page.specs.declared.Entry.{Entry}
 use Rattle.page.specs.Entries.{at, no-entry}
-use Rattle.page.specs.Layout.{capacity, start-place, entry-place, page-size, level-of, number-of, entry-at, entries-of, unused-ok, listed, entry-bytes, with-entry, tree-bytes}
+use Rattle.page.specs.Layout.{capacity, start-place, entry-place, page-size, level-of, number-of, entry-at, entries-of, unused-ok, entry-bytes, with-entry, tree-bytes}
+use Rattle.lists.specs.Lists.{listed}
 use Rattle.page.specs.Widths.{Entry-fits, Entries-fit}
-use Rattle.page.proofs.Laws.Listed.{length-listed, getD-listed, listed-more, listed-same, listed-getD}
+use Rattle.lists.proofs.Listed.{length-listed, getD-listed, listed-more, listed-same, listed-getD}
 use Rattle.page.proofs.Laws.Joined.{run, run-none, bytes-run, length-run, part-run, part-run-past, run-parts, patch-run}
 use Rattle.page.proofs.Laws.Pieces.{part-pieces, part-second, part-third, patch-second, patch-third}
 use Rattle.page.proofs.Laws.Entries.{start-bytes, length-start-bytes, bytes-start-bytes, length-entry-bytes, bytes-entry-bytes, entry-at-bytes, start-bytes-at, entry-bytes-at}

@@ -10,8 +10,9 @@ use borrow.Author.Tests.{lt-ltb}
 use Rattle.rule.specs.Pairs.{same-pair}
 use Rattle.fields.specs.Bytes.{patch}
 use Rattle.fields.proofs.Laws.Parts.{length-patch, patch-none, patch-patch-next}
-use Rattle.page.specs.Layout.{joined}
-use Rattle.page.proofs.Laws.Joined.{joined-append, joined-one, length-joined}
+use Rattle.lists.specs.Lists.{joined}
+use Rattle.lists.proofs.Joined.{joined-append, joined-one}
+use Rattle.page.proofs.Laws.Joined.{length-joined}
 use Rattle.image.specs.Listing as image
 use Rattle.image.specs.Listing.{run-bytes, join-after, join}
 use Rattle.runs.specs.declared.Run.{Run}

@@ -1,45 +1,41 @@
 -- The pairs on every way of the tree that is loaded keep their bounds. Assumes nothing.
 use Prim.Native.Nat.{ℕ, zero, suc, _+_, _-_, _*_, _≤_, _<_}
 use mathlib.Core.Path.{_≡_, refl}
-use mathlib.Core.Bool.{true, false, and-eq-true-iff}
+use mathlib.Core.Bool.{true, false}
 use mathlib.Core.List.{List}
 use native.Mathlib.Omega.{arith}
 use lib.Dec.{eqb}
 use lib.IntN.{natAbs}
-use borrow.Author.Tests.{leb-true}
+use Rattle.lists.specs.Lists.{All}
 use Rattle.rule.specs.declared.Pair.{Pair}
 use Rattle.rule.specs.Time.{most-value}
-use Rattle.rule.specs.Bounds.{value-or-none}
-use Rattle.fields.proofs.Laws.Tests.{every-all}
 use Rattle.page.specs.declared.Head.{Head}
 use Rattle.page.specs.Layout.{number-of, pair-at, child-at, entry-at}
-use Rattle.page.specs.Fit.{Place, root-place, place-below, pair-ok, pairs-ok}
+use Rattle.page.specs.Fit.{Place, root-place, place-below}
 use Rattle.image.specs.Images.{page-at}
 use Rattle.image.specs.Sound.{tree-fit}
-use Rattle.tree.specs.Held.{All, Within}
-use Rattle.audit.proofs.Fitness.{Fit-facts}
-use Rattle.audit.proofs.Tree.{tree-parts}
-use Rattle.audit.proofs.Sound.{the-head, Fit-image}
+use Rattle.tree.specs.Held.{Within}
+use Rattle.fit.proofs.Laws.Pages.{PageFit, Paired}
+use Rattle.soundness.proofs.Tree.{tree-parts, tree-top}
+use Rattle.soundness.proofs.Sound.{the-head, Fit-image}
 use Rattle.state.specs.Good.{Any, Value-or-none, Bounds}
 use Rattle.state.proofs.From.Listed.{all-listed}
 use Rattle.state.proofs.From.Load.{loaded, load, load-listed, tree-in}
-use Rattle.state.proofs.From.Cells.{tree-top}
 
 -- What the tests of a page's pairs say of a measure: acc is what the pairs above the page add to.
 record Measured (half : ℕ) (h : Head) (norm : Pair → ℕ) (Each : Pair → Type 0) (most : ℕ) (acc : Place → ℕ) : Type 0 where
-  here : (at : Place) (p : Pair) → pair-ok h at p ≡ true → Each p × (acc at + norm p ≤ most)
+  here : (at : Place) (p : Pair) → Paired h at p → Each p × (acc at + norm p ≤ most)
   deeper : (s : List ℕ) (at : Place) (i : ℕ) → acc (place-below half s at i) ≡ acc at + norm (pair-at half s i)
 
 module _ (half : ℕ) (h : Head) (img : List ℕ) (norm : Pair → ℕ) (Each : Pair → Type 0) (most : ℕ) (acc : Place → ℕ) (w : Measured half h norm Each most acc) where
-  pair-here : (at : Place) (s : List ℕ) → Fit-facts half h at s → (i : ℕ) → i < number-of s
+  pair-here : (at : Place) (s : List ℕ) → PageFit half h at s → (i : ℕ) → i < number-of s
       → Each (pair-at half s i) × (acc at + norm (pair-at half s i) ≤ most)
-  unfolding pairs-ok
-  pair-here at s f i m = w .here at (pair-at half s i) (every-all _ _ (f .pairs) i m)
+  pair-here at s f i m = w .here at (pair-at half s i) (f .pairs i m)
 
   tree-within : (l : ℕ) (at : Place) (p : ℕ) → tree-fit half h img l at p ≡ true → All (Within norm Each most l (acc at)) (load half img l p)
   unfolding Within entry-at
   tree-within zero at p t =
-      let f : Fit-facts half h at (page-at half img p) = tree-top half h img zero at p t in
+      let f : PageFit half h at (page-at half img p) = tree-top half h img zero at p t in
       rw (load-listed half img zero p (f .most)) (all-listed (loaded half img zero) _ _ (λ i m. pair-here at (page-at half img p) f i m))
   tree-within (suc l) at p t =
       let k = tree-parts half h img l at p t in
@@ -53,24 +49,16 @@ module _ (half : ℕ) (h : Head) (img : List ℕ) (norm : Pair → ℕ) (Each : 
 -- ---- the three measures
 
 module _ (half : ℕ) (h : Head) where
-  totals : eqb (h .kind) 1 ≡ true → (at : Place) (p : Pair) → pair-ok h at p ≡ true
-      → (at .sums + natAbs (p .sum) ≤ most-value * h .changes) × (at .counts + natAbs (p .count) ≤ h .changes)
-  unfolding pair-ok
-  totals k at p e =
-      let t = simp and-eq-true-iff at (rw k at e) in
-      (leb-true _ _ (t .0), leb-true _ _ (t .1))
-
   sums : eqb (h .kind) 1 ≡ true → Measured half h (λ p. natAbs (p .sum)) Any (most-value * h .changes) (λ at. at .sums)
   unfolding place-below
-  sums k = record { here = λ at p e. (tt, totals k at p e .0); deeper = λ s at i. refl }
+  sums k = record { here = λ at p e. (tt, e .total k .sums); deeper = λ s at i. refl }
 
   counts : eqb (h .kind) 1 ≡ true → Measured half h (λ p. natAbs (p .count)) Any (h .changes) (λ at. at .counts)
   unfolding place-below
-  counts k = record { here = λ at p e. (tt, totals k at p e .1); deeper = λ s at i. refl }
+  counts k = record { here = λ at p e. (tt, e .total k .counts); deeper = λ s at i. refl }
 
   values : eqb (h .kind) 1 ≡ false → Measured half h (λ p. 0) Value-or-none 0 (λ at. 0)
-  unfolding pair-ok value-or-none
-  values k = record { here = λ at p e. (rw k at e, omega arith); deeper = λ s at i. refl }
+  values k = record { here = λ at p e. (e .mark k, omega arith); deeper = λ s at i. refl }
 
 pub tree-bounds : (half : ℕ) (img : List ℕ) → Fit-image half img → Bounds (the-head half img .kind) (the-head half img .changes) (tree-in half img)
 unfolding root-place

@@ -8,12 +8,14 @@ use native.Mathlib.Omega.{arith}
 use native.Mathlib.Decide.{ℕ-discrete, decLe}
 use lib.ListN.{length}
 use lib.Dec.{eqb}
+use Rattle.lists.proofs.Choices.{cond-one}
 use Rattle.fields.specs.Bytes.{Bytes, part}
 use Rattle.fields.proofs.Laws.Parts.{part-whole}
 use Rattle.fields.proofs.Laws.Digits.{bytes-part}
 use Rattle.fields.proofs.Laws.Tests.{length-unused}
 use Rattle.page.specs.declared.Head.{Head}
-use Rattle.page.specs.Layout.{page-size, level-of, number-of, child-at, entries-of, next-of, free-level, never-used-ok, free-ok, head-bytes, listed, joined}
+use Rattle.page.specs.Layout.{page-size, level-of, number-of, child-at, entries-of, next-of, free-level, never-used-ok, free-ok, head-bytes}
+use Rattle.lists.specs.Lists.{listed, joined}
 use Rattle.page.specs.Fit.{Place, root-place, place-below, head-fit}
 use Rattle.page.proofs.Laws.Joined.{joined-parts}
 use Rattle.page.proofs.Laws.Pieces.{part-pieces}
@@ -21,27 +23,26 @@ use Rattle.page.proofs.Laws.Trees.{length-tree, length-entries-of, tree-again}
 use Rattle.page.proofs.Laws.Frees.{length-free, free-again, unused-again}
 use Rattle.page.proofs.Laws.Heads.{head-again}
 use Rattle.image.specs.Images.{page-at, pages-in, length-ok, never-used-level, cell-of, cell-bytes, image-of, image-bytes, Kept}
-use Rattle.image.specs.Sound.{tree-fit, tree-pages, times, sound}
+use Rattle.image.specs.Sound.{tree-fit, tree-pages, sound}
+use Rattle.lists.specs.Lists.{times}
+use Rattle.image.proofs.Sizes.{sized, page-length}
 use Rattle.image.proofs.Cells.{cell-tree, cell-free, cell-never, never-level}
-use Rattle.view.proofs.Lists.{cond-one}
-use Rattle.audit.proofs.Sums.{total-some, miss}
-use Rattle.audit.proofs.Times.{times-none, times-other}
-use Rattle.audit.proofs.Fitness.{Fit-facts}
-use Rattle.audit.proofs.Levels.{length-is, page-length, free-level-is}
-use Rattle.audit.proofs.Tree.{tree-parts, tree-times}
-use Rattle.audit.proofs.Sound.{the-head, the-tree, Sound-facts, sound-facts}
-use Rattle.audit.proofs.Used.{tree-level}
-use Rattle.state.proofs.From.Cells.{tree-top}
-use Rattle.state.proofs.From.Good.{pages-range}
+use Rattle.lists.proofs.Totals.{total-some, hit-other}
+use Rattle.lists.proofs.Times.{times-none, times-other}
+use Rattle.fit.proofs.Laws.Pages.{PageFit}
+use Rattle.soundness.proofs.Levels.{free-level-is}
+use Rattle.soundness.proofs.Tree.{tree-parts, tree-times, tree-top}
+use Rattle.soundness.proofs.Sound.{the-head, the-tree, Sound-facts, sound-facts}
+use Rattle.soundness.proofs.Used.{tree-level}
 
 -- ---- a page of the tree is fit at some place
 
 record Placed (half : ℕ) (h : Head) (s : List ℕ) : Type 0 where
   place : Place
-  fit : Fit-facts half h place s
+  fit : PageFit half h place s
 
 module _ (half : ℕ) (h : Head) (img : List ℕ) (p : ℕ) where
-  here : (at : Place) (q : ℕ) → p ≡ q → Fit-facts half h at (page-at half img q) → Placed half h (page-at half img p)
+  here : (at : Place) (q : ℕ) → p ≡ q → PageFit half h at (page-at half img q) → Placed half h (page-at half img p)
   here at q e f = rw e (record { place = at; fit = f })
 
   placed : (l : ℕ) (at : Place) (q : ℕ) → tree-fit half h img l at q ≡ true → 1 ≤ times p (tree-pages half img l q) → Placed half h (page-at half img p)
@@ -53,7 +54,7 @@ module _ (half : ℕ) (h : Head) (img : List ℕ) (p : ℕ) where
       go (no d) = absurd (omega (arith, times-other p q [] d, times-none p))
   placed (suc l) at q t n = go (ℕ-discrete p q) (λ i m. placed l (place-below half (page-at half img q) at i) (child-at half (page-at half img q) i) (k .1 i m))
     where
-      k : Fit-facts half h at (page-at half img q)
+      k : PageFit half h at (page-at half img q)
           × ((i : ℕ) → i < number-of (page-at half img q)
           → tree-fit half h img l (place-below half (page-at half img q) at i) (child-at half (page-at half img q) i) ≡ true)
       k = tree-parts half h img l at q t
@@ -64,7 +65,7 @@ module _ (half : ℕ) (h : Head) (img : List ℕ) (p : ℕ) where
       go (yes e) deeper = here at q e (k .0)
       go (no d) deeper =
           total-some (number-of (page-at half img q)) (λ i. times p (tree-pages half img l (child-at half (page-at half img q) i))) deeper
-          (omega (arith, tree-times half img l q (k .0 .most) p, miss p q d))
+          (omega (arith, tree-times half img l q (k .0 .most) p, hit-other p q d))
 
 -- ---- every page
 
@@ -81,19 +82,19 @@ module _ (half : ℕ) (img : List ℕ) (b : Bytes img) (f : Sound-facts half img
         let s : List ℕ = page-at half img p in
         let w = placed half h img p (h .height - 1) (root-place h) (h .root) (f .fit .tree) n in
         ap (cell-bytes half) (cell-tree half s (omega (arith, tree-level (f .fit) p n, f .fit .head .height-most)))
-        ∙ tree-again half s (page-length half img (f .fit .whole) p r) (bytes-page p) (w .fit .most) (w .fit .unused)
+        ∙ tree-again half s (page-length (sized half img (f .fit .whole)) p r) (bytes-page p) (w .fit .most) (w .fit .unused)
 
     free-cell : free-ok half (page-at half img p) ≡ true → cell-bytes half (cell-of half (page-at half img p)) ≡ page-at half img p
     unfolding cell-bytes
     free-cell e =
         let s : List ℕ = page-at half img p in
-        ap (cell-bytes half) (cell-free half s (free-level-is half s e)) ∙ free-again half s (page-length half img (f .fit .whole) p r) (bytes-page p) e
+        ap (cell-bytes half) (cell-free half s (free-level-is half s e)) ∙ free-again half s (page-length (sized half img (f .fit .whole)) p r) (bytes-page p) e
 
     never-cell : never-used-ok (page-at half img p) ≡ true → cell-bytes half (cell-of half (page-at half img p)) ≡ page-at half img p
     unfolding cell-bytes
     never-cell e =
         let s : List ℕ = page-at half img p in
-        let n : length s ≡ page-size half = page-length half img (f .fit .whole) p r in
+        let n : length s ≡ page-size half = page-length (sized half img (f .fit .whole)) p r in
         ap (cell-bytes half) (cell-never half s (never-level (page-size half) s (omega arith) n e)) ∙ sym (unused-again (page-size half) s n e)
 
     page-again : cell-bytes half (cell-of half (page-at half img p)) ≡ page-at half img p
@@ -119,7 +120,7 @@ head-page : (half : ℕ) (img : List ℕ) → 1 ≤ half → length-ok half img 
 unfolding head-fit page-at
 head-page half img some ok b e =
     let k = simp and-eq-true-iff at e in
-    head-again half (page-at half img 0) some (page-length half img ok 0 (omega (arith, pages-range half img ok)))
+    head-again half (page-at half img 0) some (page-length (sized half img ok) 0 (omega (arith, sized half img ok .least)))
     (bytes-part img (page-size half * 0) (page-size half) b) (k .1)
     ∙ ap (λ o. part img o (page-size half)) (mul-zero (page-size half))
 
@@ -130,7 +131,7 @@ canonical half img some b e =
     let size : ℕ = page-size half in
     let n : ℕ = pages-in half img in
     let ok = f .fit .whole in
-    let u : n ≡ suc (n - 1) = omega (arith, pages-range half img ok) in
+    let u : n ≡ suc (n - 1) = omega (arith, sized half img ok .least) in
     let more : size * n ≡ size + size * (n - 1) = ap (λ k. size * k) u ∙ mul-suc size (n - 1) ∙ add-comm (size * (n - 1)) size in
     let cell : ℕ → List ℕ = λ p. cell-bytes half (cell-of half (page-at half img (suc p))) in
     let rest : joined cell (listed (the-head half img .pages - 1) (λ p. p)) ≡ part img size (size * (n - 1)) =
@@ -139,7 +140,7 @@ canonical half img some b e =
     (λ i l.
     page-again half img b f (suc i) (omega arith) (omega arith) ∙ ap (λ o. part img o size) (mul-suc size i ∙ add-comm (size * i) size)) in
     part-pieces img 0 size size (size * (n - 1)) (omega arith) (head-page half img some ok b (f .fit .head-fits)) rest
-    ∙ part-whole img (size + size * (n - 1)) (length-is half img ok ∙ more)
+    ∙ part-whole img (size + size * (n - 1)) (sized half img ok .size ∙ more)
 
 -- and each page is read back
 pub canonical-kept : (half : ℕ) (img : List ℕ) → Bytes img → sound half img ≡ true

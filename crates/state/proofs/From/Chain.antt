@@ -4,24 +4,20 @@ use mathlib.Core.Path.{_≡_, refl, sym}
 use mathlib.Core.Bool.{true}
 use mathlib.Core.List.{List}
 use native.Mathlib.Omega.{arith}
-use borrow.Author.Tests.{eqb-true}
 use Rattle.page.specs.Layout.{page-size, next-of}
 use Rattle.image.specs.Images.{page-at, pages-in, image-of}
 use Rattle.image.specs.Sound.{chain-pages}
+use Rattle.image.proofs.Sizes.{sized, page-length}
 use Rattle.image.proofs.Cells.{cell-free, cell-never, never-level}
 use Rattle.view.specs.View.{Linked, ends, leads, Supplied}
-use Rattle.audit.specs.Counting.{chain-ends}
-use Rattle.audit.proofs.Levels.{free-level-is, page-length}
-use Rattle.audit.proofs.Chain.{Link, link, pages-none, pages-more}
-use Rattle.audit.proofs.Sound.{the-head, Sound-facts}
-use Rattle.audit.proofs.Counting.{Counted, sound-counted}
+use Rattle.soundness.specs.Counting.{chain-ends}
+use Rattle.soundness.proofs.Levels.{free-level-is}
+use Rattle.soundness.proofs.Chain.{Link, link, ended, pages-none, pages-more}
+use Rattle.soundness.proofs.Sound.{the-head, Sound-facts}
+use Rattle.soundness.proofs.Counting.{Counted, sound-counted}
 use Rattle.state.proofs.From.Load.{state-in}
 
 -- ---- the chain
-
-ended : (half : ℕ) (img : List ℕ) (p : ℕ) → chain-ends half img 0 p ≡ true → p ≡ 0
-unfolding chain-ends
-ended half img p e = eqb-true p 0 e
 
 chain-linked : (half : ℕ) (img : List ℕ) (most k p : ℕ) → k ≤ most → chain-ends half img k p ≡ true → Linked (image-of half img .page) p (chain-pages half img most p)
 unfolding image-of
@@ -48,5 +44,5 @@ sound-supplied half img f =
       unused =
           λ p l b.
           let k : p < pages-in half img = omega (arith, f .fit .head .pages-is) in
-          cell-never half (page-at half img p) (never-level (page-size half) (page-at half img p) (omega arith) (page-length half img (f .fit .whole) p k) (f .fit .never p l k));
+          cell-never half (page-at half img p) (never-level (page-size half) (page-at half img p) (omega arith) (page-length (sized half img (f .fit .whole)) p k) (f .fit .never p l k));
     }

@@ -13,7 +13,7 @@ use Rattle.image.specs.Images.{pages-in, length-ok, image-of}
 use Rattle.image.specs.Sound.{sound}
 use Rattle.tree.specs.Cut.{root-ent}
 use Rattle.view.specs.View.{Shown}
-use Rattle.audit.proofs.Sound.{the-head, Sound-facts, sound-facts}
+use Rattle.soundness.proofs.Sound.{the-head, Sound-facts, sound-facts}
 use Rattle.state.specs.Good.{Ranges, Structure, Good}
 use Rattle.state.proofs.From.Load.{state-in}
 use Rattle.state.proofs.From.Cells.{tree-shown}

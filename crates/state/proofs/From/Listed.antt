@@ -3,13 +3,14 @@ use Prim.Native.Nat.{ℕ, zero, suc, _<_}
 use mathlib.Core.Path.{_≡_}
 use mathlib.Core.List.{[], _∷_, _++_, map}
 use native.Mathlib.Omega.{arith}
+use Rattle.lists.specs.Lists.{All, all-none, all-more}
+use Rattle.lists.proofs.Edits.{map-append}
+use Rattle.lists.proofs.All.{all-append}
 use Rattle.page.specs.declared.Entry.{Entry}
-use Rattle.page.specs.Layout.{listed}
+use Rattle.lists.specs.Lists.{listed}
 use Rattle.tree.specs.Tree.{Ent}
 use Rattle.tree.specs.Shape.{Asked, Seg, done}
-use Rattle.tree.specs.Held.{All, all-none, all-more}
 use Rattle.tree.proofs.Seg.{seg-one, seg-append}
-use Rattle.view.proofs.Lists.{map-append, all-append}
 
 module _ {A : Type 0} (g : Entry → Ent A) (f : ℕ → Entry) where
   map-more : (n : ℕ) → map g (listed (suc n) f) ≡ map g (listed n f) ++ (g (f n) ∷ [])

@@ -5,12 +5,13 @@ use mathlib.Core.List.{List, [], _∷_, map}
 use native.Mathlib.Omega.{arith}
 use lib.ListN.{length, length-map}
 use Rattle.page.specs.declared.Entry.{Entry}
-use Rattle.page.specs.Layout.{capacity, number-of, entry-at, entries-of, listed}
+use Rattle.page.specs.Layout.{capacity, number-of, entry-at, entries-of}
+use Rattle.lists.specs.Lists.{listed}
 use Rattle.page.proofs.Laws.Trees.{length-entries-of}
 use Rattle.image.specs.Images.{page-at}
 use Rattle.tree.specs.Tree.{Ent, Kid, Ents, bare, Tree}
 use Rattle.tree.specs.Cut.{State}
-use Rattle.audit.proofs.Sound.{the-head, the-chain}
+use Rattle.soundness.proofs.Sound.{the-head, the-chain}
 
 module _ (half : ℕ) (img : List ℕ) where
   -- what is below an entry of level l that leads to page p

@@ -1,17 +1,19 @@
 -- What an instant call finds in a sound image is the pair of the tree that it shows. Assumes nothing.
 use Prim.Native.Nat.{ℕ, zero, suc, _-_, _≤_, _<_}
 use mathlib.Core.Path.{_≡_, sym, ap, _∙_}
-use mathlib.Core.Bool.{true, cond, and-eq-true-iff}
+use mathlib.Core.Bool.{true, cond}
 use mathlib.Core.List.{List}
 use native.Mathlib.Omega.{arith}
 use lib.ListN.{length, length-map}
+use Rattle.lists.proofs.All.{all-at}
+use Rattle.page.proofs.Laws.Places.{place-in}
 use Rattle.rule.specs.declared.Pair.{Pair}
 use Rattle.rule.specs.Pairs.{combine}
 use Rattle.page.specs.declared.Entry.{Entry}
 use Rattle.page.specs.declared.Head.{Head}
 use Rattle.page.specs.Entries.{at as entry-in, place}
 use Rattle.page.specs.Layout.{number-of, pair-at, child-at, entry-at, entries-of, free-level}
-use Rattle.page.specs.Fit.{Place, root-place, place-below, fewest, page-fit, head-fit}
+use Rattle.page.specs.Fit.{Place, root-place, place-below, fewest, head-fit}
 use Rattle.page.proofs.Laws.Trees.{length-entries-of, at-entries-of}
 use Rattle.image.specs.Images.{entries-in, page-at, pages-in, image-of}
 use Rattle.image.specs.Sound.{tree-fit}
@@ -20,13 +22,14 @@ use Rattle.image.specs.Instant.{Looked, stopped, leaf-answer, above, look, look
 use Rattle.tree.specs.Tree.{Ent, Kid, Ents, no-ent, bare, ent-of, pair-under, pair-in}
 use Rattle.tree.specs.Cut.{State, root-ent}
 use Rattle.view.specs.View.{Shows, Shown}
-use Rattle.view.proofs.Lists.{place-in, all-at}
 use Rattle.view.proofs.Ways.{at-bare}
-use Rattle.audit.proofs.Fitness.{Fit-facts}
-use Rattle.audit.proofs.Tree.{tree-parts}
-use Rattle.audit.proofs.Sound.{the-head, Sound-facts}
-use Rattle.state.proofs.From.Cells.{tree-top}
-use Rattle.state.proofs.From.Shape.{root-fewest, least-one}
+use Rattle.soundness.proofs.Tree.{tree-parts}
+use Rattle.soundness.proofs.Sound.{the-head, Sound-facts}
+use Rattle.soundness.proofs.Tree.{tree-top}
+use Rattle.state.proofs.From.Shape.{root-fewest}
+use Rattle.tree.proofs.Seg.{least-one}
+use Rattle.fit.proofs.Laws.Pages.{PageFit}
+use Rattle.soundness.proofs.Tree.{top-fit}
 
 -- an answer: all pages fit, the pair, and so many pages read
 abbrev pub answer : Pair → ℕ → Looked
@@ -34,11 +37,6 @@ answer pair pages = record { fit = true; pair = pair; pages = pages }
 
 module _ (half : ℕ) (h : Head) (img : List ℕ) (t : ℕ) where
   -- the page is fit at its place
-  fit-top : (l : ℕ) (at : Place) (p : ℕ) → tree-fit half h img l at p ≡ true → page-fit half h at (page-at half img p) ≡ true
-  unfolding tree-fit
-  fit-top zero at p e = e
-  fit-top (suc l) at p e = (simp and-eq-true-iff at e) .0
-
   -- the entry found on a page is the tree's
   record Step (l : ℕ) (p : ℕ) (es : Ents l) : Type 0 where
     inside : place t (entries-of half (page-at half img p)) < number-of (page-at half img p)
@@ -46,7 +44,7 @@ module _ (half : ℕ) (h : Head) (img : List ℕ) (t : ℕ) where
     found : place t (bare es) < length es
 
   step : (l : ℕ) (at : Place) (x : Ent (Kid (suc l))) → at .level ≡ l → l < free-level → 1 ≤ fewest half at
-      → Fit-facts half h at (page-at half img (x .entry .child)) → Shows (suc l) (image-of half img .page) x → Step l (x .entry .child) (x .kid)
+      → PageFit half h at (page-at half img (x .entry .child)) → Shows (suc l) (image-of half img .page) x → Step l (x .entry .child) (x .kid)
   unfolding Shows image-of entries-in ent-of
   step l at x v small some f shown =
       let s : List ℕ = page-at half img (x .entry .child) in
@@ -54,7 +52,7 @@ module _ (half : ℕ) (h : Head) (img : List ℕ) (t : ℕ) where
       let es : entries-of half s ≡ bare (x .kid) = sym (ap entries-in (cell-tree half s (omega (arith, f .level)))) ∙ ap entries-in (shown .0) in
       let n : length (entries-of half s) ≡ number-of s = length-entries-of half s ∙ omega (arith, f .most) in
       let m : length (bare (x .kid)) ≡ length (x .kid) = length-map (x .kid) (λ y. y .entry) in
-      let c : i < length (entries-of half s) = place-in t (entries-of half s) (omega (arith, f .fewest)) in
+      let c : i < length (entries-of half s) = place-in t (entries-of half s) (omega (arith, f .least)) in
       record {
         inside = omega arith;
         same =
@@ -79,7 +77,7 @@ module _ (half : ℕ) (h : Head) (img : List ℕ) (t : ℕ) where
     look-shown zero at x v small n e shown =
         let s : List ℕ = page-at half img (x .entry .child) in
         let k = step zero at x v small n (tree-top half h img zero at (x .entry .child) e) shown in
-        ap (λ c. cond c (leaf-answer (pair-at half s (place t (entries-of half s)))) stopped) (fit-top zero at (x .entry .child) e)
+        ap (λ c. cond c (leaf-answer (pair-at half s (place t (entries-of half s)))) stopped) (top-fit half h img zero at (x .entry .child) e)
         ∙ ap (λ (y : Entry). answer (y .pair) 1) (k .same)
     look-shown (suc l) at x v small n e shown =
         let s : List ℕ = page-at half img (x .entry .child) in
@@ -92,7 +90,7 @@ module _ (half : ℕ) (h : Head) (img : List ℕ) (t : ℕ) where
         let rest : look half h img t l d (child-at half s i) ≡ answer (pair-in (combine (h .kind)) l t (y .kid)) (suc l) =
         ap (look half h img t l d) c
         ∙ look-shown l d y (omega arith) (omega arith) some (rw c at (f .1 i (k .inside))) (deeper (suc l) x (k .found) shown) in
-        ap (λ q. cond q (above (combine (h .kind)) (pair-at half s i) (look half h img t l d (child-at half s i))) stopped) (fit-top (suc l) at (x .entry .child) e)
+        ap (λ q. cond q (above (combine (h .kind)) (pair-at half s i) (look half h img t l d (child-at half s i))) stopped) (top-fit half h img (suc l) at (x .entry .child) e)
         ∙ ap (above (combine (h .kind)) (pair-at half s i)) rest
         ∙ ap (λ (z : Entry). answer (combine (h .kind) (z .pair) (pair-in (combine (h .kind)) l t (y .kid))) (suc (suc l))) (k .same)
 

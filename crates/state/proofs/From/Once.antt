@@ -7,30 +7,32 @@ use native.Mathlib.Omega.{arith}
 use native.Mathlib.Decide.{decLe}
 use lib.Dec.{leb}
 use borrow.Author.Tests.{le-leb, lt-leb}
+use Rattle.lists.specs.Lists.{joined}
 use Rattle.page.specs.declared.Entry.{Entry}
-use Rattle.page.specs.Layout.{entries-of, joined}
+use Rattle.page.specs.Layout.{entries-of}
 use Rattle.image.specs.Images.{page-at}
-use Rattle.image.specs.Sound.{tree-pages, times}
-use Rattle.tree.specs.Tree.{Ent, over, pages-under}
+use Rattle.image.specs.Sound.{tree-pages}
+use Rattle.lists.specs.Lists.{times}
+use Rattle.tree.specs.Tree.{Ent, pages-under}
 use Rattle.tree.specs.Held.{times-below, times-spare, held}
-use Rattle.audit.proofs.Sound.{the-head, the-tree, the-chain, Sound-facts}
-use Rattle.audit.proofs.Used.{tree-within, chain-within}
+use Rattle.soundness.proofs.Sound.{the-head, the-tree, the-chain, Sound-facts}
+use Rattle.soundness.proofs.Used.{tree-within, chain-within}
 use Rattle.state.proofs.From.Load.{below, loaded, load, state-in}
 
 -- ---- the pages of the tree
 
-over-none : (half : ℕ) (img : List ℕ) (es : List Entry) → over (λ x. pages-under zero x) (map (loaded half img zero) es) ≡ []
-unfolding over pages-under
+over-none : (half : ℕ) (img : List ℕ) (es : List Entry) → joined (λ x. pages-under zero x) (map (loaded half img zero) es) ≡ []
+unfolding joined pages-under
 over-none half img [] = refl
 over-none half img (e ∷ es) = over-none half img es
 
 joined-over : {A : Type 0} (f : Entry → List ℕ) (g : Ent A → List ℕ) (k : Entry → Ent A) → ((e : Entry) → f e ≡ g (k e)) → (es : List Entry)
-    → joined f es ≡ over g (map k es)
-unfolding joined over
+    → joined f es ≡ joined g (map k es)
+unfolding joined
 joined-over f g k h [] = refl
 joined-over f g k h (e ∷ es) = λ j. h e j ++ joined-over f g k h es j
 
-pages-are : (half : ℕ) (img : List ℕ) (l p : ℕ) → tree-pages half img l p ≡ p ∷ over (λ x. pages-under l x) (load half img l p)
+pages-are : (half : ℕ) (img : List ℕ) (l p : ℕ) → tree-pages half img l p ≡ p ∷ joined (λ x. pages-under l x) (load half img l p)
 unfolding tree-pages pages-under below
 pages-are half img zero p = ap (λ (r : List ℕ). p ∷ r) (sym (over-none half img (entries-of half (page-at half img p))))
 pages-are half img (suc l) p =

@@ -4,21 +4,21 @@ use mathlib.Core.Path.{_≡_, refl, sym, ap, _∙_}
 use mathlib.Core.Bool.{true, cond}
 use mathlib.Core.List.{List}
 use native.Mathlib.Omega.{arith}
-use borrow.Author.Tests.{eqb-true, eq-eqb, ne-eqb}
+use borrow.Author.Tests.{eq-eqb, ne-eqb}
 use Rattle.page.specs.declared.Head.{Head}
 use Rattle.page.specs.Layout.{number-of, start-at, child-at, entry-at}
-use Rattle.page.specs.Fit.{Place, root-place, place-below, end-at, fewest, child-ok}
+use Rattle.page.specs.Fit.{Place, root-place, place-below, end-at, fewest}
 use Rattle.image.specs.Images.{page-at}
 use Rattle.image.specs.Sound.{tree-fit}
 use Rattle.tree.specs.Tree.{Kid}
 use Rattle.tree.specs.Shape.{Asked, Seg, Filled, Shaped, Leaf, Formed, root-least}
-use Rattle.audit.proofs.Fitness.{Fit-facts}
-use Rattle.audit.proofs.Spans.{bound, bound-next, bound-in, bound-past, bound-rises}
-use Rattle.audit.proofs.Tree.{tree-parts}
-use Rattle.audit.proofs.Sound.{the-head, Fit-image}
+use Rattle.tree.proofs.Seg.{least-one}
+use Rattle.fit.proofs.Laws.Pages.{PageFit}
+use Rattle.fit.proofs.Laws.Spans.{bound, bound-next, bound-in, bound-past, bound-rises}
+use Rattle.soundness.proofs.Tree.{tree-parts, tree-top}
+use Rattle.soundness.proofs.Sound.{the-head, Fit-image}
 use Rattle.state.proofs.From.Listed.{seg-listed}
 use Rattle.state.proofs.From.Load.{loaded, load, load-listed, load-length, tree-in}
-use Rattle.state.proofs.From.Cells.{tree-top}
 
 -- ---- how many entries
 
@@ -27,20 +27,11 @@ unfolding fewest root-place root-least
 root-fewest half h zero e = ap (λ t. cond t 1 2) (eq-eqb (h .height - 1) 0 e)
 root-fewest half h (suc l) e = ap (λ t. cond t 1 2) (ne-eqb (h .height - 1) 0 (λ z. omega arith))
 
-pub least-one : (l : ℕ) → 1 ≤ root-least l
-unfolding root-least
-least-one zero = omega arith
-least-one (suc l) = omega arith
-
-leaf-child : (pages level child : ℕ) → level ≡ 0 → child-ok pages level child ≡ true → child ≡ 0
-unfolding child-ok
-leaf-child pages level child e c = eqb-true child 0 (rw (eq-eqb level 0 e) at c)
-
 module _ (half : ℕ) (h : Head) (img : List ℕ) where
   -- ---- one page
 
   -- the entries of a fit page follow each other over its span
-  page-spans : (l : ℕ) (at : Place) (p : ℕ) (Q : Asked (Kid l)) → Fit-facts half h at (page-at half img p) → 1 ≤ number-of (page-at half img p)
+  page-spans : (l : ℕ) (at : Place) (p : ℕ) (Q : Asked (Kid l)) → PageFit half h at (page-at half img p) → 1 ≤ number-of (page-at half img p)
       → ((i : ℕ) → i < number-of (page-at half img p)
       → Q (start-at (page-at half img p) i) (end-at (page-at half img p) (at .hi) i) (loaded half img l (entry-at half (page-at half img p) i)))
       → Seg Q (at .lo) (at .hi) (load half img l p)
@@ -56,8 +47,8 @@ module _ (half : ℕ) (h : Head) (img : List ℕ) where
       (λ i m. rw (bound-in s (at .hi) i m, ← (bound-next s (at .hi) i)) (q i m))) in
       rw (lo, hi) at all
 
-  filled : (l : ℕ) (at : Place) (p : ℕ) → fewest half at ≡ half → Fit-facts half h at (page-at half img p) → Filled half (load half img l p)
-  filled l at p e f = record { least = omega (arith, load-length half img l p (f .most), f .fewest); most = omega (arith, load-length half img l p (f .most)) }
+  filled : (l : ℕ) (at : Place) (p : ℕ) → fewest half at ≡ half → PageFit half h at (page-at half img p) → Filled half (load half img l p)
+  filled l at p e f = record { least = omega (arith, load-length half img l p (f .most), f .least); most = omega (arith, load-length half img l p (f .most)) }
 
   -- ---- the pages below
 
@@ -66,12 +57,12 @@ module _ (half : ℕ) (h : Head) (img : List ℕ) where
         → Seg (λ lo hi x. Shaped half Leaf l lo hi x) (at .lo) (at .hi) (load half img l p)
     unfolding Shaped place-below fewest entry-at
     spans zero at p v n t =
-        let f : Fit-facts half h at (page-at half img p) = tree-top half h img zero at p t in
-        page-spans zero at p Leaf f (omega (arith, f .fewest)) (λ i m. leaf-child (h .pages) (at .level) (child-at half (page-at half img p) i) v (f .children i m))
+        let f : PageFit half h at (page-at half img p) = tree-top half h img zero at p t in
+        page-spans zero at p Leaf f (omega (arith, f .least)) (λ i m. f .children i m .leaf v)
     spans (suc l) at p v n t =
         let k = tree-parts half h img l at p t in
         let s : List ℕ = page-at half img p in
-        page-spans (suc l) at p (λ lo hi x. Shaped half Leaf (suc l) lo hi x) (k .0) (omega (arith, k .0 .fewest))
+        page-spans (suc l) at p (λ lo hi x. Shaped half Leaf (suc l) lo hi x) (k .0) (omega (arith, k .0 .least))
         (λ i m.
         let c : ℕ = child-at half s i in
         let d : Place = place-below half s at i in
@@ -84,10 +75,10 @@ unfolding root-place
 tree-formed half img some f =
     let h : Head = the-head half img in
     let l : ℕ = h .height - 1 in
-    let t : Fit-facts half h (root-place h) (page-at half img (h .root)) = tree-top half h img l (root-place h) (h .root) (f .tree) in
+    let t : PageFit half h (root-place h) (page-at half img (h .root)) = tree-top half h img l (root-place h) (h .root) (f .tree) in
     let n : fewest half (root-place h) ≡ root-least l = root-fewest half h l refl in
     record {
-      least = omega (arith, load-length half img l (h .root) (t .most), t .fewest);
+      least = omega (arith, load-length half img l (h .root) (t .most), t .least);
       most = omega (arith, load-length half img l (h .root) (t .most), t .most);
       spans = spans half h img some l (root-place h) (h .root) refl (omega (arith, least-one l)) (f .tree);
     }

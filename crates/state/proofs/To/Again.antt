@@ -4,23 +4,20 @@ use mathlib.Core.Path.{_≡_, refl, ap, _∙_}
 use mathlib.Core.List.{List, _∷_}
 use native.Mathlib.Omega.{arith}
 use lib.ListN.{length}
+use Rattle.lists.specs.Lists.{All}
 use Rattle.page.specs.declared.Head.{Head}
 use Rattle.page.specs.Layout.{next-of}
 use Rattle.page.proofs.Laws.Frees.{next-of-free}
 use Rattle.image.specs.Images.{Cell, page-at, cell-bytes}
-use Rattle.image.specs.Sound.{times, chain-pages}
+use Rattle.lists.specs.Lists.{times}
+use Rattle.image.specs.Sound.{chain-pages}
 use Rattle.tree.specs.Tree.{Ent, Kid, Ents}
-use Rattle.tree.specs.Shape.{Asked, Seg, done, more}
-use Rattle.tree.specs.Held.{All, all-none, all-more}
+use Rattle.tree.proofs.Seg.{seg-all}
 use Rattle.view.specs.View.{Shows, Linked, ends, leads}
-use Rattle.audit.proofs.Times.{times-same, times-cons}
-use Rattle.audit.proofs.Chain.{pages-none, pages-more}
+use Rattle.lists.proofs.Times.{times-same, times-cons}
+use Rattle.soundness.proofs.Chain.{pages-none, pages-more}
 use Rattle.state.proofs.To.Ready.{Paged, Ready}
 use Rattle.state.proofs.To.Known.{linked-first}
-
-seg-all : {A : Type 0} {Q : Asked A} {R : Ent A → Type 0} {lo hi : ℕ} {es : List (Ent A)} → ((a b : ℕ) (x : Ent A) → Q a b x → R x) → Seg Q lo hi es → All R es
-seg-all f done = all-none
-seg-all f (more {lo} {mid} {x = x} e lt q r) = all-more (f lo mid x q) (seg-all f r)
 
 -- ---- the tree
 

@@ -7,20 +7,21 @@ use native.Mathlib.Omega.{arith}
 use lib.ListN.{length, getD, length-map}
 use lib.IntN.{natAbs}
 use borrow.Author.Tests.{eq-eqb, le-leb, lt-ltb}
+use Rattle.lists.specs.Lists.{joined}
 use Rattle.rule.specs.Time.{END}
 use Rattle.fields.proofs.Laws.Tests.{every-of}
 use Rattle.page.specs.declared.Entry.{Entry}
 use Rattle.page.specs.declared.Head.{Head}
-use Rattle.page.specs.Layout.{capacity, level-of, number-of, start-at, pair-at, child-at, entry-at, entries-of, unused-ok, free-level, tree-bytes, joined}
+use Rattle.page.specs.Layout.{capacity, level-of, number-of, start-at, pair-at, child-at, entry-at, entries-of, unused-ok, free-level, tree-bytes}
 use Rattle.page.specs.Fit.{Place, place-below, fewest, number-ok, starts-ok, child-ok, children-ok, pair-ok, pairs-ok, page-fit, most-changes}
 use Rattle.page.specs.Widths.{Entries-fit}
 use Rattle.page.proofs.Laws.Trees.{level-of-tree, number-of-tree, entry-at-tree, entries-of-tree, unused-ok-tree}
 use Rattle.image.specs.Images.{Cell, page-at, cell-bytes}
 use Rattle.image.specs.Sound.{tree-fit, tree-pages}
-use Rattle.tree.specs.Tree.{Ent, Kid, Ents, no-ent, bare, over, pages-under}
+use Rattle.tree.specs.Tree.{Ent, Kid, Ents, no-ent, bare, pages-under}
 use Rattle.tree.specs.Shape.{Seg}
 use Rattle.view.proofs.Ways.{at-bare}
-use Rattle.audit.proofs.Spans.{bound, bound-next, bound-in, bound-past}
+use Rattle.fit.proofs.Laws.Spans.{bound, bound-next, bound-in, bound-past}
 use Rattle.state.specs.Good.{Ranges}
 use Rattle.state.proofs.To.Weights.{pair-passes}
 use Rattle.state.proofs.To.Ready.{seg-length, Paged, Ready, ready-weighed, ready-child, entries-fit}
@@ -52,8 +53,8 @@ read half l es within narrow low fits s e =
 
 -- ---- a leaf has no pages below it
 
-over-none : (es : Ents 0) → over (λ x. pages-under 0 x) es ≡ []
-unfolding over pages-under
+over-none : (es : Ents 0) → joined (λ x. pages-under 0 x) es ≡ []
+unfolding joined pages-under
 over-none [] = refl
 over-none (x ∷ es) = over-none es
 
@@ -169,7 +170,7 @@ module _ (half : ℕ) (h : Head) (pages : ℕ → Cell) where
     -- ---- which pages they are
 
     pub pages-are : (l sums counts lo hi p : ℕ) (es : Ents l) → hi ≤ END → l < free-level → Paged half h pages l (Ready half h pages l sums counts) lo hi p es
-        → tree-pages half img l p ≡ p ∷ over (λ x. pages-under l x) es
+        → tree-pages half img l p ≡ p ∷ joined (λ x. pages-under l x) es
     unfolding tree-pages pages-under Ready
     pages-are zero sums counts lo hi p es m low P = ap (λ (r : List ℕ). p ∷ r) (sym (over-none es))
     pages-are (suc l) sums counts lo hi p es m low P =

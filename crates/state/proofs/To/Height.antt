@@ -4,7 +4,7 @@ use native.Mathlib.Omega.{arith}
 use Rattle.page.specs.Fit.{most-height}
 use Rattle.image.specs.Images.{Image}
 use Rattle.tree.specs.Cut.{State}
-use Rattle.held.proofs.Height.{level-once-12}
+use Rattle.tree.proofs.Conservation.Height.{level-once-12}
 use Rattle.view.proofs.Stepped.{once-is}
 use Rattle.state.specs.Good.{Structure}
 use Rattle.state.proofs.To.Known.{structure-once}

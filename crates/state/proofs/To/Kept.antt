@@ -4,17 +4,19 @@ use mathlib.Core.Path.{_≡_}
 use native.Mathlib.Omega.{arith}
 use native.Mathlib.Decide.{decLe}
 use lib.ListN.{length, length-map}
+use Rattle.lists.specs.Lists.{hit}
+use Rattle.lists.proofs.Totals.{hit-is}
 use Rattle.rule.specs.Time.{END}
 use Rattle.page.specs.declared.Head.{Head}
 use Rattle.page.specs.Layout.{free-level}
 use Rattle.page.specs.Fit.{most-changes}
 use Rattle.image.specs.Images.{Cell, Kept}
-use Rattle.image.specs.Sound.{times}
+use Rattle.lists.specs.Lists.{times}
 use Rattle.image.proofs.Cells.{kept-tree}
 use Rattle.tree.specs.Tree.{Ent, Kid, Ents, bare, pages-under}
 use Rattle.tree.specs.Shape.{Asked, Seg, done, more}
 use Rattle.tree.specs.Held.{times-below}
-use Rattle.view.proofs.Lists.{hit, hit-is, under-zero, under-suc, below-none, below-cons}
+use Rattle.view.proofs.Below.{under-zero, under-suc, below-none, below-cons}
 use Rattle.state.specs.Good.{Ranges}
 use Rattle.state.proofs.To.Ready.{seg-length, Paged, Ready, entries-fit}
 

@@ -9,19 +9,20 @@ use native.Mathlib.Decide.{ℕ-discrete, decLe}
 use lib.Dec.{leb}
 use lib.ListN.{length}
 use borrow.Author.Tests.{leb-true, le-leb, lt-leb}
+use Rattle.lists.specs.Lists.{joined, hit}
+use Rattle.lists.proofs.Totals.{hit-self}
 use Rattle.rule.specs.Time.{END, kind-ok, window-ok}
 use Rattle.page.specs.declared.Head.{Head}
 use Rattle.page.specs.Fit.{most-height}
 use Rattle.page.specs.Widths.{Head-fits}
 use Rattle.image.specs.Images.{Image, Cell, free, Kept}
-use Rattle.image.specs.Sound.{times}
+use Rattle.lists.specs.Lists.{times}
 use Rattle.image.proofs.Cells.{kept-free, kept-never}
-use Rattle.tree.specs.Tree.{over, pages-under}
+use Rattle.tree.specs.Tree.{pages-under}
 use Rattle.tree.specs.Cut.{State, root-ent}
 use Rattle.tree.specs.Held.{times-below, times-spare, held}
 use Rattle.view.specs.View.{Shows, Linked, ends, leads, Once}
-use Rattle.view.proofs.Lists.{hit, hit-self}
-use Rattle.audit.proofs.Times.{times-none, times-same, times-other, times-cons, short-of-once}
+use Rattle.lists.proofs.Times.{times-none, times-same, times-other, times-cons, short-of-once}
 use Rattle.state.specs.Good.{Structure}
 use Rattle.state.proofs.To.Weights.{Weighed, bounds-weighed}
 use Rattle.state.proofs.To.Ready.{Paged, Ready, ready, seg-ready}
@@ -66,7 +67,7 @@ module _ {half kind changes : ℕ} {X : Image} {Y : State} (g : Structure half k
   in-tree p = hit p (Y .tree .root) + times-below (Y .tree .level) p (Y .tree .ents)
 
   pub held-is : (p : ℕ) → held p Y ≡ in-tree p + times p (Y .supply .chain) + cond (leb (X .head .mark) p) 1 0
-  unfolding held times-spare times hit
+  unfolding held times-spare times
   held-is p = rw (g .shown .supplied .mark) (omega arith)
 
   used-inside : (p k : ℕ) → k + cond (leb (X .head .mark) p) 1 0 ≤ held p Y → 1 ≤ k → (1 ≤ p) × (p < X .head .mark)
@@ -99,10 +100,10 @@ module _ {half kind changes : ℕ} {X : Image} {Y : State} (g : Structure half k
 
   -- the pages of the tree
   abbrev pub tree-list : List ℕ
-  tree-list = Y .tree .root ∷ over (λ x. pages-under (Y .tree .level) x) (Y .tree .ents)
+  tree-list = Y .tree .root ∷ joined (λ x. pages-under (Y .tree .level) x) (Y .tree .ents)
 
   pub times-tree : (p : ℕ) → times p tree-list ≡ in-tree p
-  unfolding times times-below hit
+  unfolding times times-below
   times-tree p = refl
 
   pub page-free : (p : ℕ) → 1 ≤ times p (Y .supply .chain) → Freed (X .page) (X .head .pages) p

@@ -4,9 +4,9 @@ use mathlib.Core.Path.{_≡_, refl, _∙_}
 use mathlib.Core.List.{List, _++_}
 use native.Mathlib.Omega.{arith}
 use lib.ListN.{length, getD}
+use Rattle.lists.specs.Lists.{joined}
 use Rattle.page.specs.declared.Entry.{Entry}
-use Rattle.page.specs.Layout.{joined}
-use Rattle.tree.specs.Tree.{Ent, bare, over}
+use Rattle.tree.specs.Tree.{Ent, bare}
 use Rattle.tree.specs.Shape.{Asked, Seg, done, more}
 use Rattle.tree.proofs.Seg.{seg-le}
 
@@ -29,7 +29,7 @@ module _ {A : Type 0} {Q : Asked A} where
 
   -- lists of the entries as pages hold them, and with what is below
   pub seg-over : (f : Entry → List ℕ) (g : Ent A → List ℕ) {lo hi : ℕ} {es : List (Ent A)} → ((a b : ℕ) (x : Ent A) → b ≤ hi → Q a b x → f (x .entry) ≡ g x)
-      → Seg Q lo hi es → joined f (bare es) ≡ over g es
-  unfolding joined over
+      → Seg Q lo hi es → joined f (bare es) ≡ joined g es
+  unfolding joined
   seg-over f g h done = refl
   seg-over f g h (more {lo} {mid} {x = x} e lt q r) = λ j. h lo mid x (seg-le r) q j ++ seg-over f g h r j

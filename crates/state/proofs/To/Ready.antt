@@ -7,6 +7,9 @@ use native.Mathlib.Omega.{arith}
 use lib.ListN.{length}
 use lib.IntN.{natAbs}
 use borrow.Author.Tests.{eq-eqb, ne-eqb, le-leb, lt-ltb}
+use Rattle.lists.specs.Lists.{All}
+use Rattle.lists.proofs.All.{all-head, all-tail}
+use Rattle.lists.proofs.Totals.{hit-self}
 use Rattle.rule.specs.Time.{END}
 use Rattle.page.specs.declared.Head.{Head}
 use Rattle.page.specs.Layout.{capacity}
@@ -14,12 +17,12 @@ use Rattle.page.specs.Fit.{child-ok, most-changes}
 use Rattle.page.specs.Widths.{Entry-fits, Entries-fit}
 use Rattle.page.proofs.Laws.Entries.{no-entry-fits}
 use Rattle.image.specs.Images.{Cell, tree}
-use Rattle.image.specs.Sound.{times}
+use Rattle.lists.specs.Lists.{times}
 use Rattle.tree.specs.Tree.{Ent, Kid, Ents, bare, pages-under}
 use Rattle.tree.specs.Shape.{Asked, Seg, done, more, Shaped, Leaf}
-use Rattle.tree.specs.Held.{All, times-below}
+use Rattle.tree.specs.Held.{times-below}
 use Rattle.view.specs.View.{Shows}
-use Rattle.view.proofs.Lists.{hit-self, all-head, all-tail, under-suc, below-cons}
+use Rattle.view.proofs.Below.{under-suc, below-cons}
 use Rattle.state.specs.Good.{Ranges}
 use Rattle.state.proofs.To.Weights.{Weighed, weighed-below, pair-fits}
 

@@ -14,15 +14,17 @@ use Rattle.page.specs.Fit.{root-place, fewest, most-height, ranges-ok, head-fit
 use Rattle.page.proofs.Laws.Heads.{head-of-head, head-rest}
 use Rattle.page.proofs.Laws.Frees.{free-ok-free, never-used-ok-unused}
 use Rattle.image.specs.Images.{Image, page-at, pages-in, length-ok, cell-bytes, image-of, image-bytes, Kept}
-use Rattle.image.specs.Sound.{tree-fit, tree-pages, chain-pages, times, sound}
+use Rattle.image.specs.Sound.{tree-fit, tree-pages, chain-pages, sound}
+use Rattle.lists.specs.Lists.{times}
 use Rattle.image.proofs.Written.{length-of-written, pages-of-written, length-of-fits, head-written, page-of-written, page-of-read, head-of-read}
 use Rattle.tree.specs.Shape.{root-least}
 use Rattle.tree.specs.Cut.{State, root-ent}
 use Rattle.view.specs.View.{Shows, Shown}
-use Rattle.audit.proofs.Fitness.{head-facts}
-use Rattle.audit.proofs.Sound.{the-head, the-tree, the-chain, head-test, tree-test, Sound-facts, facts-sound}
+use Rattle.soundness.proofs.Sound.{the-head, the-tree, the-chain, head-test, tree-test, Sound-facts, facts-sound}
 use Rattle.state.specs.Good.{Structure, Good}
-use Rattle.state.proofs.From.Shape.{root-fewest, least-one}
+use Rattle.state.proofs.From.Shape.{root-fewest}
+use Rattle.tree.proofs.Seg.{least-one}
+use Rattle.fit.proofs.Laws.Heads.{fit-ranges}
 use Rattle.state.proofs.From.Look.{Answered, look-good}
 use Rattle.state.proofs.To.Known.{Freed, held-is, chain-inside, root-inside, free-inside, chain-short, tree-list, times-tree, tree-ready, page-free, head-fits, page-kept}
 use Rattle.state.proofs.To.Fit.{Stands, fit-tree, pages-are}
@@ -189,7 +191,7 @@ module _ (half : ℕ) (X : Image) (Y : State) (some : 1 ≤ half)
             record {
               whole = length-fits;
               head-fits = head-passes;
-              head = head-facts half (pages-in half img) (page-at half img 0) head-passes;
+              head = fit-ranges half (pages-in half img) (page-at half img 0) head-passes;
               tree = tree-passes;
               never = λ p l b. never-passes p (omega arith) (omega (arith, pages-written));
             };

@@ -9,6 +9,9 @@ use lib.IntN.{natAbs}
 use mir.Syntax.{w32, w64}
 use mir.Val.{SFits}
 use borrow.Author.Tests.{le-leb}
+use Rattle.lists.specs.Lists.{All, all-none, all-more}
+use Rattle.lists.proofs.Choices.{cond-one}
+use Rattle.lists.proofs.All.{all-head, all-tail}
 use Rattle.rule.specs.declared.Pair.{Pair}
 use Rattle.rule.specs.Time.{most-value}
 use Rattle.rule.specs.Bounds.{value-or-none}
@@ -17,8 +20,7 @@ use Rattle.rule.proofs.Laws.{value-or-none-bound}
 use Rattle.page.specs.declared.Head.{Head}
 use Rattle.page.specs.Fit.{Place, pair-ok, most-changes}
 use Rattle.tree.specs.Tree.{Ent, Kid, Ents, Tree}
-use Rattle.tree.specs.Held.{All, all-none, all-more, Within}
-use Rattle.view.proofs.Lists.{cond-one, all-head, all-tail}
+use Rattle.tree.specs.Held.{Within}
 use Rattle.state.specs.Good.{Any, Value-or-none, Bounds}
 
 -- An entry of level l below pairs whose absolute sums and counts add to these.

@@ -6,7 +6,7 @@ use native.Mathlib.Omega.{arith}
 use lib.ListN.{length}
 use borrow.Author.Tests.{not-true, not-false}
 use Rattle.page.specs.Layout.{next-of}
-use Rattle.audit.specs.Counting.{chain-ends}
+use Rattle.soundness.specs.Counting.{chain-ends}
 use Rattle.lent.specs.Opened.{Within}
 use Rattle.lent.proofs.Laws.{page-length}
 use Rattle.audit.specs.Walks.{leads-to-free}

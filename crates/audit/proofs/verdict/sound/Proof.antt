@@ -43,15 +43,15 @@ sound-spec =
     (λ c. search needs)
     (λ c. search needs)
     returns
-    (λ c κs. opened-ranges (headed (c .before)) .height .0)
+    (λ c κs. opened-ranges (headed (c .before)) .height-least)
     (λ c κs. rw (c .root-place .ensures) (root-standing (headed (c .before .before))))
     (λ c. search needs)
     (λ c. search needs)
     (λ c. unsound-tree (walked (c .before .before)) (c .enum-told2 .given .1))
-    (λ c κs. omega (arith, opened-ranges (walked (c .before .before .before) .opened) .mark))
+    (λ c κs. omega (arith, opened-ranges (walked (c .before .before .before) .opened) .mark-least))
     returns-3
     (λ c κs. opened-size (walked (c .before .before .before .before .before) .opened))
     (λ c κs.
     let o = walked (c .before .before .before .before .before .before) .opened in
-    (opened-size o, omega (arith, opened-ranges o .mark, opened-ranges o .pages)))
+    (opened-size o, omega (arith, opened-ranges o .mark-most, opened-ranges o .pages-is)))
     returns-4)

@@ -12,14 +12,15 @@ use Rattle.image.specs.Images.{page-at}
 use Rattle.image.specs.Sound.{sound}
 use Rattle.calls.specs.Calls.{head}
 use Rattle.lent.specs.Opened.{Within}
-use Rattle.lent.proofs.Laws.{sized, page-length}
+use Rattle.image.proofs.Sizes.{sized}
+use Rattle.lent.proofs.Laws.{page-length}
 use Rattle.booking.proofs.Laws.Late.{late-21, late-22, late-23, late-24, late-0}
 use Rattle.booking.proofs.judging.judge.Statement.{statement}
 use Rattle.booking.proofs.judging.judge.Tie as tie
 
 within : (c : tie.After-shared-slice-known) → Within (c .before .args .img .now) 0
 within c =
-    let z = sized _ (c .before .pre .0) in
+    let z = sized 12 _ (c .before .pre .0) in
     omega (arith, z .size, z .least)
 
 passed : (c : tie.Else1) → sound 12 (c .before .before .before .args .img .now) ≡ true

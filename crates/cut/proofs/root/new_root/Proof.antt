@@ -1,7 +1,7 @@
 -- `cut::root::new_root` meets its contract by computation. Assumes nothing.
 use mathlib.Core.Path.{refl}
 use borrow.Author.Needs.{needs}
-use Rattle.page.specs.Layout.{listed}
+use Rattle.lists.specs.Lists.{listed}
 use Rattle.page.specs.Decoded.{shown-at, shown}
 use Rattle.cut.proofs.root.new_root.Statement.{statement}
 use Rattle.cut.proofs.root.new_root.Tie as tie

@@ -2,7 +2,8 @@
 use mathlib.Core.Path.{sym, _∙_}
 use native.Mathlib.Omega.{arith}
 use Rattle.page.specs.Decoded.{shown-at}
-use Rattle.edit.proofs.Places.{entry-passed, shown-get}
+use Rattle.page.proofs.Laws.Decoded.{at-shown}
+use Rattle.edit.proofs.Places.{entry-passed}
 use Rattle.edit.proofs.entry.entry_at.Statement.{statement}
 use Rattle.edit.proofs.entry.entry_at.Tie as tie
 
@@ -11,7 +12,7 @@ unfolding shown-at
 returns c =
     let args = c .before .before .before .before .args in
     entry-passed (shown-at (args .t1) (args .i)) (omega arith) (omega arith)
-    ∙ sym (shown-get (args .t1) (args .i) (omega arith))
+    ∙ sym (at-shown (args .t1) (args .i) (omega arith))
 
 pub entry-at-spec : {M : Type 1} → statement M
 entry-at-spec =

@@ -4,7 +4,7 @@ use mathlib.Core.Path.{_≡_, _∙_}
 use mathlib.Core.List.{[], _∷_}
 use native.Mathlib.Omega.{arith}
 use lib.ListN.{length-append, length-drop}
-use Rattle.page.specs.Entries.{splice}
+use Rattle.lists.specs.Lists.{splice}
 use Rattle.edit.proofs.Places.{firsts-length}
 use Rattle.edit.proofs.Edits.{shows-number, shows-as, shows-then, insert-entries}
 use Rattle.edit.proofs.insert.insert.Statement.{statement}

@@ -5,7 +5,8 @@ use native.Mathlib.Omega.{arith}
 use borrow.Author.Needs.{needs}
 use Rattle.rule.specs.Pairs.{combine}
 use Rattle.page.specs.Decoded.{shown-at}
-use Rattle.edit.proofs.Places.{pair-passed, passed-pair, shown-get}
+use Rattle.page.proofs.Laws.Decoded.{at-shown}
+use Rattle.edit.proofs.Places.{pair-passed, passed-pair}
 use Rattle.edit.proofs.Pushed.{Pushed, pushed-none, pushed-more, pushed-all}
 use Rattle.edit.proofs.push.push.Statement.{statement}
 use Rattle.edit.proofs.push.push.Tie as tie
@@ -26,7 +27,7 @@ combine-requires c κs =
     let p = start .args .t3 in
     let i = c .before .before .before .loop .i in
     rw (pair-passed (shown-at p i .pair) (omega arith) (omega arith))
-    (rw (shown-get p i (omega arith)) at (start .pre .each i (omega arith)))
+    (rw (at-shown p i (omega arith)) at (start .pre .each i (omega arith)))
 
 loop-again : tie.Need-loop-again Inv-loop μ-loop
 unfolding shown-at

@@ -1,7 +1,7 @@
 -- `edit::split::rest_of` meets its contract: the places from the k-th on, behind none. Assumes nothing.
 use native.Mathlib.Omega.{arith}
 use Rattle.page.specs.Decoded.{shown}
-use Rattle.page.specs.Layout.{listed}
+use Rattle.lists.specs.Lists.{listed}
 use Rattle.edit.specs.Shows.{firsts}
 use Rattle.edit.proofs.split.rest_of.Statement.{statement}
 use Rattle.edit.proofs.split.rest_of.Tie as tie

@@ -4,7 +4,8 @@ use Prim.Native.Nat.{ℕ}
 use native.Mathlib.Omega.{arith}
 use Rattle.fields.specs.Bytes.{unused}
 use Rattle.image.specs.Images.{pages-in}
-use Rattle.format.proofs.Laws.Fresh.{Sized, sized, fresh-written}
+use Rattle.image.proofs.Sizes.{Sized, sized}
+use Rattle.format.proofs.Laws.Fresh.{fresh-written}
 use Rattle.format.proofs.fresh.write_fresh.Statement.{statement}
 use Rattle.format.proofs.fresh.write_fresh.Tie as tie
 
@@ -21,7 +22,7 @@ returns c =
     let args = start .before .args in
     let img : List ℕ = args .img .now in
     let z = size start in
-    fresh-written 12 (args .kind) (args .window) (pages-in 12 img) (omega arith) (z .least) img (z .whole)
+    fresh-written 12 (args .kind) (args .window) (pages-in 12 img) (omega arith) (z .least) img (z .size)
     (head .write-fresh-head .ensures) (root .write-fresh-root .ensures) (rest .fill .ensures)
 
 pub write-fresh-spec : {M : Type 1} → statement M

@@ -1,6 +1,6 @@
 -- `format::fresh::write_fresh_root` meets its contract: a page of zeros that has one entry shows entry 0 with (0, 0). Assumes nothing.
 use native.Mathlib.Omega.{arith}
-use Rattle.page.specs.Layout.{listed}
+use Rattle.lists.specs.Lists.{listed}
 use Rattle.page.specs.Decoded.{shown-at, shown}
 use Rattle.format.proofs.fresh.write_fresh_root.Statement.{statement}
 use Rattle.format.proofs.fresh.write_fresh_root.Tie as tie

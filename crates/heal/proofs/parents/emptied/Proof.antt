@@ -3,7 +3,7 @@ use mathlib.Core.Path.{ap}
 use mathlib.Core.List.{[], _∷_}
 use borrow.Author.Needs.{needs}
 use Rattle.page.specs.Decoded.{shown}
-use Rattle.page.specs.Entries.{splice}
+use Rattle.lists.specs.Lists.{splice}
 use Rattle.edit.proofs.Edits.{shows-as}
 use Rattle.heal.specs.Siblings.{emptied}
 use Rattle.heal.proofs.parents.emptied.Statement.{statement}

@@ -7,7 +7,8 @@ use native.Mathlib.Numerals.{add-one}
 use native.Mathlib.Omega.{arith}
 use Rattle.page.specs.declared.Entry.{Entry}
 use Rattle.page.specs.Decoded.{shown}
-use Rattle.page.specs.Entries.{at, splice}
+use Rattle.page.specs.Entries.{at}
+use Rattle.lists.specs.Lists.{splice}
 use Rattle.page.proofs.Laws.Decoded.{length-shown}
 use Rattle.edit.specs.Shows.{Shows}
 use Rattle.edit.proofs.Edits.{shows-number, shows-as}

@@ -7,7 +7,7 @@ use native.Mathlib.Numerals.{add-one}
 use native.Mathlib.Omega.{arith}
 use Rattle.page.specs.declared.Entry.{Entry}
 use Rattle.page.specs.Decoded.{shown}
-use Rattle.page.specs.Entries.{splice}
+use Rattle.lists.specs.Lists.{splice}
 use Rattle.page.proofs.Laws.Decoded.{length-shown}
 use Rattle.edit.proofs.Edits.{shows-number, shows-as}
 use Rattle.heal.proofs.Parts.{length-splice}

@@ -5,12 +5,13 @@ use lib.ListN.{length}
 use Rattle.page.specs.Layout.{head-of}
 use Rattle.page.specs.Fit.{head-fit}
 use Rattle.image.specs.Images.{pages-in, page-at}
-use Rattle.lent.proofs.Laws.{Sized, sized, page-length, opening-fit, opening-unfit}
+use Rattle.image.proofs.Sizes.{Sized, sized}
+use Rattle.lent.proofs.Laws.{page-length, opening-fit, opening-unfit}
 use Rattle.lent.proofs.heads.open_head.Statement.{statement}
 use Rattle.lent.proofs.heads.open_head.Tie as tie
 
-fits : (c : tie.After-shared-slice-known) → Sized (c .before .args .img .now)
-fits c = sized _ (c .before .pre)
+fits : (c : tie.After-shared-slice-known) → Sized 12 (c .before .args .img .now)
+fits c = sized 12 _ (c .before .pre)
 
 page-long : (c : tie.After-page-at) → length (c .page-at .result .now) ≡ 512
 page-long c = ap length (c .page-at .ensures) ∙ page-length _ 0 (omega (arith, fits (c .before) .size, fits (c .before) .least))

@@ -22,4 +22,4 @@ returns c =
 pub walk-root-spec : {M : Type 1} → statement M
 walk-root-spec =
     tie.close
-    (tie.spec (λ c κs. opened-ranges (c .before .before .pre .0) .height .0) walk-page-requires (λ c. search needs) returns)
+    (tie.spec (λ c κs. opened-ranges (c .before .before .pre .0) .height-least) walk-page-requires (λ c. search needs) returns)

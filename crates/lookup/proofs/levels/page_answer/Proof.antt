@@ -7,7 +7,7 @@ use borrow.Author.Needs.{needs}
 use borrow.Author.Tests.{not-true, not-false}
 use Rattle.page.specs.Fit.{page-fit}
 use Rattle.fit.proofs.Laws.Pages.{PageFit, page-fit-is, entry-first}
-use Rattle.lookup.proofs.Laws.Finds.{place-within}
+use Rattle.page.proofs.Laws.Places.{place-within}
 use Rattle.lookup.proofs.Laws.Levels.{level-unfit, level-found, fit-searched}
 use Rattle.lookup.proofs.levels.page_answer.Statement.{statement}
 use Rattle.lookup.proofs.levels.page_answer.Tie as tie

@@ -75,7 +75,7 @@ pub look-up-spec : {M : Type 1} → statement M
 look-up-spec =
     tie.close
     (tie.spec Inv-loop μ-loop
-    (λ c κs. opened-ranges (c .before .pre) .height .0)
+    (λ c κs. opened-ranges (c .before .pre) .height-least)
     loop-holds
     level-answer-requires
     (λ c. omega (arith, c .before .loop .inv .way .level))

@@ -6,13 +6,14 @@ use Rattle.page.specs.declared.Head.{Head}
 use Rattle.page.specs.Layout.{head-of}
 use Rattle.calls.specs.Calls.{head}
 use Rattle.lent.specs.Opened.{Within}
-use Rattle.lent.proofs.Laws.{sized, page-length}
+use Rattle.image.proofs.Sizes.{sized}
+use Rattle.lent.proofs.Laws.{page-length}
 use Rattle.luwhenoka.proofs.averages.kind_of.Statement.{statement}
 use Rattle.luwhenoka.proofs.averages.kind_of.Tie as tie
 
 within : (c : tie.After-shared-slice-known) → Within (c .before .args .img .now) 0
 within c =
-    let z = sized _ (c .before .pre) in
+    let z = sized 12 _ (c .before .pre) in
     omega (arith, z .size, z .least)
 
 returns : tie.Need-returns

@@ -11,7 +11,8 @@ use mir.Syntax.{w32, w64}
 use mir.Val.{hbits, toZ, ofZ}
 use Rattle.page.specs.Entries.{entry}
 use Rattle.page.specs.declared.Page.{Page}
-use Rattle.page.specs.Layout.{listed, with-entry}
+use Rattle.lists.specs.Lists.{listed}
+use Rattle.page.specs.Layout.{with-entry}
 use Rattle.page.specs.Decoded.{shown-at, shown}
 use Rattle.page.proofs.Laws.Signed.{result-is}
 use Rattle.page.proofs.Laws.Trees.{page-bytes, page-none, page-listed-more, page-listed}

@@ -2,7 +2,7 @@
 use mathlib.Core.Path.{ap, _∙_}
 use native.Mathlib.Omega.{arith}
 use borrow.Author.Needs.{needs}
-use Rattle.edit.proofs.Places.{shown-length}
+use Rattle.page.proofs.Laws.Decoded.{length-shown}
 use Rattle.page.specs.Decoded.{shown}
 use Rattle.spread.proofs.Laws.{end-next, end-last}
 use Rattle.spread.proofs.entries.end_of.Statement.{statement}
@@ -12,12 +12,12 @@ returns : tie.Need-returns
 returns c =
     let args = c .before .before .before .args in
     ap (λ x. x .start) (c .entry-at .ensures)
-    ∙ end-next (args .hi) (shown (args .page)) (args .i) (omega (arith, shown-length (args .page)))
+    ∙ end-next (args .hi) (shown (args .page)) (args .i) (omega (arith, length-shown (args .page)))
 
 returns-2 : tie.Need-returns-2
 returns-2 c =
     let args = c .before .before .args in
-    end-last (args .hi) (shown (args .page)) (args .i) (omega (arith, shown-length (args .page)))
+    end-last (args .hi) (shown (args .page)) (args .i) (omega (arith, length-shown (args .page)))
 
 pub end-of-spec : {M : Type 1} → statement M
 end-of-spec = tie.close (tie.spec (λ c. search needs) (λ c κs. search needs) returns returns-2)

@@ -1,0 +1,47 @@
+-- How many runs walks in turn find, and that joining makes them fewer. Assumes nothing.
+use Prim.Native.Nat.{ℕ, zero, suc, _*_, _≤_}
+use mathlib.Core.Path.{_≡_}
+use mathlib.Core.Bool.{Bool, true, false, cond}
+use mathlib.Core.List.{List, [], _∷_}
+use native.Mathlib.Nat.{mul-add}
+use native.Mathlib.Omega.{arith}
+use lib.ListN.{length, length-append, length-map}
+use Rattle.lists.specs.Lists.{total}
+use Rattle.rule.specs.declared.Pair.{Pair}
+use Rattle.rule.specs.Pairs.{same-pair}
+use Rattle.image.specs.Listing.{Run, Walked, nothing, then, in-turn, under, join-after, join}
+
+-- ---- walks in turn
+
+pub turn-le : (n : ℕ) (f : ℕ → Walked) (g : ℕ → ℕ) (k : ℕ) → ((i : ℕ) → length (f i .runs) ≤ k * g i)
+    → length (in-turn n f .runs) ≤ k * total n g
+unfolding total in-turn then nothing
+turn-le zero f g k h = omega arith
+turn-le (suc n) f g k h =
+    rw (mul-add k (total n g) (g n)) (omega (arith, length-append (in-turn n f .runs) (f n .runs), turn-le n f g k h, h n))
+
+pub picked-le : (t : Bool) (w : Walked) (m : ℕ) → length (w .runs) ≤ m → length (cond t w nothing .runs) ≤ m
+unfolding nothing
+picked-le true w m e = e
+picked-le false w m e = omega arith
+
+pub length-under : (comb : Pair → Pair → Pair) (p : Pair) (w : Walked) → length (under comb p w .runs) ≡ length (w .runs)
+unfolding under
+length-under comb p w = length-map (w .runs) _
+
+-- ---- joining makes them fewer
+
+join-after-few : (p : Pair) (rs : List Run) → length (join-after p rs) ≤ length rs
+unfolding join-after
+join-after-few p [] = omega arith
+join-after-few p (r ∷ rs) = pick (same-pair p (r .pair)) (join-after-few p rs) (join-after-few (r .pair) rs)
+  where
+    pick : (t : Bool) → length (join-after p rs) ≤ length rs → length (join-after (r .pair) rs) ≤ length rs
+        → length (cond t (join-after p rs) (r ∷ join-after (r .pair) rs)) ≤ suc (length rs)
+    pick true x y = omega arith
+    pick false x y = omega arith
+
+pub join-few : (rs : List Run) → length (join rs) ≤ length rs
+unfolding join
+join-few [] = omega arith
+join-few (r ∷ rs) = omega (arith, join-after-few (r .pair) rs)

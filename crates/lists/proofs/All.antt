@@ -1,0 +1,53 @@
+-- What holds of each element of a list: of the one in a place, of an append and the parts, and with others in the place of some.
+-- Assumes nothing.
+use Prim.Native.Nat.{ℕ, zero, suc, _<_}
+use mathlib.Core.List.{List, _∷_, _++_, map}
+use native.Mathlib.Omega.{arith}
+use lib.ListN.{length, take, drop, getD}
+use Rattle.lists.specs.Lists.{splice, All, all-none, all-more}
+
+module _ {A : Type 0} {Q : A → Type 0} where
+  pub all-at : {es : List A} (i : ℕ) (d : A) → All Q es → i < length es → Q (getD es i d)
+  all-at i d all-none h = absurd (omega arith)
+  all-at zero d (all-more q r) h = q
+  all-at (suc i) d (all-more q r) h = all-at i d r (omega arith)
+
+  -- also past the end
+  pub all-getD : {es : List A} (i : ℕ) {d : A} → All Q es → Q d → Q (getD es i d)
+  all-getD i all-none h = h
+  all-getD zero (all-more q r) h = q
+  all-getD (suc i) (all-more q r) h = all-getD i r h
+
+  pub all-head : {x : A} {xs : List A} → All Q (x ∷ xs) → Q x
+  all-head (all-more q a) = q
+
+  pub all-tail : {x : A} {xs : List A} → All Q (x ∷ xs) → All Q xs
+  all-tail (all-more q a) = a
+
+  pub all-append : {xs ys : List A} → All Q xs → All Q ys → All Q (xs ++ ys)
+  all-append all-none b = b
+  all-append (all-more q r) b = all-more q (all-append r b)
+
+  pub all-take : {es : List A} (k : ℕ) → All Q es → All Q (take k es)
+  all-take zero a = all-none
+  all-take (suc k) all-none = all-none
+  all-take (suc k) (all-more q r) = all-more q (all-take k r)
+
+  pub all-drop : {es : List A} (k : ℕ) → All Q es → All Q (drop k es)
+  all-drop zero a = a
+  all-drop (suc k) all-none = all-none
+  all-drop (suc k) (all-more q r) = all-drop k r
+
+  pub all-splice : {xs es : List A} (i : ℕ) → All Q xs → All Q es → All Q (splice i xs es)
+  unfolding splice
+  all-splice i a b = all-append (all-take i b) (all-append a (all-drop (suc i) b))
+
+-- of what becomes of each
+pub all-map : {A B : Type 0} {Q : A → Type 0} {R : B → Type 0} {es : List A} (f : A → B)
+    → ((x : A) → Q x → R (f x)) → All Q es → All R (map f es)
+all-map f h all-none = all-none
+all-map f h (all-more {x} q r) = all-more (h x q) (all-map f h r)
+
+pub all-weaken : {A : Type 0} {Q R : A → Type 0} {es : List A} → ((x : A) → Q x → R x) → All Q es → All R es
+all-weaken h all-none = all-none
+all-weaken h (all-more {x} q r) = all-more (h x q) (all-weaken h r)
