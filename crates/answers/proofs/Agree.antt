@@ -12,12 +12,12 @@ use Rattle.rule.specs.declared.Pair.{Pair}
 use Rattle.rule.specs.Time.{END, Span, span-ok}
 use Rattle.page.specs.declared.Head.{Head}
 use Rattle.page.specs.Layout.{head-of}
-use Rattle.page.specs.Fit.{root-place}
+use Rattle.page.specs.Fit.{root-context}
 use Rattle.image.specs.Images.{page-at, length-ok}
 use Rattle.image.specs.Instant.{look-up}
 use Rattle.image.specs.Listing.{Run, walk-over}
 use Rattle.calls.specs.Refusals.{first}
-use Rattle.calls.specs.Calls.{head-ok, instant, Listed, runs-over, too-short, written, listing-number, listing}
+use Rattle.calls.specs.Calls.{head-ok, instant, Listed, runs-over, too-short, written, listing-status, listing}
 use Rattle.calls.specs.Book.{runs-of, listing-of}
 use Rattle.answers.proofs.Tiles.{Tiles, tiles-at, join-tiles, runs-of-same}
 use Rattle.answers.proofs.Look.{Found, half-some}
@@ -27,12 +27,12 @@ use Rattle.answers.proofs.Calls.{Answered, instant-pair}
 module _ (half : ℕ) (img : List ℕ) (a b : ℕ) (span : Span a b) (fits : walk-over half img a b .fit ≡ true) where
   -- the walk's runs tile the span with what lookups find
   walk-over-tiles : Tiles (λ t p. Found (look-up half img t) p) a b (walk-over half img a b .runs)
-  unfolding walk-over look-up root-place
+  unfolding walk-over look-up root-context
   walk-over-tiles =
       let h : Head = head-of (page-at half img 0) in
-      let top = walk-top half h img a b (h .height - 1) (root-place h) (h .root) fits in
+      let top = walk-top half h img a b (h .height - 1) (root-context h) (h .root) fits in
       let some = half-some half h (page-at half img (h .root)) top in
-      let all = walk-tiles half h img a b some (span .before) (h .height - 1) (root-place h) (h .root) fits in
+      let all = walk-tiles half h img a b some (span .before) (h .height - 1) (root-context h) (h .root) fits in
       let lo : within a b 0 ≡ a = omega arith in
       let hi : within a b END ≡ b = omega (arith, span .before, span .within) in
       rw (lo, hi) at all
@@ -58,10 +58,10 @@ same-instants half half′ img img′ a b span e e′ f =
 
 -- ---- the calls
 
--- what a listing returns, by its number and its runs
+-- what a listing returns, by its status and its runs
 outcome : ℕ → List Run → List ℕ → Listed
 outcome number runs out =
-    record { number = number; runs = cond (eqb number 0) (length runs) 0; output = cond (eqb number 0) (written out runs) out }
+    record { status = number; runs = cond (eqb number 0) (length runs) 0; output = cond (eqb number 0) (written out runs) out }
 
 -- the rows where 16 doesn't turn back, and 21 only what 11 does
 rows : (y z : Bool) (rs rs′ : List Run) (out : List ℕ) → (y ≡ true → z ≡ true) → (y ≡ true → rs ≡ rs′)
@@ -72,7 +72,7 @@ rows false z rs rs′ out f e = refl
 rows true false rs rs′ out f e = absurd (false≢true (f refl))
 rows true true rs rs′ out f e = λ j. outcome (first ((15, too-short out (e refl j)) ∷ [])) (e refl j) out
 
--- what a number other than 16 and 21 says of those rows
+-- what a status other than 16 and 21 says of those rows
 passed : (x y z s : Bool) → first ((16, not x) ∷ (11, not y) ∷ (21, not z) ∷ (15, s) ∷ []) ≢ 16
     → first ((16, not x) ∷ (11, not y) ∷ (21, not z) ∷ (15, s) ∷ []) ≢ 21
     → (x ≡ true) × (y ≡ true → z ≡ true)
@@ -117,30 +117,31 @@ module _ (half a b : ℕ) (img : List ℕ) (x : length-ok half img ≡ true) (sp
       runs-agree half img a b span (k .1)
       ∙ runs-of-same (λ t. look-up half img t .pair) (λ t. instant half t img .pair) a b (span .before) (λ t l g. sym (instant-pair half t img (span-answered t l g)))
 
--- Where 16 and 21 don't turn it back, a listing is that of the plain rule, over what instants answer: by what these rows ask, and by the number.
+-- Where 16 and 21 don't turn it back, a listing is that of the plain rule, over what instants answer: by what these rows ask, and by the
+-- status.
 module _ (half a b : ℕ) (img out : List ℕ) where
   pub listing-answered : length-ok half img ≡ true → (span-ok a b ≡ true → head-ok half img && walk-over half img a b .fit ≡ true)
       → listing half a b img out ≡ listing-of (λ t. instant half t img .pair) a b out
-  unfolding listing listing-number listing-of outcome
+  unfolding listing listing-status listing-of outcome
   listing-answered x z =
       let met : Bool = head-ok half img && walk-over half img a b .fit in
       let rs : List Run = runs-over half a b img in
       (λ j. outcome (first ((16, not (x j)) ∷ (11, not (span-ok a b)) ∷ (21, not met) ∷ (15, too-short out rs) ∷ [])) rs out)
       ∙ rows (span-ok a b) met rs (runs-of (λ t. instant half t img .pair) a b) out z (λ y. span-runs half a b img x (span-is a b y) (z y))
 
-  pub listing-agrees : listing half a b img out .number ≢ 16 → listing half a b img out .number ≢ 21
+  pub listing-agrees : listing half a b img out .status ≢ 16 → listing half a b img out .status ≢ 21
       → listing half a b img out ≡ listing-of (λ t. instant half t img .pair) a b out
   listing-agrees n m = listing-answered (asked .0) (asked .1)
     where
       asked : (length-ok half img ≡ true) × (span-ok a b ≡ true → head-ok half img && walk-over half img a b .fit ≡ true)
       asked =
-          unfold listing listing-number in
+          unfold listing listing-status in
           passed (length-ok half img) (span-ok a b) (head-ok half img && walk-over half img a b .fit) (too-short out (runs-over half a b img)) n m
 
 -- two images in which the instants of a span have the same pairs have the same listing over it
 pub same-listings : (half half′ a b : ℕ) (img img′ out : List ℕ)
-    → listing half a b img out .number ≢ 16 → listing half a b img out .number ≢ 21
-    → listing half′ a b img′ out .number ≢ 16 → listing half′ a b img′ out .number ≢ 21
+    → listing half a b img out .status ≢ 16 → listing half a b img out .status ≢ 21
+    → listing half′ a b img′ out .status ≢ 16 → listing half′ a b img′ out .status ≢ 21
     → ((t : ℕ) → a ≤ t → t < b → b ≤ END → instant half t img .pair ≡ instant half′ t img′ .pair)
     → listing half a b img out ≡ listing half′ a b img′ out
 same-listings half half′ a b img img′ out n m n′ m′ f =

@@ -9,11 +9,11 @@ use borrow.Author.Tests.{leb-false, lt-leb, lt-ltb}
 use Rattle.rule.specs.Time.{END}
 use Rattle.rule.specs.Pairs.{none}
 use Rattle.page.specs.declared.Head.{Head}
-use Rattle.page.specs.Fit.{root-place}
+use Rattle.page.specs.Fit.{root-context}
 use Rattle.image.specs.Images.{page-at, pages-in, length-ok}
 use Rattle.image.specs.Instant.{look-up}
 use Rattle.calls.specs.Refusals.{first}
-use Rattle.calls.specs.Calls.{head, head-ok, instant, instant-number}
+use Rattle.calls.specs.Calls.{head, head-ok, instant, instant-status}
 use Rattle.fit.proofs.Laws.Heads.{fit-ranges}
 use Rattle.answers.proofs.Rows.{asked}
 use Rattle.answers.proofs.Look.{look-pages}
@@ -26,16 +26,16 @@ pub record Answered (half t : ℕ) (img : List ℕ) : Type 0 where
   pub look-fits : look-up half img t .fit ≡ true
 
 module _ (half t : ℕ) (img : List ℕ) where
-  pub answered : instant half t img .number ≡ 0 → Answered half t img
-  unfolding instant instant-number
+  pub answered : instant half t img .status ≡ 0 → Answered half t img
+  unfolding instant instant-status
   answered e =
       let k = asked (length-ok half img) (leb END t) (head-ok half img && look-up half img t .fit) e in
       let m = and-eq-true-iff (head-ok half img) (look-up half img t .fit) .0 (k .pages-fit) in
       record { length-fits = k .length-fits; before-end = leb-false END t (k .before-end); head-fits = m .0; look-fits = m .1 }
 
   -- and back: nothing else is asked
-  pub answers : Answered half t img → instant half t img .number ≡ 0
-  unfolding instant instant-number first
+  pub answers : Answered half t img → instant half t img .status ≡ 0
+  unfolding instant instant-status first
   answers f =
       let past : leb END t ≡ false = lt-leb END t (f .before-end) in
       λ j. first ((16, not (f .length-fits j)) ∷ (12, past j) ∷ (21, not (f .head-fits j && f .look-fits j)) ∷ [])
@@ -56,4 +56,4 @@ module _ (half t : ℕ) (img : List ℕ) where
   look-up-pages e f =
       let h : Head = head half img in
       let k = fit-ranges half (pages-in half img) (page-at half img 0) e in
-      look-pages half h img t (h .height - 1) (root-place h) (h .root) f ∙ omega (arith, k .height-least)
+      look-pages half h img t (h .height - 1) (root-context h) (h .root) f ∙ omega (arith, k .height-least)

@@ -11,17 +11,17 @@ use lib.Dec.{eqb, leb, ltb}
 use borrow.Author.Tests.{eqb-true, le-ltb, leb-true, ltb-true}
 use Rattle.rule.specs.declared.Pair.{Pair}
 use Rattle.rule.specs.declared.Average.the-variants.{Hundredths, Nothing, Beyond}
-use Rattle.rule.specs.Time.{END, span-ok, value-ok, lengthened}
+use Rattle.rule.specs.Time.{END, span-ok, value-ok, effect-end}
 use Rattle.rule.specs.Averages.{hundredths, average, most-sum}
 use Rattle.page.specs.declared.Head.{Head}
-use Rattle.page.specs.Fit.{root-place, most-changes}
+use Rattle.page.specs.Fit.{root-context, most-changes}
 use Rattle.image.specs.Images.{page-at, pages-in, length-ok, image-of}
 use Rattle.image.specs.Sound.{sound}
 use Rattle.image.specs.Instant.{look-up}
 use Rattle.steps.specs.Change.{lacks-pages}
 use Rattle.calls.specs.Refusals.{first, scratch-ok, cleared, scratch-after}
 use Rattle.calls.specs.Changes.{withdraws}
-use Rattle.calls.specs.Calls.{head, head-ok, format, book-early, book-number, book, instant, instant-number, average-at, listing, audit-early, audit}
+use Rattle.calls.specs.Calls.{head, head-ok, format, book-input-rows, book-status, book, instant, instant-status, average-at, listing, audit-input-rows, audit}
 use Rattle.calls.specs.Demands.{Demand-1}
 use Rattle.fit.proofs.Laws.Heads.{fit-ranges}
 use Rattle.answers.proofs.Rows.{kept, book-scratch, audit-scratch}
@@ -30,8 +30,8 @@ use Rattle.answers.proofs.Calls.{Answered, answered, instant-pair, inst
 
 -- ---- the pages that an instant reports
 
-unread : (half t : ℕ) (img : List ℕ) → instant half t img .number ≢ 0 → instant half t img .number ≢ 21 → instant half t img .pages ≡ 0
-unfolding instant instant-number first
+unread : (half t : ℕ) (img : List ℕ) → instant half t img .status ≢ 0 → instant half t img .status ≢ 21 → instant half t img .pages ≡ 0
+unfolding instant instant-status first
 unread half t img n m = go (length-ok half img) (leb END t) (head-ok half img && look-up half img t .fit) refl n m
   where
     go : (x y z : Bool) → leb END t ≡ y → first ((16, not x) ∷ (12, y) ∷ (21, not z) ∷ []) ≢ 0 → first ((16, not x) ∷ (12, y) ∷ (21, not z) ∷ []) ≢ 21
@@ -56,21 +56,21 @@ average-within kind p f = go (eqb kind 1) (leZ (p .count) (pos 0)) (ltb most-sum
 
 -- kind 1: what an instant answers is at most what a fit page can show
 pub look-up-sum : (half t : ℕ) (img : List ℕ) → Answered half t img → eqb (head half img .kind) 1 ≡ true → natAbs (look-up half img t .pair .sum) ≤ most-sum
-unfolding look-up head head-ok root-place
+unfolding look-up head head-ok root-context
 look-up-sum half t img f one =
     let h : Head = head half img in
     let k = fit-ranges half (pages-in half img) (page-at half img 0) (f .head-fits) in
-    let top = look-top half h img t (h .height - 1) (root-place h) (h .root) (f .look-fits) in
+    let top = look-top half h img t (h .height - 1) (root-context h) (h .root) (f .look-fits) in
     let some = half-some half h (page-at half img (h .root)) top in
-    omega (arith, look-sum half h img t some one (h .height - 1) (root-place h) (h .root) (f .look-fits), k .changes-most)
+    omega (arith, look-sum half h img t some one (h .height - 1) (root-context h) (h .root) (f .look-fits), k .changes-most)
 
 never-beyond : (half t : ℕ) (img : List ℕ) → average-at half t img .average ≢ Beyond
 unfolding average-at
-never-beyond half t img = go (eqb (instant half t img .number) 0) refl
+never-beyond half t img = go (eqb (instant half t img .status) 0) refl
   where
-    go : (c : Bool) → eqb (instant half t img .number) 0 ≡ c → cond c (average (head half img .kind) (instant half t img .pair)) Nothing ≢ Beyond
+    go : (c : Bool) → eqb (instant half t img .status) 0 ≡ c → cond c (average (head half img .kind) (instant half t img .pair)) Nothing ≢ Beyond
     go true d e =
-        let f = answered half t img (eqb-true (instant half t img .number) 0 d) in
+        let f = answered half t img (eqb-true (instant half t img .status) 0 d) in
         let same : natAbs (instant half t img .pair .sum) ≡ natAbs (look-up half img t .pair .sum) = ap (λ (q : Pair). natAbs (q .sum)) (instant-pair half t img f) in
         average-within (head half img .kind) (instant half t img .pair) (λ one. omega (arith, look-up-sum half t img f one)) e
     go false d e = let no : _≡_ {A = ℕ} 0 1 = cc in omega arith
@@ -78,7 +78,7 @@ never-beyond half t img = go (eqb (instant half t img .number) 0) refl
 -- ---- all of it
 
 pub demand-1 : (half : ℕ) → Demand-1 half
-unfolding format book instant average-at listing audit book-early book-number audit-early scratch-after
+unfolding format book instant average-at listing audit book-input-rows book-status audit-input-rows scratch-after
 demand-1 half =
     record {
       of-format = λ kind window img n. kept _ _ img n;
@@ -90,7 +90,7 @@ demand-1 half =
           λ side v s e img scratch. (
             book-scratch (not (length-ok half img)) (not (scratch-ok (pages-in half img) scratch)) (not (span-ok s e)) (not (value-ok v)) (not (sound half img))
                 (withdraws side && not (eqb (head half img .kind) 1)) (eqb (head half img .changes) most-changes)
-                (lacks-pages half s (lengthened e (head half img .window)) (image-of half img)) scratch (cleared (pages-in half img) scratch),
+                (lacks-pages half s (effect-end e (head half img .window)) (image-of half img)) scratch (cleared (pages-in half img) scratch),
             audit-scratch (not (length-ok half img)) (not (scratch-ok (pages-in half img) scratch)) (not (sound half img)) scratch (cleared (pages-in half img) scratch),
           );
       of-pages =

@@ -1,4 +1,4 @@
--- How many runs a walk finds: for each page that it finds fit, no more than a page has places for entries. Assumes nothing.
+-- How many runs a walk finds: for each page that it finds fit, no more than a page has slots for entries. Assumes nothing.
 use mathlib.Core.Path.{_≡_, refl, ap}
 use mathlib.Core.Logic.{_≢_}
 use mathlib.Core.Bool.{Bool, true, false, cond, not, _&&_, and-eq-true-iff, true≢false}
@@ -12,14 +12,14 @@ use borrow.Author.Tests.{le-ltb}
 use Rattle.rule.specs.Pairs.{combine}
 use Rattle.rule.specs.Time.{span-ok, overlaps}
 use Rattle.page.specs.declared.Head.{Head}
-use Rattle.page.specs.Layout.{capacity, number-of, start-at, pair-at, child-at}
-use Rattle.page.specs.Fit.{Place, root-place, place-below, end-at, page-fit}
+use Rattle.page.specs.Layout.{capacity, entry-count, start-at, pair-at, child-at}
+use Rattle.page.specs.Fit.{Page-context, root-context, context-below, end-at, page-fit}
 use Rattle.image.specs.Images.{page-at, pages-in, length-ok}
 use Rattle.image.specs.Listing.{Walked, nothing, stopped, in-turn, under, leaf-run, walk-page, walk, walk-over}
 use Rattle.image.specs.Trail.{Visit, each-in-turn, finds-fit, visits, entries-over}
 use Rattle.image.specs.Looks.{found-fit}
 use Rattle.calls.specs.Refusals.{first}
-use Rattle.calls.specs.Calls.{head-ok, runs-over, too-short, listing-number, listing}
+use Rattle.calls.specs.Calls.{head-ok, runs-over, too-short, listing-status, listing}
 use Rattle.calls.specs.Walks.{Few-runs}
 use Rattle.lists.specs.Lists.{total}
 use Rattle.lists.proofs.Totals.{total-ones}
@@ -44,7 +44,7 @@ module _ (half : ℕ) (h : Head) (img : List ℕ) where
       )
 
   module _ (a b : ℕ) where
-    walk-few : (l : ℕ) (at : Place) (p : ℕ)
+    walk-few : (l : ℕ) (at : Page-context) (p : ℕ)
         → length (walk half h img a b l at p .runs) ≤ capacity half * length (found-fit half h img (visits half h img (entries-over a b) l at p))
     unfolding walk walk-page visits found-fit finds-fit entries-over stopped leaf-run
     walk-few zero at p = go (page-fit half h at s) refl
@@ -56,27 +56,27 @@ module _ (half : ℕ) (h : Head) (img : List ℕ) where
         found i = cond (overlaps a b (start-at s i) (end-at s (at .hi) i)) (leaf-run a (start-at s i) (pair-at half s i)) nothing
 
         go : (c : Bool) → page-fit half h at s ≡ c
-            → length (cond c (in-turn (number-of s) found) stopped .runs) ≤ capacity half * length (cond c (p ∷ []) [])
+            → length (cond c (in-turn (entry-count s) found) stopped .runs) ≤ capacity half * length (cond c (p ∷ []) [])
         go true e =
-            let few : length (in-turn (number-of s) found .runs) ≤ 1 * total (number-of s) (λ _. 1) =
-            turn-le (number-of s) found (λ _. 1) 1
+            let few : length (in-turn (entry-count s) found .runs) ≤ 1 * total (entry-count s) (λ _. 1) =
+            turn-le (entry-count s) found (λ _. 1) 1
             (λ i. picked-le (overlaps a b (start-at s i) (end-at s (at .hi) i)) (leaf-run a (start-at s i) (pair-at half s i)) 1 (omega arith)) in
-            omega (arith, few, total-ones (number-of s) (λ _. 1) (λ i l. refl), page-fit-is half h at s .0 e .most)
+            omega (arith, few, total-ones (entry-count s) (λ _. 1) (λ i l. refl), page-fit-is half h at s .0 e .most)
         go false e = omega arith
     walk-few (suc l) at p =
-        go (λ i. walk-few l (place-below half (page-at half img p) at i) (child-at half (page-at half img p) i)) (page-fit half h at (page-at half img p))
+        go (λ i. walk-few l (context-below half (page-at half img p) at i) (child-at half (page-at half img p) i)) (page-fit half h at (page-at half img p))
       where
         s : List ℕ
         s = page-at half img p
 
         down : ℕ → Walked
-        down i = under (combine (h .kind)) (pair-at half s i) (walk half h img a b l (place-below half s at i) (child-at half s i))
+        down i = under (combine (h .kind)) (pair-at half s i) (walk half h img a b l (context-below half s at i) (child-at half s i))
 
         found : ℕ → Walked
         found i = cond (overlaps a b (start-at s i) (end-at s (at .hi) i)) (down i) nothing
 
         below : ℕ → List Visit
-        below i = visits half h img (entries-over a b) l (place-below half s at i) (child-at half s i)
+        below i = visits half h img (entries-over a b) l (context-below half s at i) (child-at half s i)
 
         looks : ℕ → List Visit
         looks i = cond (overlaps a b (start-at s i) (end-at s (at .hi) i)) (below i) []
@@ -87,22 +87,22 @@ module _ (half : ℕ) (h : Head) (img : List ℕ) where
         both false i r = unfold nothing in omega arith
 
         go : ((i : ℕ)
-            → length (walk half h img a b l (place-below half s at i) (child-at half s i) .runs)
+            → length (walk half h img a b l (context-below half s at i) (child-at half s i) .runs)
             ≤ capacity half * length (found-fit half h img (below i)))
             → (c : Bool)
-            → length (cond c (in-turn (number-of s) found) stopped .runs)
+            → length (cond c (in-turn (entry-count s) found) stopped .runs)
             ≤ capacity half
             * length
-            (cond c (p ∷ found-fit half h img (cond c (each-in-turn (number-of s) looks) []))
-            (found-fit half h img (cond c (each-in-turn (number-of s) looks) [])))
+            (cond c (p ∷ found-fit half h img (cond c (each-in-turn (entry-count s) looks) []))
+            (found-fit half h img (cond c (each-in-turn (entry-count s) looks) [])))
         go r true =
-            let all : length (in-turn (number-of s) found .runs) ≤ capacity half * total (number-of s) (λ i. length (found-fit half h img (looks i))) =
-            turn-le (number-of s) found (λ i. length (found-fit half h img (looks i))) (capacity half)
+            let all : length (in-turn (entry-count s) found .runs) ≤ capacity half * total (entry-count s) (λ i. length (found-fit half h img (looks i))) =
+            turn-le (entry-count s) found (λ i. length (found-fit half h img (looks i))) (capacity half)
             (λ i. both (overlaps a b (start-at s i) (end-at s (at .hi) i)) i (rw length-under (r i))) in
-            let more : capacity half * length (found-fit half h img (each-in-turn (number-of s) looks))
-            ≤ capacity half * suc (length (found-fit half h img (each-in-turn (number-of s) looks))) =
+            let more : capacity half * length (found-fit half h img (each-in-turn (entry-count s) looks))
+            ≤ capacity half * suc (length (found-fit half h img (each-in-turn (entry-count s) looks))) =
             mul-le-mul-left (capacity half) (omega arith) in
-            omega (arith, all, ap (λ k. capacity half * k) (found-length (number-of s) looks), more)
+            omega (arith, all, ap (λ k. capacity half * k) (found-length (entry-count s) looks), more)
         go r false = omega arith
 
 -- ---- from the root
@@ -117,8 +117,8 @@ shown half a b img fits =
     mul-le-mul-left (capacity half) (omega (arith, few)) in
     omega (
       arith,
-      join-few (walk half h img a b (h .height - 1) (root-place h) (h .root) .runs),
-      walk-few half h img a b (h .height - 1) (root-place h) (h .root),
+      join-few (walk half h img a b (h .height - 1) (root-context h) (h .root) .runs),
+      walk-few half h img a b (h .height - 1) (root-context h) (h .root),
       most,
     )
 
@@ -142,14 +142,14 @@ rows-enough true true true true f e = true≢false (f refl)
 rows-enough true true true false f e = omega arith
 
 answered : (half a b : ℕ) (img out : List ℕ) → listing half a b img out .runs ≤ capacity half * (pages-in half img - 1)
-unfolding listing listing-number
+unfolding listing listing-status
 answered half a b img out =
     rows-answer (length-ok half img) (span-ok a b) (head-ok half img && walk-over half img a b .fit) (too-short out (runs-over half a b img))
     (length (runs-over half a b img)) (capacity half * (pages-in half img - 1))
     (λ z. shown half a b img (and-eq-true-iff (head-ok half img) (walk-over half img a b .fit) .0 z .0))
 
-enough : (half a b : ℕ) (img out : List ℕ) → 16 * (capacity half * (pages-in half img - 1)) ≤ length out → listing half a b img out .number ≢ 15
-unfolding listing listing-number too-short
+enough : (half a b : ℕ) (img out : List ℕ) → 16 * (capacity half * (pages-in half img - 1)) ≤ length out → listing half a b img out .status ≢ 15
+unfolding listing listing-status too-short
 enough half a b img out room =
     rows-enough (length-ok half img) (span-ok a b) (head-ok half img && walk-over half img a b .fit) (too-short out (runs-over half a b img))
     (λ z.

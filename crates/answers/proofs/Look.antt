@@ -11,34 +11,34 @@ use Rattle.rule.specs.Time.{most-value}
 use Rattle.rule.specs.Pairs.{none, combine}
 use Rattle.rule.proofs.Laws.{combine-sum-bound}
 use Rattle.page.specs.declared.Head.{Head}
-use Rattle.page.specs.Entries.{place}
-use Rattle.page.specs.Layout.{number-of, pair-at, child-at, entries-of}
-use Rattle.page.specs.Fit.{Place, root-place, place-below, fewest, page-fit}
+use Rattle.page.specs.Entries.{index-of}
+use Rattle.page.specs.Layout.{entry-count, pair-at, child-at, entries-of}
+use Rattle.page.specs.Fit.{Page-context, root-context, context-below, fewest, page-fit}
 use Rattle.fit.proofs.Laws.Parts.{fewest-pos}
 use Rattle.fit.proofs.Laws.Pages.{page-fit-is}
 use Rattle.image.specs.Images.{page-at}
 use Rattle.image.specs.Sound.{tree-fit}
-use Rattle.image.specs.Instant.{Looked, stopped, leaf-answer, above, look}
+use Rattle.image.specs.Instant.{Lookup, stopped, leaf-answer, above, look}
 use Rattle.soundness.proofs.Tree.{top-fit, tree-parts}
-use Rattle.page.proofs.Laws.Places.{place-within}
+use Rattle.page.proofs.Laws.Indices.{index-within}
 
 -- a fit root has an entry, so that a page can have one
-pub half-some : (half : ℕ) (h : Head) (s : List ℕ) → page-fit half h (root-place h) s ≡ true → 1 ≤ half
-unfolding fewest root-place
+pub half-some : (half : ℕ) (h : Head) (s : List ℕ) → page-fit half h (root-context h) s ≡ true → 1 ≤ half
+unfolding fewest root-context
 half-some half h s e =
-    let f = page-fit-is half h (root-place h) s .0 e in
+    let f = page-fit-is half h (root-context h) s .0 e in
     omega (arith, some (eqb (h .height - 1) 0), f .least, f .most)
   where
     some : (c : Bool) → 1 ≤ cond c 1 2
     some true = omega arith
     some false = omega arith
 
--- an answer: all pages on the way are fit, and the pair
-pub record Found (r : Looked) (p : Pair) : Type 0 where
+-- an answer: all pages on the path are fit, and the pair
+pub record Found (r : Lookup) (p : Pair) : Type 0 where
   pub fit : r .fit ≡ true
   pub pair : r .pair ≡ p
 
-went-on : (c : Bool) (r : Looked) → cond c r stopped .fit ≡ true → (c ≡ true) × (r .fit ≡ true)
+went-on : (c : Bool) (r : Lookup) → cond c r stopped .fit ≡ true → (c ≡ true) × (r .fit ≡ true)
 unfolding stopped
 went-on true r e = (refl, e)
 went-on false r e = absurd (false≢true e)
@@ -46,99 +46,99 @@ went-on false r e = absurd (false≢true e)
 module _ (half : ℕ) (h : Head) (img : List ℕ) (t : ℕ) where
   -- ---- one page, by the entry that is found in it
 
-  module _ (at : Place) (p i : ℕ) (fits : page-fit half h at (page-at half img p) ≡ true) (at-i : place t (entries-of half (page-at half img p)) ≡ i) where
+  module _ (at : Page-context) (p i : ℕ) (fits : page-fit half h at (page-at half img p) ≡ true) (at-i : index-of t (entries-of half (page-at half img p)) ≡ i) where
     leaf-is : look half h img t zero at p ≡ leaf-answer (pair-at half (page-at half img p) i)
     unfolding look
     leaf-is =
         let s : List ℕ = page-at half img p in
-        ap (λ c. cond c (leaf-answer (pair-at half s (place t (entries-of half s)))) stopped) fits ∙ ap (λ k. leaf-answer (pair-at half s k)) at-i
+        ap (λ c. cond c (leaf-answer (pair-at half s (index-of t (entries-of half s)))) stopped) fits ∙ ap (λ k. leaf-answer (pair-at half s k)) at-i
 
     inner-is : (l : ℕ) → look half h img t (suc l) at p
         ≡ above (combine (h .kind)) (pair-at half (page-at half img p) i)
-        (look half h img t l (place-below half (page-at half img p) at i) (child-at half (page-at half img p) i))
+        (look half h img t l (context-below half (page-at half img p) at i) (child-at half (page-at half img p) i))
     unfolding look
     inner-is l =
         let s : List ℕ = page-at half img p in
-        let a : ℕ → Looked = λ k. above (combine (h .kind)) (pair-at half s k) (look half h img t l (place-below half s at k) (child-at half s k)) in
-        ap (λ c. cond c (a (place t (entries-of half s))) stopped) fits ∙ ap a at-i
+        let a : ℕ → Lookup = λ k. above (combine (h .kind)) (pair-at half s k) (look half h img t l (context-below half s at k) (child-at half s k)) in
+        ap (λ c. cond c (a (index-of t (entries-of half s))) stopped) fits ∙ ap a at-i
 
     pub found-leaf : Found (look half h img t zero at p) (pair-at half (page-at half img p) i)
     unfolding leaf-answer
-    found-leaf = record { fit = ap (λ (r : Looked). r .fit) leaf-is; pair = ap (λ (r : Looked). r .pair) leaf-is }
+    found-leaf = record { fit = ap (λ (r : Lookup). r .fit) leaf-is; pair = ap (λ (r : Lookup). r .pair) leaf-is }
 
-    pub found-inner : (l : ℕ) {q : Pair} → Found (look half h img t l (place-below half (page-at half img p) at i) (child-at half (page-at half img p) i)) q
+    pub found-inner : (l : ℕ) {q : Pair} → Found (look half h img t l (context-below half (page-at half img p) at i) (child-at half (page-at half img p) i)) q
         → Found (look half h img t (suc l) at p) (combine (h .kind) (pair-at half (page-at half img p) i) q)
     unfolding above
     found-inner l {q} b =
         let s : List ℕ = page-at half img p in
-        let r : Looked = look half h img t l (place-below half s at i) (child-at half s i) in
+        let r : Lookup = look half h img t l (context-below half s at i) (child-at half s i) in
         record {
-          fit = ap (λ (r : Looked). r .fit) (inner-is l) ∙ b .fit;
+          fit = ap (λ (r : Lookup). r .fit) (inner-is l) ∙ b .fit;
           pair =
-              ap (λ (r : Looked). r .pair) (inner-is l)
+              ap (λ (r : Lookup). r .pair) (inner-is l)
               ∙ ap (λ c. cond c (combine (h .kind) (pair-at half s i) (r .pair)) none) (b .fit)
               ∙ ap (combine (h .kind) (pair-at half s i)) (b .pair);
         }
 
   -- the page on which a lookup begins
-  pub look-top : (l : ℕ) (at : Place) (p : ℕ) → look half h img t l at p .fit ≡ true → page-fit half h at (page-at half img p) ≡ true
+  pub look-top : (l : ℕ) (at : Page-context) (p : ℕ) → look half h img t l at p .fit ≡ true → page-fit half h at (page-at half img p) ≡ true
   unfolding look
   look-top zero at p e = went-on _ _ e .0
   look-top (suc l) at p e = went-on _ _ e .0
 
-  look-below : (l : ℕ) (at : Place) (p : ℕ) → look half h img t (suc l) at p .fit ≡ true
-      → look half h img t l (place-below half (page-at half img p) at (place t (entries-of half (page-at half img p))))
-      (child-at half (page-at half img p) (place t (entries-of half (page-at half img p)))) .fit ≡ true
+  look-below : (l : ℕ) (at : Page-context) (p : ℕ) → look half h img t (suc l) at p .fit ≡ true
+      → look half h img t l (context-below half (page-at half img p) at (index-of t (entries-of half (page-at half img p))))
+      (child-at half (page-at half img p) (index-of t (entries-of half (page-at half img p)))) .fit ≡ true
   unfolding look above
   look-below l at p e =
       let s : List ℕ = page-at half img p in
-      let i : ℕ = place t (entries-of half s) in
+      let i : ℕ = index-of t (entries-of half s) in
       went-on (page-fit half h at s)
-      (above (combine (h .kind)) (pair-at half s i) (look half h img t l (place-below half s at i) (child-at half s i))) e .1
+      (above (combine (h .kind)) (pair-at half s i) (look half h img t l (context-below half s at i) (child-at half s i))) e .1
 
-  pub look-pages : (l : ℕ) (at : Place) (p : ℕ) → look half h img t l at p .fit ≡ true → look half h img t l at p .pages ≡ suc l
+  pub look-pages : (l : ℕ) (at : Page-context) (p : ℕ) → look half h img t l at p .fit ≡ true → look half h img t l at p .pages ≡ suc l
   unfolding leaf-answer above
-  look-pages zero at p e = ap (λ (r : Looked). r .pages) (leaf-is at p _ (look-top zero at p e) refl)
+  look-pages zero at p e = ap (λ (r : Lookup). r .pages) (leaf-is at p _ (look-top zero at p e) refl)
   look-pages (suc l) at p e =
-      ap (λ (r : Looked). r .pages) (inner-is at p _ (look-top (suc l) at p e) refl l) ∙ ap suc (look-pages l _ _ (look-below l at p e))
+      ap (λ (r : Lookup). r .pages) (inner-is at p _ (look-top (suc l) at p e) refl l) ∙ ap suc (look-pages l _ _ (look-below l at p e))
 
   module _ (some : 1 ≤ half) where
-    inside : (at : Place) (s : List ℕ) → page-fit half h at s ≡ true → place t (entries-of half s) < number-of s
+    inside : (at : Page-context) (s : List ℕ) → page-fit half h at s ≡ true → index-of t (entries-of half s) < entry-count s
     inside at s e =
         let f = page-fit-is half h at s .0 e in
-        place-within half s t (f .most) (omega (arith, fewest-pos half at some, f .least))
+        index-within half s t (f .most) (omega (arith, fewest-pos half at some, f .least))
 
     -- kind 1: the absolute sums on a fit page's way have a bound, and so has the sum found
-    pub look-sum : eqb (h .kind) 1 ≡ true → (l : ℕ) (at : Place) (p : ℕ) → look half h img t l at p .fit ≡ true
+    pub look-sum : eqb (h .kind) 1 ≡ true → (l : ℕ) (at : Page-context) (p : ℕ) → look half h img t l at p .fit ≡ true
         → at .sums + natAbs (look half h img t l at p .pair .sum) ≤ most-value * h .changes
-    unfolding place-below
+    unfolding context-below
     look-sum one zero at p e =
         let s : List ℕ = page-at half img p in
-        let i : ℕ = place t (entries-of half s) in
+        let i : ℕ = index-of t (entries-of half s) in
         let top = look-top zero at p e in
         let v = found-leaf at p i top refl in
         omega (arith, ap (λ (q : Pair). natAbs (q .sum)) (v .pair), page-fit-is half h at s .0 top .pairs i (inside at s top) .total one .sums)
     look-sum one (suc l) at p e =
         let s : List ℕ = page-at half img p in
-        let i : ℕ = place t (entries-of half s) in
+        let i : ℕ = index-of t (entries-of half s) in
         let top = look-top (suc l) at p e in
         let low = look-below l at p e in
-        let below : Looked = look half h img t l (place-below half s at i) (child-at half s i) in
+        let below : Lookup = look half h img t l (context-below half s at i) (child-at half s i) in
         let v = found-inner at p i top refl l (record { fit = low; pair = refl }) in
         omega (
           arith,
           ap (λ (q : Pair). natAbs (q .sum)) (v .pair),
           combine-sum-bound (h .kind) (pair-at half s i) (below .pair),
-          look-sum one l (place-below half s at i) (child-at half s i) low,
+          look-sum one l (context-below half s at i) (child-at half s i) low,
         )
 
     -- ---- where every page of the tree is fit
 
-    pub look-fit : (l : ℕ) (at : Place) (p : ℕ) → tree-fit half h img l at p ≡ true → look half h img t l at p .fit ≡ true
+    pub look-fit : (l : ℕ) (at : Page-context) (p : ℕ) → tree-fit half h img l at p ≡ true → look half h img t l at p .fit ≡ true
     look-fit zero at p e = found-leaf at p _ (top-fit half h img zero at p e) refl .fit
     look-fit (suc l) at p e =
         let s : List ℕ = page-at half img p in
-        let i : ℕ = place t (entries-of half s) in
+        let i : ℕ = index-of t (entries-of half s) in
         let top = top-fit half h img (suc l) at p e in
-        let low = look-fit l (place-below half s at i) (child-at half s i) (tree-parts half h img l at p e .1 i (inside at s top)) in
+        let low = look-fit l (context-below half s at i) (child-at half s i) (tree-parts half h img l at p e .1 i (inside at s top)) in
         found-inner at p i top refl l (record { fit = low; pair = refl }) .fit

@@ -1,4 +1,4 @@
--- What the rows of refusals decide: the first that turns a call back is its number. Assumes nothing.
+-- What the rows of refusals decide: the first that turns a call back is its status. Assumes nothing.
 use Prim.Native.Nat.{ℕ}
 use mathlib.Core.Path.{_≡_, refl, ap}
 use mathlib.Core.Logic.{_≢_}

@@ -9,20 +9,20 @@ use lib.ListN.{length, length-append}
 use lib.Dec.{eqb}
 use borrow.Author.Tests.{eq-eqb, ne-eqb}
 use Rattle.page.specs.declared.Head.{Head}
-use Rattle.page.specs.Entries.{place}
-use Rattle.page.specs.Layout.{number-of, child-at, entries-of}
-use Rattle.page.specs.Fit.{Place, root-place, place-below, page-fit}
+use Rattle.page.specs.Entries.{index-of}
+use Rattle.page.specs.Layout.{entry-count, child-at, entries-of}
+use Rattle.page.specs.Fit.{Page-context, root-context, context-below, page-fit}
 use Rattle.image.specs.Images.{page-at, pages-in}
 use Rattle.image.specs.Trail.{Visit, each-in-turn, visits, trail, entry-of, entries-over, instant-trail, listing-trail}
 use Rattle.image.specs.Looks.{pages-of}
-use Rattle.calls.specs.Calls.{head, head-ok, listing-number}
+use Rattle.calls.specs.Calls.{head, head-ok, listing-status}
 use Rattle.calls.specs.Walks.{Short-walk, Short-walks, listing-looks}
 use Rattle.fit.proofs.Laws.Heads.{fit-ranges}
 use Rattle.soundness.proofs.Sound.{the-head}
 use Rattle.soundness.proofs.Trails.{length-pages, up-to-fewer, all-visits, trail-once, trail-in, trail-short, trail-fit-short, audit-short, audit-fits, audit-tree}
 use Rattle.soundness.proofs.Looks.{looks-inside, looks-once}
 
-any : (half : ℕ) (img : List ℕ) (into : Place → List ℕ → ℕ → Bool) → head-ok half img ≡ true → Short-walk half img into
+any : (half : ℕ) (img : List ℕ) (into : Page-context → List ℕ → ℕ → Bool) → head-ok half img ≡ true → Short-walk half img into
 unfolding head head-ok
 any half img into fits =
     record {
@@ -67,21 +67,21 @@ module _ (m k : ℕ) (f : ℕ → List Visit) (short : (i : ℕ) → length (f i
           omega (arith, length-append (each-in-turn n only) (only n), ap (λ t. length (cond t (f n) [])) (ne-eqb n k d))
 
 module _ (half t : ℕ) (h : Head) (img : List ℕ) where
-  way-short : (l : ℕ) (at : Place) (p : ℕ) → length (visits half h img (entry-of half t) l at p) ≤ suc l
+  way-short : (l : ℕ) (at : Page-context) (p : ℕ) → length (visits half h img (entry-of half t) l at p) ≤ suc l
   unfolding visits entry-of
   way-short zero at p = omega arith
   way-short (suc l) at p =
-      go (λ i. way-short l (place-below half (page-at half img p) at i) (child-at half (page-at half img p) i)) (page-fit half h at (page-at half img p))
+      go (λ i. way-short l (context-below half (page-at half img p) at i) (child-at half (page-at half img p) i)) (page-fit half h at (page-at half img p))
     where
       s : List ℕ
       s = page-at half img p
 
       below : ℕ → List Visit
-      below i = visits half h img (entry-of half t) l (place-below half s at i) (child-at half s i)
+      below i = visits half h img (entry-of half t) l (context-below half s at i) (child-at half s i)
 
       go : ((i : ℕ) → length (below i) ≤ suc l) → (c : Bool)
-          → suc (length (cond c (each-in-turn (number-of s) (λ i. cond (eqb i (place t (entries-of half s))) (below i) [])) [])) ≤ suc (suc l)
-      go r true = omega (arith, one-of (suc l) (place t (entries-of half s)) below r (number-of s))
+          → suc (length (cond c (each-in-turn (entry-count s) (λ i. cond (eqb i (index-of t (entries-of half s))) (below i) [])) [])) ≤ suc (suc l)
+      go r true = omega (arith, one-of (suc l) (index-of t (entries-of half s)) below r (entry-count s))
       go r false = omega arith
 
 of-instant : (half t : ℕ) (img : List ℕ) → head-ok half img ≡ true → length (instant-trail half t img) ≤ head half img .height
@@ -91,7 +91,7 @@ of-instant half t img fits =
     omega (
       arith,
       up-to-fewer half h img (all-visits half img (entry-of half t)),
-      way-short half t h img (h .height - 1) (root-place h) (h .root),
+      way-short half t h img (h .height - 1) (root-context h) (h .root),
       fit-ranges half (pages-in half img) (page-at half img 0) fits .height-least,
     )
 
@@ -103,7 +103,7 @@ of-walk half a b img fits = trail-short half img fits (entries-over a b)
 
 of-listing : (half a b : ℕ) (img out : List ℕ) → head-ok half img ≡ true → length (listing-looks half a b img out) ≤ 2 * pages-in half img
 unfolding listing-looks
-of-listing half a b img out fits = go (eqb (listing-number half a b img out) 0) (of-walk half a b img fits)
+of-listing half a b img out fits = go (eqb (listing-status half a b img out) 0) (of-walk half a b img fits)
   where
     looks : List ℕ
     looks = pages-of (listing-trail half a b img)

@@ -5,7 +5,7 @@ use mathlib.Core.Bool.{true, and-eq-true-iff}
 use mathlib.Core.List.{List}
 use Rattle.rule.specs.Time.{END}
 use Rattle.page.specs.declared.Head.{Head}
-use Rattle.page.specs.Fit.{root-place}
+use Rattle.page.specs.Fit.{root-context}
 use Rattle.image.specs.Images.{page-at}
 use Rattle.image.specs.Sound.{sound}
 use Rattle.image.specs.Instant.{look-up}
@@ -30,22 +30,22 @@ module _ (half : ℕ) (img : List ℕ) (fits : sound half img ≡ true) where
   sound-look t =
       let h : Head = the-head half img in
       let tree = sound-facts half img fits .fit .tree in
-      let some = half-some half h (page-at half img (h .root)) (top-fit half h img (h .height - 1) (root-place h) (h .root) tree) in
-      look-fit half h img t some (h .height - 1) (root-place h) (h .root) tree
+      let some = half-some half h (page-at half img (h .root)) (top-fit half h img (h .height - 1) (root-context h) (h .root) tree) in
+      look-fit half h img t some (h .height - 1) (root-context h) (h .root) tree
 
   pub sound-walk : (a b : ℕ) → walk-over half img a b .fit ≡ true
   unfolding walk-over
   sound-walk a b =
       let h : Head = the-head half img in
-      walk-fit half h img a b (h .height - 1) (root-place h) (h .root) (sound-facts half img fits .fit .tree)
+      walk-fit half h img a b (h .height - 1) (root-context h) (h .root) (sound-facts half img fits .fit .tree)
 
   -- no instant and no listing is turned back by the image
   sound-answered : (t : ℕ) → t < END → Answered half t img
   sound-answered t l =
       record { length-fits = sound-whole half img fits; before-end = l; head-fits = sound-head; look-fits = sound-look t }
 
-  pub sound-number : (t : ℕ) → t < END → instant half t img .number ≡ 0
-  sound-number t l = answers half t img (sound-answered t l)
+  pub sound-status : (t : ℕ) → t < END → instant half t img .status ≡ 0
+  sound-status t l = answers half t img (sound-answered t l)
 
   pub sound-pair : (t : ℕ) → t < END → instant half t img .pair ≡ look-up half img t .pair
   sound-pair t l = instant-pair half t img (sound-answered t l)

@@ -1,4 +1,5 @@
--- A walk that met only fit pages: its runs tile the part of the span that its place covers, each instant with the pair that a lookup finds. Assumes nothing.
+-- A walk that met only fit pages: its runs tile the part of the span that its context covers, each instant with the pair that a lookup
+-- finds. Assumes nothing.
 use Prim.Native.Nat.{ℕ, zero, suc, _≤_, _<_, max, min}
 use mathlib.Core.Path.{_≡_, refl, sym, ap, _∙_}
 use mathlib.Core.Bool.{Bool, true, false, cond, _&&_, and-eq-true-iff, false≢true, true≢false}
@@ -10,8 +11,8 @@ use Rattle.rule.specs.declared.Pair.{Pair}
 use Rattle.rule.specs.Pairs.{combine}
 use Rattle.rule.specs.Time.{overlaps}
 use Rattle.page.specs.declared.Head.{Head}
-use Rattle.page.specs.Layout.{number-of, start-at, pair-at, child-at}
-use Rattle.page.specs.Fit.{Place, place-below, end-at, page-fit}
+use Rattle.page.specs.Layout.{entry-count, start-at, pair-at, child-at}
+use Rattle.page.specs.Fit.{Page-context, context-below, end-at, page-fit}
 use Rattle.fit.proofs.Laws.Parts.{fewest-pos}
 use Rattle.image.specs.Images.{page-at}
 use Rattle.image.specs.Sound.{tree-fit}
@@ -21,7 +22,7 @@ use Rattle.fit.proofs.Laws.Spans.{bound, bound-next, bound-in, bound-past, boun
 use Rattle.soundness.proofs.Tree.{tree-parts}
 use Rattle.fit.proofs.Laws.Pages.{PageFit, page-fit-is}
 use Rattle.answers.proofs.Tiles.{Tiles, done, tiles-none, tiles-one, tiles-append, tiles-map}
-use Rattle.answers.proofs.Places.{found-at}
+use Rattle.answers.proofs.Indices.{found-at}
 use Rattle.answers.proofs.Look.{Found, found-leaf, found-inner}
 
 -- the instant of [a, b] nearest to x
@@ -78,16 +79,16 @@ module _ (a b lo hi : ℕ) where
 abbrev picked : ℕ → ℕ → ℕ → List ℕ → (ℕ → Walked) → ℕ → Walked
 picked a b hi s below i = cond (overlaps a b (start-at s i) (end-at s hi i)) (below i) nothing
 
-module _ (half : ℕ) (h : Head) (a b : ℕ) (some : 1 ≤ half) (l : a < b) (at : Place) (s : List ℕ) where
+module _ (half : ℕ) (h : Head) (a b : ℕ) (some : 1 ≤ half) (l : a < b) (at : Page-context) (s : List ℕ) where
   page-tiles : {Q : ℕ → Pair → Type 0} (below : ℕ → Walked) → walk-page half h a b at s below .fit ≡ true
-      → ((i : ℕ) → i < number-of s → start-at s i < b → a < end-at s (at .hi) i → below i .fit ≡ true
+      → ((i : ℕ) → i < entry-count s → start-at s i < b → a < end-at s (at .hi) i → below i .fit ≡ true
       → Tiles Q (within a b (start-at s i)) (within a b (end-at s (at .hi) i)) (below i .runs))
       → Tiles Q (within a b (at .lo)) (within a b (at .hi)) (walk-page half h a b at s below .runs)
   unfolding walk-page
   page-tiles {Q} below e g =
       let k = went-on _ _ e in
       let f : PageFit half h at s = page-fit-is half h at s .0 (k .0) in
-      let n : ℕ = number-of s in
+      let n : ℕ = entry-count s in
       let c : ℕ → ℕ = bound s (at .hi) in
       let first : c 0 ≡ at .lo = bound-in s (at .hi) 0 (omega (arith, fewest-pos half at some, f .least)) ∙ f .first in
       let last : c n ≡ at .hi = bound-past s (at .hi) n (omega arith) in
@@ -102,16 +103,16 @@ module _ (half : ℕ) (h : Head) (a b : ℕ) (some : 1 ≤ half) (l : a < b) (at
 -- ---- from a page down
 
 -- the page on which a walk begins
-pub walk-top : (half : ℕ) (h : Head) (img : List ℕ) (a b l : ℕ) (at : Place) (p : ℕ) → walk half h img a b l at p .fit ≡ true
+pub walk-top : (half : ℕ) (h : Head) (img : List ℕ) (a b l : ℕ) (at : Page-context) (p : ℕ) → walk half h img a b l at p .fit ≡ true
     → page-fit half h at (page-at half img p) ≡ true
 unfolding walk walk-page
 walk-top half h img a b zero at p e = went-on _ _ e .0
 walk-top half h img a b (suc l) at p e = went-on _ _ e .0
 
 module _ (half : ℕ) (h : Head) (img : List ℕ) (a b : ℕ) (some : 1 ≤ half) (l : a < b) where
-  pub walk-tiles : (v : ℕ) (at : Place) (p : ℕ) → walk half h img a b v at p .fit ≡ true
+  pub walk-tiles : (v : ℕ) (at : Page-context) (p : ℕ) → walk half h img a b v at p .fit ≡ true
       → Tiles (λ t q. Found (look half h img t v at p) q) (within a b (at .lo)) (within a b (at .hi)) (walk half h img a b v at p .runs)
-  unfolding walk leaf-run under place-below
+  unfolding walk leaf-run under context-below
   walk-tiles zero at p e =
       let s : List ℕ = page-at half img p in
       let top = walk-top half h img a b zero at p e in
@@ -122,29 +123,29 @@ module _ (half : ℕ) (h : Head) (img : List ℕ) (a b : ℕ) (some : 1 ≤ half
       (λ t u w. found-leaf half h img t at p i top (found-at f t i m (omega arith) (omega arith))))
   walk-tiles (suc v) at p e =
       let s : List ℕ = page-at half img p in
-      let below : ℕ → Walked = λ i. under (combine (h .kind)) (pair-at half s i) (walk half h img a b v (place-below half s at i) (child-at half s i)) in
+      let below : ℕ → Walked = λ i. under (combine (h .kind)) (pair-at half s i) (walk half h img a b v (context-below half s at i) (child-at half s i)) in
       let top = walk-top half h img a b (suc v) at p e in
       let f = page-fit-is half h at s .0 top in
       page-tiles half h a b some l at s below e
       (λ i m x y fits.
-      tiles-map (combine (h .kind) (pair-at half s i)) (walk-tiles v (place-below half s at i) (child-at half s i) fits)
+      tiles-map (combine (h .kind) (pair-at half s i)) (walk-tiles v (context-below half s at i) (child-at half s i) fits)
       (λ t q u w found. found-inner half h img t at p i top (found-at f t i m (omega arith) (omega arith)) v found))
 
 -- ---- where every page of the tree is fit
 
-page-walked : (half : ℕ) (h : Head) (a b : ℕ) (at : Place) (s : List ℕ) (below : ℕ → Walked) → page-fit half h at s ≡ true
-    → ((i : ℕ) → i < number-of s → below i .fit ≡ true) → walk-page half h a b at s below .fit ≡ true
+page-walked : (half : ℕ) (h : Head) (a b : ℕ) (at : Page-context) (s : List ℕ) (below : ℕ → Walked) → page-fit half h at s ≡ true
+    → ((i : ℕ) → i < entry-count s → below i .fit ≡ true) → walk-page half h a b at s below .fit ≡ true
 unfolding walk-page
 page-walked half h a b at s below e f =
-    ap (λ c. cond c (in-turn (number-of s) (picked a b (at .hi) s below)) stopped .fit) e
-    ∙ turn-fit (number-of s) _ (λ i l. pick (overlaps a b (start-at s i) (end-at s (at .hi) i)) (below i) (f i l))
+    ap (λ c. cond c (in-turn (entry-count s) (picked a b (at .hi) s below)) stopped .fit) e
+    ∙ turn-fit (entry-count s) _ (λ i l. pick (overlaps a b (start-at s i) (end-at s (at .hi) i)) (below i) (f i l))
   where
     pick : (c : Bool) (w : Walked) → w .fit ≡ true → cond c w nothing .fit ≡ true
     pick true w e = e
     pick false w e = unfold nothing in refl
 
 module _ (half : ℕ) (h : Head) (img : List ℕ) (a b : ℕ) where
-  pub walk-fit : (l : ℕ) (at : Place) (p : ℕ) → tree-fit half h img l at p ≡ true → walk half h img a b l at p .fit ≡ true
+  pub walk-fit : (l : ℕ) (at : Page-context) (p : ℕ) → tree-fit half h img l at p ≡ true → walk half h img a b l at p .fit ≡ true
   unfolding walk tree-fit leaf-run under
   walk-fit zero at p e = page-walked half h a b at (page-at half img p) _ e (λ i l. refl)
   walk-fit (suc l) at p e =

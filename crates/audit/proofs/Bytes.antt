@@ -12,7 +12,7 @@ use Rattle.fields.proofs.Laws.Parts.{part-add}
 use Rattle.fields.proofs.Laws.Tests.{all-are-none, all-are-append}
 use Rattle.page.specs.Layout.{page-size, never-used-ok}
 use Rattle.image.specs.Images.{page-at, pages-in}
-use Rattle.lent.specs.Opened.{Within}
+use Rattle.access.specs.Access.{Page-in}
 use Rattle.audit.specs.Walks.{leads-to-free}
 
 pub pages-are : (img : List ℕ) (n : ℕ) → length img ≡ 512 * n → pages-in 12 img ≡ n
@@ -35,7 +35,7 @@ unfolding never-used-ok page-at
 never-parts half img mark m = all-parts 255 img (page-size half) mark m
 
 -- a page that is free lies in the image
-pub free-within : (img : List ℕ) (n p : ℕ) → length img ≡ 512 * n → leads-to-free 12 img n p ≡ true → Within img p
+pub free-within : (img : List ℕ) (n p : ℕ) → length img ≡ 512 * n → leads-to-free 12 img n p ≡ true → Page-in img p
 unfolding leads-to-free
 free-within img n p e h =
     let parts = simp and-eq-true-iff at h in

@@ -9,33 +9,33 @@ use lib.Dec.{eqb}
 use Rattle.fields.specs.Bytes.{every}
 use Rattle.page.specs.declared.Head.{Head}
 use Rattle.page.specs.Layout.{never-used-ok}
-use Rattle.page.specs.Fit.{Place, root-place}
+use Rattle.page.specs.Fit.{Page-context, root-context}
 use Rattle.image.specs.Images.{page-at, pages-in, length-ok}
 use Rattle.image.specs.Sound.{tree-fit, tree-pages, sound}
 use Rattle.fit.proofs.Tests.{passes, fails}
-use Rattle.fit.proofs.Laws.Ways.{root-way}
-use Rattle.audit.specs.declared.Counted.{Counted}
-use Rattle.audit.specs.declared.Counted.the-variants.{Fit, Unfit}
+use Rattle.fit.proofs.Laws.Paths.{root-path}
+use Rattle.audit.specs.declared.PageCount.{PageCount}
+use Rattle.audit.specs.declared.PageCount.the-variants.{Fit, Unfit}
 use Rattle.soundness.specs.Counting.{chain-ends, sound-by-counting}
-use Rattle.lent.specs.Opened.{Opened}
+use Rattle.access.specs.Access.{Open-image}
 use Rattle.image.proofs.Sizes.{sized}
-use Rattle.lent.proofs.Laws.{opened-ranges, opened-size}
-use Rattle.audit.specs.Walks.{Standing, counted}
+use Rattle.access.proofs.Laws.{opened-ranges, opened-size}
+use Rattle.audit.specs.Walks.{Standing, page-count}
 use Rattle.audit.proofs.Walks.{counted-fit, counted-unfit, false-of}
 use Rattle.soundness.proofs.Sound.{head-test}
 use Rattle.soundness.proofs.Counting.{counting-sound}
 
 -- and a is what the walk from the root down answered
-pub record Walked (img : List ℕ) (h : Head) (a : Counted) : Type 0 where
-  pub opened : Opened img h
-  pub answer : a ≡ counted 12 h img (root-place h) (h .root)
+pub record Walked (img : List ℕ) (h : Head) (a : PageCount) : Type 0 where
+  pub opened : Open-image img h
+  pub answer : a ≡ page-count 12 h img (root-context h) (h .root)
 
 pub unsound-head : (img : List ℕ) → length-ok 12 img ≡ true → head-test 12 img ≡ false → false ≡ sound 12 img
 unfolding sound-by-counting
 unsound-head img ok f = passes ok (fails _ f) ∙ counting-sound 12 img
 
-module _ {img : List ℕ} {h : Head} (o : Opened img h) where
-  pub root-standing : Standing img h (root-place h) (h .root)
+module _ {img : List ℕ} {h : Head} (o : Open-image img h) where
+  pub root-standing : Standing img h (root-context h) (h .root)
   root-standing =
       let r = opened-ranges o in
       record {
@@ -43,33 +43,33 @@ module _ {img : List ℕ} {h : Head} (o : Opened img h) where
         most = omega (arith, sized 12 img (o .whole) .most, r .pages-is);
         changes = r .changes-most;
         above = 0;
-        way = root-way (pages-in 12 img) h r;
+        path = root-path (pages-in 12 img) h r;
         some = r .root-least;
         below = omega (arith, r .root-below, r .pages-is);
       }
 
-  pub root-walked : {b : Place} {a : Counted} → b ≡ root-place h → a ≡ counted 12 h img b (h .root) → Walked img h a
-  root-walked x y = record { opened = o; answer = y ∙ ap (λ b. counted 12 h img b (h .root)) x }
+  pub root-walked : {b : Page-context} {a : PageCount} → b ≡ root-context h → a ≡ page-count 12 h img b (h .root) → Walked img h a
+  root-walked x y = record { opened = o; answer = y ∙ ap (λ b. page-count 12 h img b (h .root)) x }
 
-  sound-parts : (tree-fit 12 h img (root-place h .level) (root-place h) (h .root)
-      && (eqb (length (tree-pages 12 img (root-place h .level) (h .root)) + h .chain) (h .mark - 1)
+  sound-parts : (tree-fit 12 h img (root-context h .level) (root-context h) (h .root)
+      && (eqb (length (tree-pages 12 img (root-context h .level) (h .root)) + h .chain) (h .mark - 1)
       && (chain-ends 12 img (h .chain) (h .free)
       && every (pages-in 12 img - h .mark) (λ i. never-used-ok (page-at 12 img (h .mark + i))))))
       ≡ sound 12 img
-  unfolding sound-by-counting root-place
+  unfolding sound-by-counting root-context
   sound-parts = rw (o .shown) (passes (o .whole) (passes (o .fit) refl) ∙ counting-sound 12 img)
 
-module _ {img : List ℕ} {h : Head} {a : Counted} (w : Walked img h a) where
+module _ {img : List ℕ} {h : Head} {a : PageCount} (w : Walked img h a) where
   pub unsound-tree : a ≡ Unfit → false ≡ sound 12 img
   unsound-tree z =
-      fails _ (false-of _ (counted-unfit 12 h img (root-place h) (h .root) (sym (w .answer) ∙ z))) ∙ sound-parts (w .opened)
+      fails _ (false-of _ (counted-unfit 12 h img (root-context h) (h .root) (sym (w .answer) ∙ z))) ∙ sound-parts (w .opened)
 
   module _ (k : ℕ) (z : a ≡ Fit k) where
-    fit-tree : tree-fit 12 h img (root-place h .level) (root-place h) (h .root) ≡ true
-    fit-tree = counted-fit 12 h img (root-place h) (h .root) k (sym (w .answer) ∙ z) .0
+    fit-tree : tree-fit 12 h img (root-context h .level) (root-context h) (h .root) ≡ true
+    fit-tree = counted-fit 12 h img (root-context h) (h .root) k (sym (w .answer) ∙ z) .0
 
-    same-count : eqb (length (tree-pages 12 img (root-place h .level) (h .root)) + h .chain) (h .mark - 1) ≡ eqb (k + h .chain) (h .mark - 1)
-    same-count = ap (λ n. eqb (n + h .chain) (h .mark - 1)) (counted-fit 12 h img (root-place h) (h .root) k (sym (w .answer) ∙ z) .1)
+    same-count : eqb (length (tree-pages 12 img (root-context h .level) (h .root)) + h .chain) (h .mark - 1) ≡ eqb (k + h .chain) (h .mark - 1)
+    same-count = ap (λ n. eqb (n + h .chain) (h .mark - 1)) (counted-fit 12 h img (root-context h) (h .root) k (sym (w .answer) ∙ z) .1)
 
     pub unsound-count : eqb (k + h .chain) (h .mark - 1) ≡ false → false ≡ sound 12 img
     unsound-count s = passes fit-tree (fails _ (same-count ∙ s)) ∙ sound-parts (w .opened)

@@ -6,40 +6,40 @@ use mathlib.Core.List.{List}
 use lib.ListN.{length}
 use lib.Dec.{leb, ltb}
 use Rattle.page.specs.declared.Head.{Head}
-use Rattle.page.specs.Layout.{number-of, child-at, free-ok}
-use Rattle.page.specs.Fit.{Place, place-below, page-fit, most-changes}
+use Rattle.page.specs.Layout.{entry-count, child-at, free-ok}
+use Rattle.page.specs.Fit.{Page-context, context-below, page-fit, most-changes}
 use Rattle.image.specs.Images.{page-at}
 use Rattle.image.specs.Sound.{tree-fit, tree-pages}
-use Rattle.fit.proofs.Laws.Ways.{Way}
-use Rattle.audit.specs.declared.Counted.{Counted}
-use Rattle.audit.specs.declared.Counted.the-variants.{Fit, Unfit}
+use Rattle.fit.proofs.Laws.Paths.{Path}
+use Rattle.audit.specs.declared.PageCount.{PageCount}
+use Rattle.audit.specs.declared.PageCount.the-variants.{Fit, Unfit}
 
--- the tree from a page at its place down: how many pages it has, if all are fit
-unfoldable pub counted : ℕ → Head → List ℕ → Place → ℕ → Counted
-counted half h img at p = cond (tree-fit half h img (at .level) at p) (Fit (length (tree-pages half img (at .level) p))) Unfit
+-- the tree from a page in its context down: how many pages it has, if all are fit
+unfoldable pub page-count : ℕ → Head → List ℕ → Page-context → ℕ → PageCount
+page-count half h img at p = cond (tree-fit half h img (at .level) at p) (Fit (length (tree-pages half img (at .level) p))) Unfit
 
 -- the same from the page below the i-th entry of page p
-abbrev pub counted-below : ℕ → Head → List ℕ → Place → ℕ → ℕ → Counted
-counted-below half h img at p i =
+abbrev pub page-count-below : ℕ → Head → List ℕ → Page-context → ℕ → ℕ → PageCount
+page-count-below half h img at p i =
     let s = page-at half img p in
-    counted half h img (place-below half s at i) (child-at half s i)
+    page-count half h img (context-below half s at i) (child-at half s i)
 
 -- page p, of n, is free
 unfoldable pub leads-to-free : ℕ → List ℕ → ℕ → ℕ → Bool
 leads-to-free half img n p = leb 1 p && (ltb p n && free-ok half (page-at half img p))
 
--- a walk down from a fit head has come to page p and its place
-pub record Standing (img : List ℕ) (h : Head) (at : Place) (p : ℕ) : Type 0 where
+-- a walk down from a fit head has come to page p and its context
+pub record Standing (img : List ℕ) (h : Head) (at : Page-context) (p : ℕ) : Type 0 where
   pub size : length img ≡ 512 * h .pages
   pub most : h .pages ≤ 1024
   pub changes : h .changes ≤ most-changes
   pub above : ℕ
-  pub way : Way h above at
+  pub path : Path h above at
   pub some : 1 ≤ p
   pub below : p < h .pages
 
 -- it has found the page fit, and goes on below its i-th entry
-pub record Inner (img : List ℕ) (h : Head) (at : Place) (p i : ℕ) : Type 0 where
+pub record Inner (img : List ℕ) (h : Head) (at : Page-context) (p i : ℕ) : Type 0 where
   pub level : 1 ≤ at .level
   pub fit : page-fit 12 h at (page-at 12 img p) ≡ true
-  pub entry : i < number-of (page-at 12 img p)
+  pub entry : i < entry-count (page-at 12 img p)

@@ -1,6 +1,6 @@
 // The chain of free pages.
+use access::pages::page_at;
 use fields::fill::all_ff;
-use lent::pages::page_at;
 use page::at::level_of;
 use page::at::next_of;
 use page::layout::BODY_BYTES;

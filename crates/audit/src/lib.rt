@@ -5,7 +5,7 @@ pub mod verdict;
 pub mod walk;
 
 // What the audit from a page down finds: how many tree pages there are, all fit, or that one is not.
-pub enum Counted {
+pub enum PageCount {
     Fit(u32),
     Unfit,
 }

@@ -1,11 +1,11 @@
 // Is an image sound?
-use super::Counted;
+use super::PageCount;
 use super::free::chain_ends;
 use super::unused::never_used;
 use super::walk::audit_page;
-use fit::places::root_place;
-use lent::Opening;
-use lent::heads::open_head;
+use access::HeadCheck;
+use access::heads::open_head;
+use fit::contexts::root_context;
 ghost use mathlib.Core.Path.{_≡_};
 ghost use mathlib.Core.Bool.{true};
 ghost use Prim.Native.Nat.{_+_, _*_, _-_, _≤_};
@@ -28,10 +28,10 @@ pub fn sound(img: &[u8]) -> bool
     requires { ⌜ length-ok 12 (now img) ≡ true ⌝ }
     ensures { λ r. ⌜ r ≡ sound 12 (now (img .entry)) ⌝ }
 {
-    let Opening::Fit(h) = open_head(img) else {
+    let HeadCheck::Fit(h) = open_head(img) else {
         return false;
     };
-    let Counted::Fit(tree) = audit_page(img, h, root_place(h), h.root) else {
+    let PageCount::Fit(tree) = audit_page(img, h, root_context(h), h.root) else {
         return false;
     };
     if !adds_up(tree, h.chain, h.mark) {

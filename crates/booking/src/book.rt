@@ -1,8 +1,8 @@
 // Enter and withdraw, which differ in their effect and in row 22.
-use crate::Judged;
+use crate::StateCheck;
 use crate::changes::make_change;
-use crate::early::early;
-use crate::judging::judge;
+use crate::input::check_input;
+use crate::state::check_state;
 use calls::refusals::ACCEPTED;
 use fields::fill::fill;
 use page::layout::PAGE_BYTES;
@@ -13,17 +13,17 @@ ghost use Rattle.booking.specs.Sides.{side-of};
 // The order is 16, 17, 11, 13, 21, 22, 23, 24. Nothing of the image is written before all eight are passed; the scratch is cleared
 // once the first four are.
 pub fn book(img: &mut [u8], scratch: &mut [u8], withdraws: bool, v: i64, s: u32, e: u32) -> u32
-    ensures { λ r. ⌜ record { number = r; image = now (img .exit); scratch = now (scratch .exit) }
+    ensures { λ r. ⌜ record { status = r; image = now (img .exit); scratch = now (scratch .exit) }
         ≡ book 12 (side-of withdraws) v s e (now (img .entry)) (now (scratch .entry)) ⌝ }
 {
-    let number = early(img, scratch, v, s, e);
-    if number != ACCEPTED {
-        return number;
+    let status = check_input(img, scratch, v, s, e);
+    if status != ACCEPTED {
+        return status;
     }
     fill(scratch, 0, img.len() / PAGE_BYTES, 0);
-    match judge(img, withdraws, s, e) {
-        Judged::Refused(row) => row,
-        Judged::Accepted(h) => {
+    match check_state(img, withdraws, s, e) {
+        StateCheck::Refused(row) => row,
+        StateCheck::Accepted(h) => {
             make_change(img, h, withdraws, v, s, e);
             ACCEPTED
         }

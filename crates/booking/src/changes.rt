@@ -2,7 +2,7 @@
 use crate::effects::effect;
 use change::apply::apply;
 use page::Head;
-use rule::time::lengthened;
+use rule::time::effect_end;
 ghost use mathlib.Core.Path.{_≡_};
 ghost use Rattle.calls.specs.Calls.{changed};
 ghost use Rattle.booking.specs.Sides.{side-of};
@@ -13,6 +13,6 @@ pub fn make_change(img: &mut [u8], h: Head, withdraws: bool, v: i64, s: u32, e: 
     requires { ⌜ Accepts (side-of withdraws) v s e (now img) h ⌝ }
     ensures { λ _. ⌜ now (img .exit) ≡ changed 12 (side-of withdraws) v s e (now (img .entry)) ⌝ }
 {
-    let end = lengthened(e, h.window);
+    let end = effect_end(e, h.window);
     apply(img, h.kind, s, end, effect(withdraws, v))
 }

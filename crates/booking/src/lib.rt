@@ -3,12 +3,12 @@ use page::Head;
 
 pub mod book;
 pub mod changes;
-pub mod early;
 pub mod effects;
-pub mod judging;
+pub mod input;
+pub mod state;
 
-// What the rows on the image's state say: the head of an image that takes the change, or the number of the row that turns it back.
-pub enum Judged {
+// What the rows on the image's state say: the head of an image that takes the change, or the status of the row that turns it back.
+pub enum StateCheck {
     Accepted(Head),
     Refused(u32),
 }

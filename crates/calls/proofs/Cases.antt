@@ -29,7 +29,7 @@ next-row n {P} {rows = rows} {cases = cases} (fails q) later = record { exactly 
     back r (inl k) = absurd (q (k .0))
     back r (inr k) = later .exactly r .1 (k .1)
 
--- of three cases, the number of the last tells that it holds
+-- of three cases, the status of the last tells that it holds
 later-case : (n r : ℕ) (P : Type 0) (cases : List Case) → n ≢ r → Returned ((n when P) ∷ cases) r → Returned cases r
 unfolding Returned
 later-case n r P cases d (inl k) = absurd (d (sym (k .1)))

@@ -12,8 +12,8 @@ use Rattle.calls.specs.Refusals.{first, scratch-ok}
 use Rattle.calls.specs.Changes.{entering, withdrawing, Change}
 use Rattle.calls.specs.Calls.{Booked, head, book}
 use Rattle.calls.specs.Book.{empty-book, entered, entered-all, book-of, items-pair, book-pair, runs-after, runs-of, listing-of}
-use Rattle.calls.specs.Trace.{Step, kept, accepted, Trace, formatted, extended, Throughout, made}
-use Rattle.calls.specs.Demands.{fixed-number, Booking, couples, Reordered, same, next, swap, then, Same-changes}
+use Rattle.calls.specs.Trace.{Step, kept, accepted, Trace, formatted, extended, Throughout, change-made}
+use Rattle.calls.specs.Demands.{fixed-status, Booking, couples, Reordered, same, next, swap, then, Same-changes}
 use Rattle.calls.specs.BookCases.{one, windowed}
 use Rattle.calls.specs.AggregateCases.{entry}
 use Rattle.calls.specs.ListCases.{fresh-image, after-one, after-two, after-three, three-changes, greatest-one, greatest-book, struck, struck-too, List-cases}
@@ -22,7 +22,7 @@ use Rattle.calls.proofs.Steps.{stayed, steps}
 
 -- a day of calls: behind the first booking one that is refused, a format that is refused and a reading call
 refused-step : Step 2 after-one [] after-one
-unfolding every-call fresh-image after-one made
+unfolding every-call fresh-image after-one change-made
 refused-step = steps 2 .of-booking entering (pos 3) 20 50 after-one (7 ∷ 7 ∷ []) 24 after-one (0 ∷ 0 ∷ []) refl
 
 refused-format : Step 2 after-one [] after-one
@@ -41,7 +41,7 @@ a-day =
     (accepted (7 ∷ 7 ∷ []) refl)
 
 -- whatever the scratch, 3 on [20, 50) is refused on what the first booking left
-refused-booking : (scratch : List ℕ) → book 2 entering (pos 3) 20 50 after-one scratch .number ≢ 0
+refused-booking : (scratch : List ℕ) → book 2 entering (pos 3) 20 50 after-one scratch .status ≢ 0
 unfolding every-call fresh-image after-one
 refused-booking scratch = go (scratch-ok 2 scratch)
   where
@@ -50,9 +50,9 @@ refused-booking scratch = go (scratch-ok 2 scratch)
     go false e = omega arith
 
 made-up : {after : List ℕ} → ¬ Step 2 after-one (entry (pos 3) 20 50 ∷ []) after
-made-up (accepted scratch p) = refused-booking scratch (ap (λ (b : Booked). b .number) (sym p))
+made-up (accepted scratch p) = refused-booking scratch (ap (λ (b : Booked). b .status) (sym p))
 
--- a number other than 0 is fixed
+-- a status other than 0 is fixed
 fixed-one : {n : ℕ} (m : ℕ) → (n ≡ suc m) ⊎ ((suc m ≡ 0) × (n ≡ 24)) → n ≡ suc m
 fixed-one m (inl e) = e
 fixed-one m (inr e) = absurd (omega (arith, e .0))
@@ -82,13 +82,13 @@ differs S =
     )
 
 pub list-cases : List-cases
-unfolding every-call empty-book entered entered-all book-of book-pair items-pair runs-after runs-of listing-of one windowed fixed-number couples fresh-image after-one after-two after-three three-changes greatest-one greatest-book made Throughout a-day
+unfolding every-call empty-book entered entered-all book-of book-pair items-pair runs-after runs-of listing-of one windowed fixed-status couples fresh-image after-one after-two after-three three-changes greatest-one greatest-book change-made Throughout a-day
 list-cases =
     record {
       fits-at-first = refl;
       fits-no-more = refl;
       fixed = (refl, refl, refl, refl);
-      refused-numbers = (refl, refl, refl, refl, refl, refl, refl);
+      refused-statuses = (refl, refl, refl, refl, refl, refl, refl);
       refused-leaves = (refl, refl);
       left-one = refl;
       left-twice = refl;
@@ -96,7 +96,7 @@ list-cases =
       left-three = refl;
       averaged = (refl, refl, refl);
       averaged-greatest = (refl, refl);
-      made-by-number = (refl, refl);
+      made-by-status = (refl, refl);
       day = a-day;
       all-day = ((((((omega arith, omega arith), omega arith), omega arith), omega arith), omega arith), omega arith);
       last-of-day = λ h. omega (arith, h .1);

@@ -11,7 +11,7 @@ use borrow.Author.Tests.{ne-eqb}
 use Rattle.image.specs.Images.{pages-in, image-bytes, fresh}
 use Rattle.calls.specs.Changes.{Side, Change}
 use Rattle.calls.specs.Calls.{Formatted, Booked, format, changed, book}
-use Rattle.calls.specs.Trace.{Step, kept, accepted, formatted, made, Steps}
+use Rattle.calls.specs.Trace.{Step, kept, accepted, formatted, change-made, Steps}
 
 -- a call that left the image as it was
 pub stays : {half : ℕ} {img after : List ℕ} → after ≡ img → Step half img [] after
@@ -23,7 +23,7 @@ stayed kept = refl
 
 module _ (half : ℕ) where
   module _ (side : Side) (v : ℤ) (s e : ℕ) (img scratch : List ℕ) (r : ℕ) (after left : List ℕ)
-      (p : record { number = r; image = after; scratch = left } ≡ book half side v s e img scratch) where
+      (p : record { status = r; image = after; scratch = left } ≡ book half side v s e img scratch) where
     abbrev change : Change
     change = record { side = side; v = v; s = s; e = e }
 
@@ -32,25 +32,25 @@ module _ (half : ℕ) where
     refused-booking n =
         ap (λ (b : Booked). b .image) p
         ∙ ap (λ x. cond x (changed half side v s e img) img)
-        (ap (λ (b : Booked). eqb (b .number) 0) (sym p) ∙ ne-eqb r 0 n)
+        (ap (λ (b : Booked). eqb (b .status) 0) (sym p) ∙ ne-eqb r 0 n)
 
-    pub booking-step : Step half img (made r change) after
-    unfolding made
+    pub booking-step : Step half img (change-made r change) after
+    unfolding change-made
     booking-step = go (ℕ-discrete r 0)
       where
-        go : Dec (r ≡ 0) → Step half img (made r change) after
-        go (yes z) = subst⁻¹ (λ n. Step half img (made n change) after) z (accepted scratch (rw z at p))
+        go : Dec (r ≡ 0) → Step half img (change-made r change) after
+        go (yes z) = subst⁻¹ (λ n. Step half img (change-made n change) after) z (accepted scratch (rw z at p))
         go (no n) = subst⁻¹ (λ x. Step half img (cond x (change ∷ []) []) after) (ne-eqb r 0 n) (stays (refused-booking n))
 
   refused-format : (kind window : ℕ) (img : List ℕ) (r : ℕ) (after : List ℕ)
-      → record { number = r; image = after } ≡ format half kind window img
+      → record { status = r; image = after } ≡ format half kind window img
       → r ≢ 0
       → after ≡ img
   unfolding format
   refused-format kind window img r after p n =
       ap (λ (f : Formatted). f .image) p
       ∙ ap (λ x. cond x (image-bytes half (fresh (pages-in half img) kind window)) img)
-      (ap (λ (f : Formatted). eqb (f .number) 0) (sym p) ∙ ne-eqb r 0 n)
+      (ap (λ (f : Formatted). eqb (f .status) 0) (sym p) ∙ ne-eqb r 0 n)
 
   pub steps : Steps half
   steps =

@@ -1,4 +1,4 @@
--- Every call returns the number that document 01's tables have for it, and an instant tells the pages that it looked at. Assumes nothing.
+-- Every call returns the status that document 01's tables have for it, and an instant tells the pages that it looked at. Assumes nothing.
 use Prim.Native.Nat.{ℕ, _*_, _<_, _≤_, _/_}
 use mathlib.Core.Path.{_≡_, refl, sym, ap, _∙_}
 use mathlib.Core.Logic.{_⊎_, inl, inr}
@@ -9,7 +9,7 @@ use native.Mathlib.Omega.{arith}
 use lib.ListN.{length}
 use lib.IntN.{ℤ, natAbs}
 use lib.Dec.{leb, ltb}
-use Rattle.rule.specs.Time.{END, span-ok, value-ok, kind-ok, window-ok, lengthened}
+use Rattle.rule.specs.Time.{END, span-ok, value-ok, kind-ok, window-ok, effect-end}
 use Rattle.page.specs.declared.Head.{Head}
 use Rattle.page.specs.Layout.{page-size, head-of}
 use Rattle.page.specs.Fit.{head-fit}
@@ -22,7 +22,7 @@ use Rattle.image.proofs.Trails.{each-fits, one-unfit, look-up-fit, look-up-look
 use Rattle.steps.specs.Change.{lacks-pages}
 use Rattle.calls.specs.Refusals.{scratch-ok, borrowed}
 use Rattle.calls.specs.Changes.{Side, entering, withdrawing, withdraws}
-use Rattle.calls.specs.Calls.{head, head-ok, format, format-number, book, book-early, book-number, instant, instant-number, average-at, listing, listing-number, runs-over, too-short, audit, audit-early}
+use Rattle.calls.specs.Calls.{head, head-ok, format, format-status, book, book-input-rows, book-status, instant, instant-status, average-at, listing, listing-status, runs-over, too-short, audit, audit-input-rows}
 use Rattle.calls.specs.Tables.{Exactly, Whole-pages, Fit-head, No-span, No-kind-or-window, Meets-unfit, Too-few-pages, format-cases, book-cases, instant-cases, listing-cases, audit-cases, Pages-told, Turned-back}
 use Rattle.calls.proofs.Reflects.{Reflects, passes, fails, restated, is-less, is-most, is-equal, is-true, is-false, is-not, is-above, is-least, both, either-fails, chosen, other}
 use Rattle.calls.proofs.Cases.{no-row, next-row, third-case}
@@ -91,13 +91,13 @@ too-few half s e X = is-less _ _
 -- ---- each call's rows
 
 module _ (half : ℕ) where
-  format-tested : (kind window : ℕ) (img : List ℕ) → Exactly (format-cases half kind window img) (format half kind window img .number)
-  unfolding format-cases format format-number
+  format-tested : (kind window : ℕ) (img : List ℕ) → Exactly (format-cases half kind window img) (format half kind window img .status)
+  unfolding format-cases format format-status
   format-tested kind window img = (next-row 16 (is-not (whole-pages half img)) (next-row 14 (no-kind-or-window kind window) no-row)) .exactly
 
   book-tested : (side : Side) (v : ℤ) (s e : ℕ) (img scratch : List ℕ)
-      → Exactly (book-cases half side v s e img scratch) (book half side v s e img scratch .number)
-  unfolding book-cases book book-number book-early head
+      → Exactly (book-cases half side v s e img scratch) (book half side v s e img scratch .status)
+  unfolding book-cases book book-status book-input-rows head
   book-tested side v s e img scratch =
       (next-row 16 (is-not (whole-pages half img))
       (next-row 17 (scratch-short half img scratch)
@@ -106,32 +106,32 @@ module _ (half : ℕ) where
       (next-row 21 (is-false (sound half img))
       (next-row 22 (both (withdrawn side) (is-not (is-equal (head-of (page-at half img 0) .kind) 1)))
       (next-row 23 (is-equal (head-of (page-at half img 0) .changes) 1000000000)
-      (next-row 24 (too-few half s (lengthened e (head-of (page-at half img 0) .window)) (image-of half img)) no-row)))))))) .exactly
+      (next-row 24 (too-few half s (effect-end e (head-of (page-at half img 0) .window)) (image-of half img)) no-row)))))))) .exactly
 
-  instant-tested : (t : ℕ) (img : List ℕ) → Exactly (instant-cases half t img) (instant half t img .number)
-  unfolding instant-cases instant instant-number
+  instant-tested : (t : ℕ) (img : List ℕ) → Exactly (instant-cases half t img) (instant half t img .status)
+  unfolding instant-cases instant instant-status
   instant-tested t img =
       (next-row 16 (is-not (whole-pages half img))
       (next-row 12 (is-most END t)
       (next-row 21 (meets-unfit half img (instant-trail half t img) (look-up half img t .fit) (look-up-fit half img t)) no-row))) .exactly
 
-  listing-tested : (a b : ℕ) (img out : List ℕ) → Exactly (listing-cases half a b img out) (listing half a b img out .number)
-  unfolding listing-cases listing listing-number too-short runs-over
+  listing-tested : (a b : ℕ) (img out : List ℕ) → Exactly (listing-cases half a b img out) (listing half a b img out .status)
+  unfolding listing-cases listing listing-status too-short runs-over
   listing-tested a b img out =
       (next-row 16 (is-not (whole-pages half img))
       (next-row 11 (no-span a b)
       (next-row 21 (meets-unfit half img (listing-trail half a b img) (walk-over half img a b .fit) (walk-over-fit half img a b))
       (next-row 15 (is-less _ _) no-row)))) .exactly
 
-  audit-tested : (img scratch : List ℕ) → Exactly (audit-cases half img scratch) (audit half img scratch .number)
-  unfolding audit-cases audit audit-early
+  audit-tested : (img scratch : List ℕ) → Exactly (audit-cases half img scratch) (audit half img scratch .status)
+  unfolding audit-cases audit audit-input-rows
   audit-tested img scratch =
       (next-row 16 (is-not (whole-pages half img)) (next-row 17 (scratch-short half img scratch) (next-row 21 (is-false (sound half img)) no-row))) .exactly
 
   -- ---- the pages that an instant tells
 
   -- at 21 with a fit head one of the pages that it looks at isn't fit
-  unfit-look : (t : ℕ) (img : List ℕ) → instant half t img .number ≡ 21 → Fit-head half img → all-fit half (h half img) img (instant-trail half t img) ≡ false
+  unfit-look : (t : ℕ) (img : List ℕ) → instant half t img .status ≡ 21 → Fit-head half img → all-fit half (h half img) img (instant-trail half t img) ≡ false
   unfolding instant-cases Exactly Meets-unfit
   unfit-look t img e f =
       go
@@ -143,7 +143,7 @@ module _ (half : ℕ) where
       go (inl n) = absurd (n f)
       go (inr k) = unfit-among half img (instant-trail half t img) k
 
-  pages-told : (t : ℕ) (img : List ℕ) → Pages-told half t img (instant half t img .number) (instant half t img .pages)
+  pages-told : (t : ℕ) (img : List ℕ) → Pages-told half t img (instant half t img .status) (instant half t img .pages)
   unfolding instant
   pages-told t img =
       record {

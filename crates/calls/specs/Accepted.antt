@@ -8,7 +8,7 @@ use mathlib.Core.Bool.{true}
 use mathlib.Core.List.{List, List·Memᴰ}
 use lib.IntN.{ℤ}
 use lib.ListN.{length}
-use Rattle.rule.specs.Time.{END, lengthened}
+use Rattle.rule.specs.Time.{END, effect-end}
 use Rattle.rule.specs.Pairs.{combine}
 use Rattle.fields.specs.Bytes.{Bytes}
 use Rattle.image.specs.Images.{page-at, image-of}
@@ -21,7 +21,7 @@ use Rattle.calls.specs.Calls.{head, book, instant}
 unfoldable pub named : ℕ → Side → ℤ → ℕ → ℕ → List ℕ → List ℕ
 named half side v s e img =
     let h = head half img in
-    change-names half (combine (h .kind)) s (lengthened e (h .window)) (effect side v) (image-of half img)
+    change-names half (combine (h .kind)) s (effect-end e (h .window)) (effect side v) (image-of half img)
 
 -- A change by v on [s, e) that took the image img to img′. Its effect covers [s, e′), e′ being `lengthened e w` of the image's own
 -- window w.
@@ -38,15 +38,15 @@ pub record Accepted-change (half : ℕ) (side : Side) (v : ℤ) (s e : ℕ) (img
   -- so that it may be changed again
   pub bytes : Bytes img′
   -- every instant is answered, and what was turned back (END, and what lies past it) still is
-  pub answered : (t : ℕ) → t < END → instant half t img′ .number ≡ 0
-  pub numbers : (t : ℕ) → instant half t img′ .number ≡ instant half t img .number
+  pub answered : (t : ℕ) → t < END → instant half t img′ .status ≡ 0
+  pub statuses : (t : ℕ) → instant half t img′ .status ≡ instant half t img .status
   -- "one more accepted change alters no instant's pair outside its span (lengthened by the window)"
   pub outside :
-      (t : ℕ) → (t < s) ⊎ (lengthened e (head half img .window) ≤ t)
+      (t : ℕ) → (t < s) ⊎ (effect-end e (head half img .window) ≤ t)
       → instant half t img′ .pair ≡ instant half t img .pair
   -- "C. Combine the effect into [s, e′)."
   pub inside :
-      (t : ℕ) → s ≤ t → t < lengthened e (head half img .window)
+      (t : ℕ) → s ≤ t → t < effect-end e (head half img .window)
       → instant half t img′ .pair ≡ combine (head half img .kind) (instant half t img .pair) (effect side v)
   -- "and no byte of a page that its five steps in document 01 don't name"
   pub unnamed : (p : ℕ) → ¬ List·Memᴰ p (named half side v s e img) → page-at half img′ p ≡ page-at half img p
@@ -56,5 +56,5 @@ unfoldable pub Every-change : ℕ → Type 0
 Every-change half =
     (side : Side) (v : ℤ) (s e : ℕ) (img scratch : List ℕ)
     → Bytes img
-    → book half side v s e img scratch .number ≡ 0
+    → book half side v s e img scratch .status ≡ 0
     → Accepted-change half side v s e img (book half side v s e img scratch .image)

@@ -6,7 +6,7 @@ use lib.ListN.{length}
 use lib.Dec.{eqb}
 use lib.IntN.{ℤ}
 use Rattle.rule.specs.declared.Pair.{Pair}
-use Rattle.rule.specs.Time.{span-ok, lengthened, covers}
+use Rattle.rule.specs.Time.{span-ok, effect-end, covers}
 use Rattle.rule.specs.Pairs.{none, same-pair, combine}
 use Rattle.image.specs.Listing.{Run}
 use Rattle.calls.specs.Refusals.{first}
@@ -31,7 +31,7 @@ empty-book kind window = record { kind = kind; window = window; items = [] }
 -- "Enter or withdraw of v on [s, e) that returned 0 adds an item .. Any other number adds nothing"
 unfoldable pub entered : ℕ → Side → ℤ → ℕ → ℕ → Book → Book
 entered number side v s e B =
-    let item : Item = record { s = s; e = lengthened e (B .window); pair = effect side v } in
+    let item : Item = record { s = s; e = effect-end e (B .window); pair = effect side v } in
     cond (eqb number 0) (record { kind = B .kind; window = B .window; items = item ∷ B .items }) B
 
 -- the book of accepted changes, entered one after the other, the first first
@@ -72,7 +72,7 @@ listing-of f a b out =
     let runs = runs-of f a b in
     let number = first ((11, not (span-ok a b)) ∷ (15, too-short out runs) ∷ []) in
     record {
-      number = number;
+      status = number;
       runs = cond (eqb number 0) (length runs) 0;
       output = cond (eqb number 0) (written out runs) out;
     }

@@ -32,7 +32,7 @@ one = entered 0 entering (pos 6) 10 40 (empty-book 1 0)
 abbrev pub listed-30-41 : Listed
 listed-30-41 =
     record {
-      number = 0;
+      status = 0;
       runs = 2;
       output =
           (30 ∷ 0 ∷ 0 ∷ 0 ∷ 1 ∷ 0 ∷ 0 ∷ 0 ∷ 6 ∷ 0 ∷ 0 ∷ 0 ∷ 0 ∷ 0 ∷ 0 ∷ 0 ∷ [])
@@ -123,8 +123,8 @@ pub record Book-cases : Type 0 where
   -- "a listing 11 if a ≥ b, else 15 if the output is shorter than the book's runs, else 0, their number, and an output that begins
   -- with them and keeps the rest".
   pub listing-11 :
-      (listing-of (book-pair one) 41 30 (9 ∷ []) ≡ record { number = 11; runs = 0; output = 9 ∷ [] })
-      × (listing-of (book-pair one) 30 30 (9 ∷ []) ≡ record { number = 11; runs = 0; output = 9 ∷ [] })
-  pub listing-15 : listing-of (book-pair one) 30 41 (replicate 31 9) ≡ record { number = 15; runs = 0; output = replicate 31 9 }
+      (listing-of (book-pair one) 41 30 (9 ∷ []) ≡ record { status = 11; runs = 0; output = 9 ∷ [] })
+      × (listing-of (book-pair one) 30 30 (9 ∷ []) ≡ record { status = 11; runs = 0; output = 9 ∷ [] })
+  pub listing-15 : listing-of (book-pair one) 30 41 (replicate 31 9) ≡ record { status = 15; runs = 0; output = replicate 31 9 }
   pub listing-0 :
       listing-of (book-pair one) 30 41 (replicate 34 9) ≡ listed-30-41

@@ -1,4 +1,5 @@
--- Every call of document 01 as a function of its inputs: the number returned, the answer, and every byte of image, output and
+-- Every call of document 01 as a function of its inputs: the status returned (document 01's number), the answer, and every byte of image,
+-- output and
 -- scratch afterwards, on every image and argument. Over half the capacity of a page, which is 12. Assumes nothing.
 use Prim.Native.Nat.{ℕ, _*_}
 use mathlib.Core.Bool.{Bool, cond, not, _&&_}
@@ -9,13 +10,13 @@ use lib.IntN.{ℤ}
 use Rattle.rule.specs.declared.Pair.{Pair}
 use Rattle.rule.specs.declared.Average.{Average}
 use Rattle.rule.specs.declared.Average.the-variants.{Nothing}
-use Rattle.rule.specs.Time.{END, span-ok, value-ok, kind-ok, window-ok, lengthened}
+use Rattle.rule.specs.Time.{END, span-ok, value-ok, kind-ok, window-ok, effect-end}
 use Rattle.rule.specs.Pairs.{none, combine}
 use Rattle.rule.specs.Averages.{average}
 use Rattle.fields.specs.Bytes.{patch}
 use Rattle.page.specs.declared.Head.{Head}
 use Rattle.page.specs.Layout.{head-of}
-use Rattle.lists.specs.Lists.{joined}
+use Rattle.lists.specs.Lists.{concat-map}
 use Rattle.page.specs.Fit.{head-fit, most-changes}
 use Rattle.image.specs.Images.{page-at, pages-in, length-ok, image-of, image-bytes, fresh}
 use Rattle.image.specs.Sound.{sound}
@@ -36,71 +37,72 @@ head-ok half img = head-fit half (pages-in half img) (page-at half img 0)
 -- Format
 
 pub record Formatted : Type 0 where
-  pub number : ℕ
+  pub status : ℕ
   pub image : List ℕ
 
-unfoldable pub format-number : ℕ → ℕ → ℕ → List ℕ → ℕ
-format-number half kind window img =
+unfoldable pub format-status : ℕ → ℕ → ℕ → List ℕ → ℕ
+format-status half kind window img =
     first ((16, not (length-ok half img)) ∷ (14, not (kind-ok kind && window-ok window)) ∷ [])
 
 unfoldable pub format : ℕ → ℕ → ℕ → List ℕ → Formatted
 format half kind window img =
-    let number = format-number half kind window img in
+    let number = format-status half kind window img in
     let done = image-bytes half (fresh (pages-in half img) kind window) in
-    record { number = number; image = cond (eqb number 0) done img }
+    record { status = number; image = cond (eqb number 0) done img }
 
 -- Enter and withdraw
 
 pub record Booked : Type 0 where
-  pub number : ℕ
+  pub status : ℕ
   pub image : List ℕ
   pub scratch : List ℕ
 
 -- the rows before it goes to work on its image
-unfoldable pub book-early : ℕ → ℤ → ℕ → ℕ → List ℕ → List ℕ → List Row
-book-early half v s e img scratch =
+unfoldable pub book-input-rows : ℕ → ℤ → ℕ → ℕ → List ℕ → List ℕ → List Row
+book-input-rows half v s e img scratch =
     (16, not (length-ok half img))
     ∷ (17, not (scratch-ok (pages-in half img) scratch))
     ∷ (11, not (span-ok s e))
     ∷ (13, not (value-ok v))
     ∷ []
 
-unfoldable pub book-number : ℕ → Side → ℤ → ℕ → ℕ → List ℕ → List ℕ → ℕ
-book-number half side v s e img scratch =
+-- the status of a booking, document 01's number: that of the first row that turns it back, else 0
+unfoldable pub book-status : ℕ → Side → ℤ → ℕ → ℕ → List ℕ → List ℕ → ℕ
+book-status half side v s e img scratch =
     let h = head half img in
     first
-    (book-early half v s e img scratch
+    (book-input-rows half v s e img scratch
     ++ ((21, not (sound half img))
     ∷ (22, withdraws side && not (eqb (h .kind) 1))
     ∷ (23, eqb (h .changes) most-changes)
-    ∷ (24, lacks-pages half s (lengthened e (h .window)) (image-of half img))
+    ∷ (24, lacks-pages half s (effect-end e (h .window)) (image-of half img))
     ∷ []))
 
 -- the image that an accepted change leaves
 unfoldable pub changed : ℕ → Side → ℤ → ℕ → ℕ → List ℕ → List ℕ
 changed half side v s e img =
     let h = head half img in
-    image-bytes half (change half (combine (h .kind)) s (lengthened e (h .window)) (effect side v) (image-of half img))
+    image-bytes half (change half (combine (h .kind)) s (effect-end e (h .window)) (effect side v) (image-of half img))
 
 unfoldable pub book : ℕ → Side → ℤ → ℕ → ℕ → List ℕ → List ℕ → Booked
 book half side v s e img scratch =
-    let number = book-number half side v s e img scratch in
+    let number = book-status half side v s e img scratch in
     let done = changed half side v s e img in
     record {
-      number = number;
+      status = number;
       image = cond (eqb number 0) done img;
-      scratch = scratch-after (book-early half v s e img scratch) (pages-in half img) scratch;
+      scratch = scratch-after (book-input-rows half v s e img scratch) (pages-in half img) scratch;
     }
 
 -- Instant
 
 pub record Instant : Type 0 where
-  pub number : ℕ
+  pub status : ℕ
   pub pair : Pair
   pub pages : ℕ
 
-unfoldable pub instant-number : ℕ → ℕ → List ℕ → ℕ
-instant-number half t img =
+unfoldable pub instant-status : ℕ → ℕ → List ℕ → ℕ
+instant-status half t img =
     first
     ((16, not (length-ok half img))
     ∷ (12, leb END t)
@@ -111,10 +113,10 @@ instant-number half t img =
 -- head and at other refusals)."
 unfoldable pub instant : ℕ → ℕ → List ℕ → Instant
 instant half t img =
-    let number = instant-number half t img in
+    let number = instant-status half t img in
     let looked = look-up half img t in
     record {
-      number = number;
+      status = number;
       pair = cond (eqb number 0) (looked .pair) none;
       pages = cond (length-ok half img && (ltb t END && head-ok half img)) (looked .pages) 0;
     }
@@ -122,18 +124,18 @@ instant half t img =
 -- Average: "The average's pair is taken by an instant call."
 
 pub record Averaged : Type 0 where
-  pub number : ℕ
+  pub status : ℕ
   pub average : Average
 
 unfoldable pub average-at : ℕ → ℕ → List ℕ → Averaged
 average-at half t img =
     let r = instant half t img in
-    record { number = r .number; average = cond (eqb (r .number) 0) (average (head half img .kind) (r .pair)) Nothing }
+    record { status = r .status; average = cond (eqb (r .status) 0) (average (head half img .kind) (r .pair)) Nothing }
 
 -- Span listing
 
 pub record Listed : Type 0 where
-  pub number : ℕ
+  pub status : ℕ
   pub runs : ℕ
   pub output : List ℕ
 
@@ -146,10 +148,10 @@ too-short out runs = ltb (length out) (16 * length runs)
 
 -- "Bytes past the last run keep what they held."
 unfoldable pub written : List ℕ → List Run → List ℕ
-written out runs = patch out 0 (joined run-bytes runs)
+written out runs = patch out 0 (concat-map run-bytes runs)
 
-unfoldable pub listing-number : ℕ → ℕ → ℕ → List ℕ → List ℕ → ℕ
-listing-number half a b img out =
+unfoldable pub listing-status : ℕ → ℕ → ℕ → List ℕ → List ℕ → ℕ
+listing-status half a b img out =
     first
     ((16, not (length-ok half img))
     ∷ (11, not (span-ok a b))
@@ -159,10 +161,10 @@ listing-number half a b img out =
 
 unfoldable pub listing : ℕ → ℕ → ℕ → List ℕ → List ℕ → Listed
 listing half a b img out =
-    let number = listing-number half a b img out in
+    let number = listing-status half a b img out in
     let runs = runs-over half a b img in
     record {
-      number = number;
+      status = number;
       runs = cond (eqb number 0) (length runs) 0;
       output = cond (eqb number 0) (written out runs) out;
     }
@@ -170,17 +172,17 @@ listing half a b img out =
 -- Audit
 
 pub record Audited : Type 0 where
-  pub number : ℕ
+  pub status : ℕ
   pub scratch : List ℕ
 
 -- the rows before it goes to work on its image
-unfoldable pub audit-early : ℕ → List ℕ → List ℕ → List Row
-audit-early half img scratch =
+unfoldable pub audit-input-rows : ℕ → List ℕ → List ℕ → List Row
+audit-input-rows half img scratch =
     (16, not (length-ok half img)) ∷ (17, not (scratch-ok (pages-in half img) scratch)) ∷ []
 
 unfoldable pub audit : ℕ → List ℕ → List ℕ → Audited
 audit half img scratch =
     record {
-      number = first (audit-early half img scratch ++ ((21, not (sound half img)) ∷ []));
-      scratch = scratch-after (audit-early half img scratch) (pages-in half img) scratch;
+      status = first (audit-input-rows half img scratch ++ ((21, not (sound half img)) ∷ []));
+      scratch = scratch-after (audit-input-rows half img scratch) (pages-in half img) scratch;
     }

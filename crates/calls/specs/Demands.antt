@@ -22,7 +22,7 @@ use Rattle.calls.specs.Changes.{Side, entering, withdrawing, withdraws, 
 use Rattle.calls.specs.Calls.{head, format, book, instant, average-at, listing, audit}
 use Rattle.calls.specs.Tables.{Turned-back}
 use Rattle.calls.specs.Book.{Book, entered, book-of, book-pair, listing-of}
-use Rattle.calls.specs.Trace.{Trace, Throughout, made, Steps}
+use Rattle.calls.specs.Trace.{Trace, Throughout, change-made, Steps}
 use Rattle.calls.specs.Aggregate.{aggregate, Matched, live-from}
 use Rattle.calls.specs.Accepted.{Every-change}
 
@@ -32,33 +32,33 @@ keeps-scratch number = eqb number 16 || (eqb number 17 || (eqb number 11 || eqb 
 
 -- Demand 1. "A caller may hand any public call any image, span, value or output buffer, unchecked; the call returns, and what
 -- document 01 turns back is refused by its number there, with image and output as before." That a call returns is part of every
--- function's proof; that its number is that of the first row that turns it back is `Turned-back` (Tables.antt). What is left to say:
+-- function's proof; that its status is that of the first row that turns it back is `Turned-back` (Tables.antt). What is left to say:
 -- "A refusal returns its number and zeros (instant: the pages read too). Image and output keep their bytes".
 pub record Demand-1 (half : ℕ) : Type 0 where
-  pub of-format : (kind window : ℕ) (img : List ℕ) → format half kind window img .number ≢ 0 → format half kind window img .image ≡ img
+  pub of-format : (kind window : ℕ) (img : List ℕ) → format half kind window img .status ≢ 0 → format half kind window img .image ≡ img
   pub of-booking :
       (side : Side) (v : ℤ) (s e : ℕ) (img scratch : List ℕ)
-      → book half side v s e img scratch .number ≢ 0
+      → book half side v s e img scratch .status ≢ 0
       → book half side v s e img scratch .image ≡ img
-  pub of-instant : (t : ℕ) (img : List ℕ) → instant half t img .number ≢ 0 → instant half t img .pair ≡ none
-  pub of-average : (t : ℕ) (img : List ℕ) → average-at half t img .number ≢ 0 → average-at half t img .average ≡ Nothing
+  pub of-instant : (t : ℕ) (img : List ℕ) → instant half t img .status ≢ 0 → instant half t img .pair ≡ none
+  pub of-average : (t : ℕ) (img : List ℕ) → average-at half t img .status ≢ 0 → average-at half t img .average ≡ Nothing
   pub of-listing :
       (a b : ℕ) (img out : List ℕ)
-      → listing half a b img out .number ≢ 0
+      → listing half a b img out .status ≢ 0
       → (listing half a b img out .output ≡ out) × (listing half a b img out .runs ≡ 0)
   -- "else its n bytes are 0"
   pub of-scratch :
       (side : Side) (v : ℤ) (s e : ℕ) (img scratch : List ℕ)
       → (book half side v s e img scratch .scratch
-      ≡ cond (keeps-scratch (book half side v s e img scratch .number)) scratch (cleared (pages-in half img) scratch))
+      ≡ cond (keeps-scratch (book half side v s e img scratch .status)) scratch (cleared (pages-in half img) scratch))
       × (audit half img scratch .scratch
-      ≡ cond (keeps-scratch (audit half img scratch .number)) scratch (cleared (pages-in half img) scratch))
+      ≡ cond (keeps-scratch (audit half img scratch .status)) scratch (cleared (pages-in half img) scratch))
   -- "It reports the tree pages read: the height if answered, or if a page is unfit, the pages up to and including it (0 for the
   -- head and at other refusals)."
   pub of-pages :
       (t : ℕ) (img : List ℕ)
-      → (instant half t img .number ≡ 0 → instant half t img .pages ≡ head half img .height)
-      × (instant half t img .number ≢ 0 → instant half t img .number ≢ 21 → instant half t img .pages ≡ 0)
+      → (instant half t img .status ≡ 0 → instant half t img .pages ≡ head half img .height)
+      × (instant half t img .status ≢ 0 → instant half t img .status ≢ 21 → instant half t img .pages ≡ 0)
   -- no call on an image answers the average of a sum that no fit page can show
   pub of-beyond : (t : ℕ) (img : List ℕ) → average-at half t img .average ≢ Beyond
 
@@ -68,18 +68,18 @@ pub record Demand-1 (half : ℕ) : Type 0 where
 pub record Demand-2 (half kind window : ℕ) (img : List ℕ) (cs : List Change) : Type 0 where
   pub instants :
       (t : ℕ) → t < END
-      → (instant half t img .number ≡ 0) × (instant half t img .pair ≡ aggregate kind window cs t)
+      → (instant half t img .status ≡ 0) × (instant half t img .pair ≡ aggregate kind window cs t)
   pub averages :
       (t : ℕ) → t < END
-      → average-at half t img ≡ record { number = 0; average = average kind (aggregate kind window cs t) }
+      → average-at half t img ≡ record { status = 0; average = average kind (aggregate kind window cs t) }
   pub spans : (a b : ℕ) (out : List ℕ) → listing half a b img out ≡ listing-of (aggregate kind window cs) a b out
   pub sound-after : sound half img ≡ true
   -- "If every withdrawal matches an earlier entry not yet withdrawn, this is the aggregate over live bookings."
   pub live : Matched [] cs → (t : ℕ) → aggregate kind window cs t ≡ aggregate kind window (live-from [] cs) t
 
--- The number of a booking as far as document 01 fixes it without the image: only 24 turns on how the pages came to lie.
-unfoldable pub fixed-number : ℕ → Side → ℤ → ℕ → ℕ → List ℕ → Book → ℕ
-fixed-number pages side v s e scratch B =
+-- The status of a booking as far as document 01 fixes it without the image: only 24 turns on how the pages came to lie.
+unfoldable pub fixed-status : ℕ → Side → ℤ → ℕ → ℕ → List ℕ → Book → ℕ
+fixed-status pages side v s e scratch B =
     first
     ((17, not (scratch-ok pages scratch))
     ∷ (11, not (span-ok s e))
@@ -92,22 +92,22 @@ fixed-number pages side v s e scratch B =
 -- book says.
 pub record As-the-book (half : ℕ) (img : List ℕ) (B : Book) : Type 0 where
   -- "an instant call returns 12 at END, else 0 and the pair at t that the book then has"
-  pub instant-end : (t : ℕ) → END ≤ t → instant half t img .number ≡ 12
-  pub instants : (t : ℕ) → t < END → (instant half t img .number ≡ 0) × (instant half t img .pair ≡ book-pair B t)
+  pub instant-end : (t : ℕ) → END ≤ t → instant half t img .status ≡ 12
+  pub instants : (t : ℕ) → t < END → (instant half t img .status ≡ 0) × (instant half t img .pair ≡ book-pair B t)
   -- "The average's pair is taken by an instant call": the same numbers, at END with no average, else with that of the book's kind and pair
-  pub average-end : (t : ℕ) → END ≤ t → average-at half t img ≡ record { number = 12; average = Nothing }
+  pub average-end : (t : ℕ) → END ≤ t → average-at half t img ≡ record { status = 12; average = Nothing }
   pub averages :
-      (t : ℕ) → t < END → average-at half t img ≡ record { number = 0; average = average (B .kind) (book-pair B t) }
+      (t : ℕ) → t < END → average-at half t img ≡ record { status = 0; average = average (B .kind) (book-pair B t) }
   -- "a listing 11 if a ≥ b, else 15 if the output is shorter than the book's runs, else 0, their number, and an output that begins with
   -- them and keeps the rest"; and so the full one: "The full listing is that over [0, END)."
   pub listings : (a b : ℕ) (out : List ℕ) → listing half a b img out ≡ listing-of (book-pair B) a b out
   -- "an audit 17 if its scratch is too short, else 0"
-  pub audits : (scratch : List ℕ) → audit half img scratch .number ≡ first ((17, not (scratch-ok (pages-in half img) scratch)) ∷ [])
-  -- a booking the number that is fixed, but where the pages may be too few
+  pub audits : (scratch : List ℕ) → audit half img scratch .status ≡ first ((17, not (scratch-ok (pages-in half img) scratch)) ∷ [])
+  -- a booking the status that is fixed, but where the pages may be too few
   pub bookings :
       (side : Side) (v : ℤ) (s e : ℕ) (scratch : List ℕ)
-      → let number = book half side v s e img scratch .number in
-      let fixed = fixed-number (pages-in half img) side v s e scratch B in
+      → let number = book half side v s e img scratch .status in
+      let fixed = fixed-status (pages-in half img) side v s e scratch B in
       (number ≡ fixed) ⊎ ((fixed ≡ 0) × (number ≡ 24))
 
 -- Demand 3, the claim about the list. "For every list of calls on one image .. from a freshly formatted one, each instant's pair and
@@ -158,12 +158,12 @@ pub record Headed (half kind window : ℕ) (img : List ℕ) (cs : List Change) :
 -- The demands. The lists are those of Trace.antt, and every call is a step there.
 pub record The-demands (half : ℕ) : Type 0 where
   pub demand-1 : Demand-1 half
-  pub demand-1-numbers : Turned-back half
+  pub demand-1-statuses : Turned-back half
   pub steps : Steps half
   -- "The book is fed .. each call's arguments and, of enter and withdraw, the number returned; never the image."
   pub fed :
       (kind window : ℕ) (cs : List Change) (r : ℕ) (c : Change)
-      → book-of kind window (cs ++ made r c) ≡ entered r (c .side) (c .v) (c .s) (c .e) (book-of kind window cs)
+      → book-of kind window (cs ++ change-made r c) ≡ entered r (c .side) (c .v) (c .s) (c .e) (book-of kind window cs)
   pub demand-2 : {kind window : ℕ} {img : List ℕ} {cs : List Change} → Trace half kind window img cs → Demand-2 half kind window img cs
   pub demand-3-list : {kind window : ℕ} {img : List ℕ} {cs : List Change} (T : Trace half kind window img cs) → Demand-3-list T
   -- "Any two images of the same kind and window, of whatever sizes and after whatever two such lists, have the same full listing if the

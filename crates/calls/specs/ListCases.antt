@@ -11,8 +11,8 @@ use Rattle.rule.specs.Pairs.{pair, none}
 use Rattle.calls.specs.Changes.{entering, withdrawing, Change}
 use Rattle.calls.specs.Calls.{Booked, format, book, instant, average-at, listing, audit}
 use Rattle.calls.specs.Book.{Book, empty-book, entered, book-of}
-use Rattle.calls.specs.Trace.{Step, Trace, Throughout, made}
-use Rattle.calls.specs.Demands.{fixed-number, As-the-book, Booking, couples, Same-changes}
+use Rattle.calls.specs.Trace.{Step, Trace, Throughout, change-made}
+use Rattle.calls.specs.Demands.{fixed-status, As-the-book, Booking, couples, Same-changes}
 use Rattle.calls.specs.BookCases.{one, windowed, listed-30-41}
 use Rattle.calls.specs.AggregateCases.{entry, withdrawal}
 
@@ -58,27 +58,27 @@ struck-too = record { v = negsuc 0; s = 0; e = 9 }
 
 pub record List-cases : Type 0 where
   -- "Each gets the image as the last one left it": 3 on [20, 50) fits in the fresh image, and not in what the first booking left.
-  pub fits-at-first : enters (pos 3) 20 50 fresh-image .number ≡ 0
-  pub fits-no-more : enters (pos 3) 20 50 after-one .number ≡ 24
-  -- What the book fixes of a booking's number: all but 24.
+  pub fits-at-first : enters (pos 3) 20 50 fresh-image .status ≡ 0
+  pub fits-no-more : enters (pos 3) 20 50 after-one .status ≡ 24
+  -- What the book fixes of a booking's status: all but 24.
   pub fixed :
-      (fixed-number 2 entering (pos 3) 20 50 (7 ∷ 7 ∷ []) one ≡ 0)
-      × (fixed-number 2 entering (pos 1000001) 5 5 (7 ∷ 7 ∷ []) one ≡ 11)
-      × (fixed-number 2 withdrawing (pos 4) 35 45 (7 ∷ 7 ∷ []) (windowed 2) ≡ 22)
-      × (fixed-number 2 withdrawing (pos 4) 35 45 (7 ∷ []) (windowed 2) ≡ 17)
-  -- Each call that is refused there, by its number.
-  pub refused-numbers :
-      (enters (pos 1) 5 5 after-one .number ≡ 11)
-      × (instant 2 END after-one .number ≡ 12)
-      × (enters (pos 1000001) 5 6 after-one .number ≡ 13)
-      × (format 2 4 0 after-one .number ≡ 14)
-      × (listing 2 0 50 after-one [] .number ≡ 15)
-      × (audit 2 (255 ∷ after-one) [] .number ≡ 16)
-      × (audit 2 after-one [] .number ≡ 17)
+      (fixed-status 2 entering (pos 3) 20 50 (7 ∷ 7 ∷ []) one ≡ 0)
+      × (fixed-status 2 entering (pos 1000001) 5 5 (7 ∷ 7 ∷ []) one ≡ 11)
+      × (fixed-status 2 withdrawing (pos 4) 35 45 (7 ∷ 7 ∷ []) (windowed 2) ≡ 22)
+      × (fixed-status 2 withdrawing (pos 4) 35 45 (7 ∷ []) (windowed 2) ≡ 17)
+  -- Each call that is refused there, by its status.
+  pub refused-statuses :
+      (enters (pos 1) 5 5 after-one .status ≡ 11)
+      × (instant 2 END after-one .status ≡ 12)
+      × (enters (pos 1000001) 5 6 after-one .status ≡ 13)
+      × (format 2 4 0 after-one .status ≡ 14)
+      × (listing 2 0 50 after-one [] .status ≡ 15)
+      × (audit 2 (255 ∷ after-one) [] .status ≡ 16)
+      × (audit 2 after-one [] .status ≡ 17)
   -- What a refused booking and a refused format leave is what they found.
   pub refused-leaves : (enters (pos 3) 20 50 after-one .image ≡ after-one) × (format 2 4 0 after-one .image ≡ after-one)
   -- What a booking leaves is what the next call finds.
-  pub left-one : instant 2 20 after-one ≡ record { number = 0; pair = pair (pos 6) (pos 1); pages = 1 }
+  pub left-one : instant 2 20 after-one ≡ record { status = 0; pair = pair (pos 6) (pos 1); pages = 1 }
   pub left-twice : instant 2 20 (enters (pos 6) 10 40 after-one .image) .pair ≡ pair (pos 12) (pos 2)
   pub left-two : instant 2 20 after-two .pair ≡ none
   pub left-three :
@@ -86,14 +86,14 @@ pub record List-cases : Type 0 where
       ≡ none ∷ pair (pos 3) (pos 1) ∷ pair (pos 3) (pos 1) ∷ none ∷ []
   -- An average, at an instant, where nothing counts, and at END; and for kind 2, where there is none.
   pub averaged :
-      (average-at 2 20 after-one ≡ record { number = 0; average = Hundredths (pos 600) })
-      × (average-at 2 40 after-one ≡ record { number = 0; average = Nothing })
-      × (average-at 2 END after-one ≡ record { number = 12; average = Nothing })
+      (average-at 2 20 after-one ≡ record { status = 0; average = Hundredths (pos 600) })
+      × (average-at 2 40 after-one ≡ record { status = 0; average = Nothing })
+      × (average-at 2 END after-one ≡ record { status = 12; average = Nothing })
   pub averaged-greatest :
-      (instant 2 20 greatest-one ≡ record { number = 0; pair = pair (pos 6) (pos 1); pages = 1 })
-      × (average-at 2 20 greatest-one ≡ record { number = 0; average = Nothing })
+      (instant 2 20 greatest-one ≡ record { status = 0; pair = pair (pos 6) (pos 1); pages = 1 })
+      × (average-at 2 20 greatest-one ≡ record { status = 0; average = Nothing })
   -- A booking that returned 0 made its change, and one that was refused made none.
-  pub made-by-number : (made 0 (entry (pos 3) 20 50) ≡ entry (pos 3) 20 50 ∷ []) × (made 24 (entry (pos 3) 20 50) ≡ [])
+  pub made-by-status : (change-made 0 (entry (pos 3) 20 50) ≡ entry (pos 3) 20 50 ∷ []) × (change-made 24 (entry (pos 3) 20 50) ≡ [])
   -- A list of calls: the three bookings, in this order, and behind the first one 3 on [20, 50) refused by 24, a format refused by 14,
   -- both as the steps that every call is, and a call that only reads.
   pub day : Trace 2 1 0 after-three three-changes
@@ -112,17 +112,17 @@ pub record List-cases : Type 0 where
   -- kind 2 turns back.
   pub claimed :
       {img : List ℕ} → As-the-book 2 img one
-      → (instant 2 END img .number ≡ 12)
+      → (instant 2 END img .status ≡ 12)
       × (instant 2 39 img .pair ≡ pair (pos 6) (pos 1))
-      × (average-at 2 END img ≡ record { number = 12; average = Nothing })
-      × (average-at 2 39 img ≡ record { number = 0; average = Hundredths (pos 600) })
+      × (average-at 2 END img ≡ record { status = 12; average = Nothing })
+      × (average-at 2 39 img ≡ record { status = 0; average = Hundredths (pos 600) })
   pub claimed-listing :
       {img : List ℕ} → As-the-book 2 img one
       → listing 2 30 41 img (replicate 34 9) ≡ listed-30-41
-  pub claimed-greatest : {img : List ℕ} → As-the-book 2 img (windowed 2) → average-at 2 40 img ≡ record { number = 0; average = Nothing }
+  pub claimed-greatest : {img : List ℕ} → As-the-book 2 img (windowed 2) → average-at 2 40 img ≡ record { status = 0; average = Nothing }
   pub claimed-audit :
-      As-the-book 2 after-one one → (audit 2 after-one [] .number ≡ 17) × (audit 2 after-one (7 ∷ 7 ∷ []) .number ≡ 0)
-  pub claimed-booking : As-the-book 2 greatest-one greatest-book → withdraws (pos 6) 10 40 greatest-one .number ≡ 22
+      As-the-book 2 after-one one → (audit 2 after-one [] .status ≡ 17) × (audit 2 after-one (7 ∷ 7 ∷ []) .status ≡ 0)
+  pub claimed-booking : As-the-book 2 greatest-one greatest-book → withdraws (pos 6) 10 40 greatest-one .status ≡ 22
   -- No list has a format that was accepted and changed the image, nor a booking that changed it and is not among the changes.
   pub accepted-format : ¬ Step 2 after-one [] (format 2 1 0 after-one .image)
   pub change-left-out : ¬ Step 2 after-one [] after-two

@@ -6,12 +6,12 @@ use lib.ListN.{length, replicate}
 use lib.Dec.{eqb, leb}
 use Rattle.fields.specs.Bytes.{patch}
 
--- A row of the two tables as a call meets it: the number, and whether it turns the call back.
+-- A row of the two tables as a call meets it: the status, and whether it turns the call back.
 abbrev pub Row : Type 0
 Row = ℕ × Bool
 
 -- "The order is 16, 17, 11 or 12, 13, 14, 21, 22, 23, 24, and 15 last." A call's rows stand in that order, and the first that
--- turns it back is its number. "A call that no row here or later turns back is accepted. An accepted call returns 0".
+-- turns it back is its status. "A call that no row here or later turns back is accepted. An accepted call returns 0".
 unfoldable pub first : List Row → ℕ
 first [] = 0
 first (r ∷ rows) =

@@ -8,7 +8,7 @@ use mathlib.Core.Bool.{true, false}
 use mathlib.Core.List.{List, [], _∷_, List·Memᴰ}
 use lib.ListN.{length}
 use lib.IntN.{ℤ, natAbs}
-use Rattle.rule.specs.Time.{END, lengthened}
+use Rattle.rule.specs.Time.{END, effect-end}
 use Rattle.page.specs.declared.Head.{Head}
 use Rattle.page.specs.Layout.{page-size, head-of}
 use Rattle.page.specs.Fit.{head-fit}
@@ -22,20 +22,20 @@ use Rattle.calls.specs.Changes.{Side, withdrawing}
 use Rattle.calls.specs.Calls.{format, book, instant, average-at, listing, audit}
 
 infix 1 _when_
--- A row as it stands for a call: its number, and when it turns the call back.
+-- A row as it stands for a call: its status, and when it turns the call back.
 pub record Case : Type 1 where
-  pub number : ℕ
+  pub status : ℕ
   pub holds : Type 0
 
 abbrev pub _when_ : ℕ → Type 0 → Case
-number when holds = record { number = number; holds = holds }
+number when holds = record { status = number; holds = holds }
 
--- r is the number of a case that holds, and none ahead of it does; where none holds, "An accepted call returns 0"
+-- r is the status of a case that holds, and none ahead of it does; where none holds, "An accepted call returns 0"
 unfoldable pub Returned : List Case → ℕ → Type 0
 Returned [] r = r ≡ 0
-Returned (c ∷ cs) r = (c .holds × (r ≡ c .number)) ⊎ ((¬ c .holds) × Returned cs r)
+Returned (c ∷ cs) r = (c .holds × (r ≡ c .status)) ⊎ ((¬ c .holds) × Returned cs r)
 
--- the number is r exactly where that is so
+-- the status is r exactly where that is so
 unfoldable pub Exactly : List Case → ℕ → Type 0
 Exactly cs number = (r : ℕ) → (number ≡ r) ↔ Returned cs r
 
@@ -58,7 +58,7 @@ No-span s e = (e ≤ s) ⊎ (END < e)
 unfoldable pub No-kind-or-window : ℕ → ℕ → Type 0
 No-kind-or-window kind window = ((kind < 1) ⊎ (3 < kind)) ⊎ (1000000000 < window)
 
--- 21: "instant, listing: a page it meets is unfit": the head, or a page that the walk looks at, at its place there
+-- 21: "instant, listing: a page it meets is unfit": the head, or a page that the walk looks at, in its context there
 unfoldable pub Meets-unfit : ℕ → List ℕ → List Visit → Type 0
 Meets-unfit half img looks =
     (¬ Fit-head half img)
@@ -85,7 +85,7 @@ module _ (half : ℕ) where
       ∷ (21 when sound half img ≡ false)
       ∷ (22 when (side ≡ withdrawing) × (h .kind ≢ 1))
       ∷ (23 when h .changes ≡ 1000000000)
-      ∷ (24 when Too-few-pages half s (lengthened e (h .window)) (image-of half img))
+      ∷ (24 when Too-few-pages half s (effect-end e (h .window)) (image-of half img))
       ∷ []
 
   -- 12: "instant END"
@@ -121,12 +121,12 @@ module _ (half : ℕ) where
 
 -- "what document 01 turns back is refused by its number there", and nothing else is refused: of every call on every input
 pub record Turned-back (half : ℕ) : Type 0 where
-  pub of-format : (kind window : ℕ) (img : List ℕ) → Exactly (format-cases half kind window img) (format half kind window img .number)
+  pub of-format : (kind window : ℕ) (img : List ℕ) → Exactly (format-cases half kind window img) (format half kind window img .status)
   pub of-booking :
       (side : Side) (v : ℤ) (s e : ℕ) (img scratch : List ℕ)
-      → Exactly (book-cases half side v s e img scratch) (book half side v s e img scratch .number)
-  pub of-instant : (t : ℕ) (img : List ℕ) → Exactly (instant-cases half t img) (instant half t img .number)
-  pub of-pages : (t : ℕ) (img : List ℕ) → Pages-told half t img (instant half t img .number) (instant half t img .pages)
-  pub of-average : (t : ℕ) (img : List ℕ) → Exactly (instant-cases half t img) (average-at half t img .number)
-  pub of-listing : (a b : ℕ) (img out : List ℕ) → Exactly (listing-cases half a b img out) (listing half a b img out .number)
-  pub of-audit : (img scratch : List ℕ) → Exactly (audit-cases half img scratch) (audit half img scratch .number)
+      → Exactly (book-cases half side v s e img scratch) (book half side v s e img scratch .status)
+  pub of-instant : (t : ℕ) (img : List ℕ) → Exactly (instant-cases half t img) (instant half t img .status)
+  pub of-pages : (t : ℕ) (img : List ℕ) → Pages-told half t img (instant half t img .status) (instant half t img .pages)
+  pub of-average : (t : ℕ) (img : List ℕ) → Exactly (instant-cases half t img) (average-at half t img .status)
+  pub of-listing : (a b : ℕ) (img out : List ℕ) → Exactly (listing-cases half a b img out) (listing half a b img out .status)
+  pub of-audit : (img scratch : List ℕ) → Exactly (audit-cases half img scratch) (audit half img scratch .status)

@@ -18,7 +18,7 @@ pub data Step (half : ℕ) : List ℕ → List Change → List ℕ → Type 0 wh
   kept : {img : List ℕ} → Step half img [] img
   accepted :
       {img after left : List ℕ} {side : Side} {v : ℤ} {s e : ℕ} (scratch : List ℕ)
-      → record { number = 0; image = after; scratch = left } ≡ book half side v s e img scratch
+      → record { status = 0; image = after; scratch = left } ≡ book half side v s e img scratch
       → Step half img (record { side = side; v = v; s = s; e = e } ∷ []) after
 
 -- A list of calls on one image, from a format of that kind and window that returned 0, whatever bytes were there before: the image that
@@ -26,7 +26,7 @@ pub data Step (half : ℕ) : List ℕ → List Change → List ℕ → Type 0 wh
 pub data Trace (half kind window : ℕ) : List ℕ → List Change → Type 0 where
   formatted :
       {img : List ℕ} (before : List ℕ)
-      → record { number = 0; image = img } ≡ format half kind window before
+      → record { status = 0; image = img } ≡ format half kind window before
       → Trace half kind window img []
   extended :
       {img after : List ℕ} {cs ds : List Change}
@@ -42,24 +42,24 @@ unfoldable pub Throughout :
 Throughout P {img} {cs} (formatted before f) = P img []
 Throughout P (extended {img} {after} {cs} {ds} T step) = Throughout P T × P after (cs ++ ds)
 
--- The change that a booking made by the number that it returned: "Enter or withdraw .. that returned 0 adds an item .. Any other number
+-- The change that a booking made by the status that it returned: "Enter or withdraw .. that returned 0 adds an item .. Any other number
 -- adds nothing".
-unfoldable pub made : ℕ → Change → List Change
-made number c = cond (eqb number 0) (c ∷ []) []
+unfoldable pub change-made : ℕ → Change → List Change
+change-made number c = cond (eqb number 0) (c ∷ []) []
 
 -- Every booking and every format is such a step. Instant, average, listing and audit leave no image: the caller's stays, which is `kept`.
 pub record Steps (half : ℕ) : Type 0 where
   pub of-booking :
       (side : Side) (v : ℤ) (s e : ℕ) (img scratch : List ℕ) (r : ℕ) (after left : List ℕ)
-      → record { number = r; image = after; scratch = left } ≡ book half side v s e img scratch
-      → Step half img (made r (record { side = side; v = v; s = s; e = e })) after
+      → record { status = r; image = after; scratch = left } ≡ book half side v s e img scratch
+      → Step half img (change-made r (record { side = side; v = v; s = s; e = e })) after
   -- an accepted format begins a list
   pub of-format :
       (kind window : ℕ) (img : List ℕ) (after : List ℕ)
-      → record { number = 0; image = after } ≡ format half kind window img
+      → record { status = 0; image = after } ≡ format half kind window img
       → Trace half kind window after []
   pub of-refused-format :
       (kind window : ℕ) (img : List ℕ) (r : ℕ) (after : List ℕ)
-      → record { number = r; image = after } ≡ format half kind window img
+      → record { status = r; image = after } ≡ format half kind window img
       → r ≢ 0
       → Step half img [] after

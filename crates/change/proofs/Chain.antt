@@ -4,16 +4,16 @@ use mathlib.Core.List.{List}
 use Rattle.rule.specs.declared.Pair.{Pair}
 use Rattle.rule.specs.Pairs.{combine}
 use Rattle.image.specs.Images.{Image}
-use Rattle.steps.specs.Supply.{counted}
+use Rattle.steps.specs.Supply.{count-change}
 use Rattle.steps.specs.Change.{cuts, change}
 use Rattle.steps.specs.Cut.{cut}
-use Rattle.steps.specs.Spread.{spread}
+use Rattle.steps.specs.Combine.{combine-span}
 use Rattle.steps.specs.Heal.{heal}
-use Rattle.store.specs.Holding.{Holds, Some, Each}
-use Rattle.store.specs.Ready.{Countable}
+use Rattle.store.specs.Encoding.{Encodes, Pre, Post}
+use Rattle.store.specs.Preconditions.{Countable}
 use Rattle.store.proofs.Chains.{then, some-then}
 use Rattle.cut.specs.Cuttable.{Cuttable}
-use Rattle.spread.specs.Spreadable.{Spreadable}
+use Rattle.combine_span.specs.SpanCombinable.{Span-combinable}
 use Rattle.heal.specs.Healable.{Healable}
 use Rattle.change.specs.Changeable.{task, after-A, after-B, after-C, after-D, after-E, Changeable}
 
@@ -23,44 +23,44 @@ module _ (kind s e : ℕ) (effect : Pair) where
 
   -- the bytes hold what the steps so far make of every image that can be changed
   abbrev Reach : List ℕ → List ℕ → (Image → Image) → Type 0
-  Reach before after to = Each before Start (λ X. Holds after (to X))
+  Reach before after to = Post before Start (λ X. Encodes after (to X))
 
-  module _ {i0 i1 : List ℕ} (a : Each i0 (Cuttable s) (λ X. Holds i1 (cut 12 s X))) where
+  module _ {i0 i1 : List ℕ} (a : Post i0 (Cuttable s) (λ X. Encodes i1 (cut 12 s X))) where
     reach-A : Reach i0 i1 (after-A kind s e effect)
     reach-A X h c = a X h (c .for-A)
 
-    pub some-B : Some i0 Start → Some i1 (Cuttable e)
+    pub some-B : Pre i0 Start → Pre i1 (Cuttable e)
     some-B = some-then reach-A (λ X h c. c .for-B)
 
-    module _ {i2 : List ℕ} (b : Each i1 (Cuttable e) (λ X. Holds i2 (cut 12 e X))) where
+    module _ {i2 : List ℕ} (b : Post i1 (Cuttable e) (λ X. Encodes i2 (cut 12 e X))) where
       reach-B : Reach i0 i2 (after-B kind s e effect)
       reach-B = then reach-A (λ X h c. c .for-B) b
 
-      pub some-C : Some i0 Start → Some i2 (Spreadable (task kind s e effect))
+      pub some-C : Pre i0 Start → Pre i2 (Span-combinable (task kind s e effect))
       some-C = some-then reach-B (λ X h c. c .for-C)
 
-      module _ {i3 : List ℕ} (d : Each i2 (Spreadable (task kind s e effect)) (λ X. Holds i3 (spread (combine kind) s e effect X))) where
+      module _ {i3 : List ℕ} (d : Post i2 (Span-combinable (task kind s e effect)) (λ X. Encodes i3 (combine-span (combine kind) s e effect X))) where
         reach-C : Reach i0 i3 (after-C kind s e effect)
         reach-C = then reach-B (λ X h c. c .for-C) d
 
-        pub some-D : Some i0 Start → Some i3 (Healable kind s)
+        pub some-D : Pre i0 Start → Pre i3 (Healable kind s)
         some-D = some-then reach-C (λ X h c. c .for-D)
 
-        module _ {i4 : List ℕ} (f : Each i3 (Healable kind s) (λ X. Holds i4 (heal 12 (combine kind) s X))) where
+        module _ {i4 : List ℕ} (f : Post i3 (Healable kind s) (λ X. Encodes i4 (heal 12 (combine kind) s X))) where
           reach-D : Reach i0 i4 (after-D kind s e effect)
           reach-D = then reach-C (λ X h c. c .for-D) f
 
-          pub some-E : Some i0 Start → Some i4 (Healable kind e)
+          pub some-E : Pre i0 Start → Pre i4 (Healable kind e)
           some-E = some-then reach-D (λ X h c. c .for-E)
 
-          module _ {i5 : List ℕ} (g : Each i4 (Healable kind e) (λ X. Holds i5 (heal 12 (combine kind) e X))) where
+          module _ {i5 : List ℕ} (g : Post i4 (Healable kind e) (λ X. Encodes i5 (heal 12 (combine kind) e X))) where
             reach-E : Reach i0 i5 (after-E kind s e effect)
             reach-E = then reach-D (λ X h c. c .for-E) g
 
-            pub some-count : Some i0 Start → Some i5 Countable
+            pub some-count : Pre i0 Start → Pre i5 Countable
             some-count = some-then reach-E (λ X h c. c .for-count)
 
-            pub changed : {i6 : List ℕ} → Each i5 Countable (λ X. Holds i6 (counted X))
-                → Each i0 Start (λ X. Holds i6 (change 12 (combine kind) s e effect X))
+            pub changed : {i6 : List ℕ} → Post i5 Countable (λ X. Encodes i6 (count-change X))
+                → Post i0 Start (λ X. Encodes i6 (change 12 (combine kind) s e effect X))
             unfolding change cuts
             changed k = then reach-E (λ X h c. c .for-count) k

@@ -4,16 +4,16 @@ use Rattle.rule.specs.declared.Pair.{Pair}
 use Rattle.rule.specs.Pairs.{combine}
 use Rattle.image.specs.Images.{Image}
 use Rattle.steps.specs.Cut.{cut}
-use Rattle.steps.specs.Spread.{spread}
+use Rattle.steps.specs.Combine.{combine-span}
 use Rattle.steps.specs.Heal.{heal}
-use Rattle.store.specs.Ready.{Countable}
+use Rattle.store.specs.Preconditions.{Countable}
 use Rattle.cut.specs.Cuttable.{Cuttable}
-use Rattle.spread.specs.declared.Task.{Task}
-use Rattle.spread.specs.Spreadable.{Spreadable}
+use Rattle.combine_span.specs.declared.SpanEffect.{SpanEffect}
+use Rattle.combine_span.specs.SpanCombinable.{Span-combinable}
 use Rattle.heal.specs.Healable.{Healable}
 
 module _ (kind s e : ℕ) (effect : Pair) where
-  abbrev pub task : Task
+  abbrev pub task : SpanEffect
   task = record { kind = kind; s = s; e = e; effect = effect }
 
   -- the image after A, B, C, D and E
@@ -24,7 +24,7 @@ module _ (kind s e : ℕ) (effect : Pair) where
   after-B X = cut 12 e (after-A X)
 
   abbrev pub after-C : Image → Image
-  after-C X = spread (combine kind) s e effect (after-B X)
+  after-C X = combine-span (combine kind) s e effect (after-B X)
 
   abbrev pub after-D : Image → Image
   after-D X = heal 12 (combine kind) s (after-C X)
@@ -35,7 +35,7 @@ module _ (kind s e : ℕ) (effect : Pair) where
   pub record Changeable (X : Image) : Type 0 where
     pub for-A : Cuttable s X
     pub for-B : Cuttable e (after-A X)
-    pub for-C : Spreadable task (after-B X)
+    pub for-C : Span-combinable task (after-B X)
     pub for-D : Healable kind s (after-C X)
     pub for-E : Healable kind e (after-D X)
     pub for-count : Countable (after-E X)

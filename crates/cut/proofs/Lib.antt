@@ -1,5 +1,5 @@
--- `Settling` has what a page that gained an entry is written as, `Cutting` what a page on the way to an instant becomes, and
--- `Raising` what the root becomes.
-pub mod Settling
+-- `Splitting` has what a page that gained an entry is written as, `Cutting` what a page on the path to an instant becomes, and
+-- `Roots` what the root becomes.
+pub mod Splitting
 pub mod Cutting
-pub mod Raising
+pub mod Roots

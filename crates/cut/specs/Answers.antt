@@ -6,20 +6,20 @@ use Rattle.page.specs.declared.Entry.{Entry}
 use Rattle.page.specs.Entries.{entry, at}
 use Rattle.lists.specs.Lists.{splice}
 use Rattle.steps.specs.Cut.{Cutting}
-use Rattle.store.specs.Holding.{Holds}
-use Rattle.cut.specs.declared.Grown.{Grown}
-use Rattle.cut.specs.declared.Grown.the-variants.{Same, Split}
+use Rattle.store.specs.Encoding.{Encodes}
+use Rattle.cut.specs.declared.SplitOutcome.{SplitOutcome}
+use Rattle.cut.specs.declared.SplitOutcome.the-variants.{Same, Split}
 
 -- the entry e; where its page was split, "the parent gains an entry with the same pair"
-unfoldable pub became : Entry → Grown → List Entry
+unfoldable pub became : Entry → SplitOutcome → List Entry
 became e Same = e ∷ []
 became e (Split start q) = e ∷ entry start (e .pair) q ∷ []
 
 -- the entries of a page whose i-th becomes two
-unfoldable pub doubled : ℕ → ℕ → ℕ → List Entry → List Entry
-doubled i start child es = splice i (became (at es i) (Split start child)) es
+unfoldable pub inserted-after : ℕ → ℕ → ℕ → List Entry → List Entry
+inserted-after i start child es = splice i (became (at es i) (Split start child)) es
 
 -- The entry e became r and the bytes then are `after`, as the cutting of e says.
-pub record Cut-as (e : Entry) (c : Cutting) (r : Grown) (after : List ℕ) : Type 0 where
+pub record Cut-as (e : Entry) (c : Cutting) (r : SplitOutcome) (after : List ℕ) : Type 0 where
   pub becomes : became e r ≡ c .became
-  pub holds : Holds after (c .image)
+  pub holds : Encodes after (c .image)

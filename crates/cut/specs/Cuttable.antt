@@ -7,10 +7,10 @@ use Rattle.page.specs.declared.Entry.{Entry}
 use Rattle.image.specs.Images.{Image}
 use Rattle.steps.specs.Supply.{entries}
 use Rattle.steps.specs.Cut.{Cutting, cut-entry, root-entry}
-use Rattle.store.specs.Ready.{In-image, Searchable, entry-for, Takable}
+use Rattle.store.specs.Preconditions.{In-image, Searchable, entry-for, Takable}
 
 -- a page that gained an entry can be written with n entries: "25 entries split"
-pub record Settlable (p n : ℕ) (X : Image) : Type 0 where
+pub record Page-writable (p n : ℕ) (X : Image) : Type 0 where
   pub within : In-image p X
   pub room : 25 ≤ n → Takable X
 
@@ -30,7 +30,7 @@ Entry-cuttable zero e t X = Unit {0}
 Entry-cuttable (suc l) e t X = Page-cuttable l (e .child) t X × Entry-cuttable l (entry-for t (e .child) X) t X
 
 -- a page can be taken for a new root, whose level is one that a page can have
-pub record Raisable (X : Image) : Type 0 where
+pub record Root-growable (X : Image) : Type 0 where
   pub takable : Takable X
   pub low : X .head .height < 255
 

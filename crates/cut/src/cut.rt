@@ -1,25 +1,25 @@
 // Cut at an instant, from the root.
-use crate::Grown;
+use crate::SplitOutcome;
 use crate::entries::cut_entry;
-use crate::root::raise;
+use crate::root::grow_root;
 use rule::limits::END;
 use store::heads::head_of;
 use store::root::root_entry;
 ghost use Rattle.steps.specs.Cut.{cut};
-ghost use Rattle.store.specs.Holding.{Holds, Some, Each};
+ghost use Rattle.store.specs.Encoding.{Encodes, Pre, Post};
 ghost use Rattle.cut.specs.Cuttable.{Cuttable};
 
 // "nothing if t is END or starts a leaf entry".
 pub fn cut(img: &mut [u8], t: u32)
-    requires { ⌜ Some (now img) (Cuttable t) ⌝ }
-    ensures { λ _. ⌜ Each (now (img .entry)) (Cuttable t) (λ X. Holds (now (img .exit)) (cut 12 t X)) ⌝ }
+    requires { ⌜ Pre (now img) (Cuttable t) ⌝ }
+    ensures { λ _. ⌜ Post (now (img .entry)) (Cuttable t) (λ X. Encodes (now (img .exit)) (cut 12 t X)) ⌝ }
 {
     if t == END {
         return;
     }
     let h = head_of(img);
-    let Grown::Split(start, q) = cut_entry(img, h.height, root_entry(h), t) else {
+    let SplitOutcome::Split(start, q) = cut_entry(img, h.height, root_entry(h), t) else {
         return;
     };
-    raise(img, h.root, start, q)
+    grow_root(img, h.root, start, q)
 }

@@ -8,14 +8,14 @@ use store::supply::take;
 ghost use mathlib.Core.List.{[], _∷_};
 ghost use Rattle.rule.specs.Pairs.{none};
 ghost use Rattle.page.specs.Entries.{entry};
-ghost use Rattle.steps.specs.Cut.{raised};
-ghost use Rattle.edit.specs.Shows.{Shows};
-ghost use Rattle.store.specs.Holding.{Holds, Some, Each};
-ghost use Rattle.cut.specs.Cuttable.{Raisable};
+ghost use Rattle.steps.specs.Cut.{grow-root};
+ghost use Rattle.edit.specs.Contents.{Has-entries};
+ghost use Rattle.store.specs.Encoding.{Encodes, Pre, Post};
+ghost use Rattle.cut.specs.Cuttable.{Root-growable};
 
 // The new root's entries: from 0 on the page that was root, from start on the page q.
 fn new_root(level: u32, root: u32, start: u32, q: u32) -> Page
-    ensures { λ r. ⌜ Shows level (entry 0 none root ∷ entry start none q ∷ []) r ⌝ }
+    ensures { λ r. ⌜ Has-entries level (entry 0 none root ∷ entry start none q ∷ []) r ⌝ }
 {
     let mut starts = [0u32; SLOTS];
     let mut children = [0u32; SLOTS];
@@ -24,7 +24,7 @@ fn new_root(level: u32, root: u32, start: u32, q: u32) -> Page
     children[1] = q;
     Page {
         level: level,
-        number: 2,
+        len: 2,
         starts: starts,
         sums: [0i64; SLOTS],
         counts: [0i32; SLOTS],
@@ -33,10 +33,10 @@ fn new_root(level: u32, root: u32, start: u32, q: u32) -> Page
 }
 
 // The new root is the page that is taken last, a level above.
-pub(crate) fn raise(img: &mut [u8], root: u32, start: u32, q: u32)
-    requires { ⌜ Some (now img) Raisable ⌝ }
-    ensures { λ _. ⌜ Each (now (img .entry)) Raisable
-        (λ X. Holds (now (img .exit)) (raised (entry 0 none root ∷ entry start none q ∷ []) X)) ⌝ }
+pub(crate) fn grow_root(img: &mut [u8], root: u32, start: u32, q: u32)
+    requires { ⌜ Pre (now img) Root-growable ⌝ }
+    ensures { λ _. ⌜ Post (now (img .entry)) Root-growable
+        (λ X. Encodes (now (img .exit)) (grow-root (entry 0 none root ∷ entry start none q ∷ []) X)) ⌝ }
 {
     let h = head_of(img);
     let p = take(img);

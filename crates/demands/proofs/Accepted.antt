@@ -8,7 +8,7 @@ use native.Mathlib.Decide.{decLe}
 use native.Mathlib.Omega.{arith}
 use lib.IntN.{ℤ}
 use Rattle.rule.specs.declared.Pair.{Pair}
-use Rattle.rule.specs.Time.{END, lengthened, covers}
+use Rattle.rule.specs.Time.{END, effect-end, covers}
 use Rattle.rule.specs.Pairs.{combine}
 use Rattle.rule.proofs.Window.{covers-is}
 use Rattle.image.specs.Sound.{sound}
@@ -16,22 +16,22 @@ use Rattle.image.specs.Instant.{look-up}
 use Rattle.calls.specs.Changes.{Side, effect}
 use Rattle.calls.specs.Calls.{head, instant}
 use Rattle.calls.specs.Accepted.{Accepted-change, Every-change}
-use Rattle.answers.proofs.Sound.{sound-number, sound-pair}
-use Rattle.ledger.proofs.Spans.{covers-not}
-use Rattle.ledger.proofs.Accepted.{passed}
+use Rattle.answers.proofs.Sound.{sound-status, sound-pair}
+use Rattle.demands.proofs.Book.Spans.{covers-not}
+use Rattle.demands.proofs.Book.Accepted.{passed}
 use Rattle.demands.proofs.Booked.{Wide, Left-by-change, booked}
 use Rattle.demands.proofs.Agree.{instant-end}
 
 module _ {half : ℕ} (side : Side) (v : ℤ) (s e : ℕ) {img img′ : List ℕ} (before : sound half img ≡ true) (c : Left-by-change half side v s e img img′) where
-  same-number : (t : ℕ) → instant half t img′ .number ≡ instant half t img .number
+  same-number : (t : ℕ) → instant half t img′ .status ≡ instant half t img .status
   same-number t = go (decLe END t)
     where
-      go : Dec (END ≤ t) → instant half t img′ .number ≡ instant half t img .number
+      go : Dec (END ≤ t) → instant half t img′ .status ≡ instant half t img .status
       go (yes l) = instant-end half img′ (c .sound) t l .0 ∙ sym (instant-end half img before t l .0)
-      go (no l) = sound-number half img′ (c .sound) t (omega arith) ∙ sym (sound-number half img before t (omega arith))
+      go (no l) = sound-status half img′ (c .sound) t (omega arith) ∙ sym (sound-status half img before t (omega arith))
 
   -- inside the span and outside
-  pair-by : (t : ℕ) (b : Bool) → t < END → covers s (lengthened e (head half img .window)) t ≡ b
+  pair-by : (t : ℕ) (b : Bool) → t < END → covers s (effect-end e (head half img .window)) t ≡ b
       → instant half t img′ .pair ≡ cond b (combine (head half img .kind) (instant half t img .pair) (effect side v)) (instant half t img .pair)
   pair-by t b l k =
       sound-pair half img′ (c .sound) t l
@@ -39,15 +39,15 @@ module _ {half : ℕ} (side : Side) (v : ℤ) (s e : ℕ) {img img′ : List ℕ
       ∙ ap (λ x. cond x (combine (head half img .kind) (look-up half img t .pair) (effect side v)) (look-up half img t .pair)) k
       ∙ ap (λ (p : Pair). cond b (combine (head half img .kind) p (effect side v)) p) (sym (sound-pair half img before t l))
 
-  other-pair : (t : ℕ) → (t < s) ⊎ (lengthened e (head half img .window) ≤ t) → instant half t img′ .pair ≡ instant half t img .pair
+  other-pair : (t : ℕ) → (t < s) ⊎ (effect-end e (head half img .window) ≤ t) → instant half t img′ .pair ≡ instant half t img .pair
   other-pair t o = go (decLe END t)
     where
       go : Dec (END ≤ t) → instant half t img′ .pair ≡ instant half t img .pair
       go (yes l) = instant-end half img′ (c .sound) t l .1 ∙ sym (instant-end half img before t l .1)
-      go (no l) = pair-by t false (omega arith) (covers-not s (lengthened e (head half img .window)) t o)
+      go (no l) = pair-by t false (omega arith) (covers-not s (effect-end e (head half img .window)) t o)
 
   change-accepted : Accepted-change half side v s e img img′
-  unfolding lengthened
+  unfolding effect-end
   change-accepted =
       record {
         sound-after = c .sound;
@@ -56,10 +56,10 @@ module _ {half : ℕ} (side : Side) (v : ℤ) (s e : ℕ) {img img′ : List ℕ
         window = c .window;
         size = c .size;
         bytes = c .bytes;
-        answered = sound-number half img′ (c .sound);
-        numbers = same-number;
+        answered = sound-status half img′ (c .sound);
+        statuses = same-number;
         outside = other-pair;
-        inside = λ t l h. pair-by t true (omega arith) (covers-is s (lengthened e (head half img .window)) t .1 (l, h));
+        inside = λ t l h. pair-by t true (omega arith) (covers-is s (effect-end e (head half img .window)) t .1 (l, h));
         unnamed = c .frame;
       }
 

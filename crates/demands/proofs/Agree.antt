@@ -9,7 +9,7 @@ use lib.IntN.{ℤ}
 use lib.ListN.{length}
 use borrow.Author.Tests.{le-leb}
 use Rattle.rule.specs.declared.Average.the-variants.{Nothing}
-use Rattle.rule.specs.Time.{END, span-ok, value-ok, lengthened}
+use Rattle.rule.specs.Time.{END, span-ok, value-ok, effect-end}
 use Rattle.rule.specs.Pairs.{none}
 use Rattle.rule.specs.Averages.{average}
 use Rattle.page.specs.Fit.{most-changes}
@@ -19,14 +19,14 @@ use Rattle.image.specs.Instant.{look-up}
 use Rattle.steps.specs.Change.{lacks-pages}
 use Rattle.calls.specs.Changes.{Side, withdraws}
 use Rattle.calls.specs.Refusals.{first, scratch-ok}
-use Rattle.calls.specs.Calls.{head, book-early, book-number, book, instant-number, instant, average-at, audit-early, audit, listing}
+use Rattle.calls.specs.Calls.{head, book-input-rows, book-status, book, instant-status, instant, average-at, audit-input-rows, audit, listing}
 use Rattle.calls.specs.Book.{Book, book-pair, listing-of}
-use Rattle.calls.specs.Demands.{fixed-number, As-the-book}
+use Rattle.calls.specs.Demands.{fixed-status, As-the-book}
 use Rattle.soundness.proofs.Sound.{sound-whole}
-use Rattle.answers.proofs.Sound.{sound-number, sound-pair, sound-listing}
-use Rattle.ledger.proofs.Runs.{listing-same}
+use Rattle.answers.proofs.Sound.{sound-status, sound-pair, sound-listing}
+use Rattle.demands.proofs.Book.Runs.{listing-same}
 use Rattle.demands.proofs.Rows.{first-off, first-on}
-use Rattle.demands.proofs.Kept.{Kept}
+use Rattle.demands.proofs.Invariant.{Trace-invariant}
 
 -- ---- a booking: 16 and 21 don't turn it back
 
@@ -55,56 +55,56 @@ numbers b17 b11 b13 c22 c23 b24 e16 e21 e22 e23 = rw (e16, e21, e22, e23) (go b1
 
 -- ---- END, and what lies past it
 
-pub instant-end : (half : ℕ) (img : List ℕ) → sound half img ≡ true → (t : ℕ) → END ≤ t → (instant half t img .number ≡ 12) × (instant half t img .pair ≡ none)
+pub instant-end : (half : ℕ) (img : List ℕ) → sound half img ≡ true → (t : ℕ) → END ≤ t → (instant half t img .status ≡ 12) × (instant half t img .pair ≡ none)
 unfolding instant
 instant-end half img fits t l =
-    let n : instant-number half t img ≡ 12 =
-    unfold instant-number in first-off 16 _ (ap not (sound-whole half img fits)) ∙ first-on 12 _ (le-leb END t l) in
+    let n : instant-status half t img ≡ 12 =
+    unfold instant-status in first-off 16 _ (ap not (sound-whole half img fits)) ∙ first-on 12 _ (le-leb END t l) in
     (n, ap (λ k. cond (eqb k 0) (look-up half img t .pair) none) n)
 
-module _ {half : ℕ} {img : List ℕ} {B : Book} (K : Kept half img B) where
+module _ {half : ℕ} {img : List ℕ} {B : Book} (K : Trace-invariant half img B) where
   passes-16 : not (length-ok half img) ≡ false
   passes-16 = ap not (sound-whole half img (K .sound))
 
   booking-is : (side : Side) (v : ℤ) (s e : ℕ) (scratch : List ℕ)
-      → let number = book half side v s e img scratch .number in
-      let fixed = fixed-number (pages-in half img) side v s e scratch B in
+      → let number = book half side v s e img scratch .status in
+      let fixed = fixed-status (pages-in half img) side v s e scratch B in
       (number ≡ fixed) ⊎ ((fixed ≡ 0) × (number ≡ 24))
-  unfolding book book-number book-early fixed-number
+  unfolding book book-status book-input-rows fixed-status
   booking-is side v s e scratch =
       numbers (not (scratch-ok (pages-in half img) scratch)) (not (span-ok s e)) (not (value-ok v)) (withdraws side && not (eqb (B .kind) 1))
-      (eqb (length (B .items)) most-changes) (lacks-pages half s (lengthened e (head half img .window)) (image-of half img))
+      (eqb (length (B .items)) most-changes) (lacks-pages half s (effect-end e (head half img .window)) (image-of half img))
       passes-16 (ap not (K .sound)) (ap (λ k. withdraws side && not (eqb k 1)) (K .kind)) (ap (λ n. eqb n most-changes) (K .changes))
 
   -- ---- an instant, and an average
 
-  pub instant-is : (t : ℕ) → t < END → (instant half t img .number ≡ 0) × (instant half t img .pair ≡ book-pair B t)
-  instant-is t l = (sound-number half img (K .sound) t l, sound-pair half img (K .sound) t l ∙ K .pairs t l)
+  pub instant-is : (t : ℕ) → t < END → (instant half t img .status ≡ 0) × (instant half t img .pair ≡ book-pair B t)
+  instant-is t l = (sound-status half img (K .sound) t l, sound-pair half img (K .sound) t l ∙ K .pairs t l)
 
-  average-end : (t : ℕ) → END ≤ t → average-at half t img ≡ record { number = 12; average = Nothing }
+  average-end : (t : ℕ) → END ≤ t → average-at half t img ≡ record { status = 12; average = Nothing }
   unfolding average-at
   average-end t l =
       let n = instant-end half img (K .sound) t l .0 in
       λ i.
       record {
-        number = n i;
+        status = n i;
         average = cond (eqb (n i) 0) (average (head half img .kind) (instant half t img .pair)) Nothing;
       }
 
-  pub average-is : (t : ℕ) → t < END → average-at half t img ≡ record { number = 0; average = average (B .kind) (book-pair B t) }
+  pub average-is : (t : ℕ) → t < END → average-at half t img ≡ record { status = 0; average = average (B .kind) (book-pair B t) }
   unfolding average-at
   average-is t l =
       let r = instant-is t l in
       λ i.
       record {
-        number = r .0 i;
+        status = r .0 i;
         average = cond (eqb (r .0 i) 0) (average (K .kind i) (r .1 i)) Nothing;
       }
 
   -- ---- an audit
 
-  audit-is : (scratch : List ℕ) → audit half img scratch .number ≡ first ((17, not (scratch-ok (pages-in half img) scratch)) ∷ [])
-  unfolding audit audit-early
+  audit-is : (scratch : List ℕ) → audit half img scratch .status ≡ first ((17, not (scratch-ok (pages-in half img) scratch)) ∷ [])
+  unfolding audit audit-input-rows
   audit-is scratch = first-off 16 _ passes-16 ∙ go (not (scratch-ok (pages-in half img) scratch))
     where
       go : (x : Bool) → first ((17, x) ∷ (21, not (sound half img)) ∷ []) ≡ first ((17, x) ∷ [])

@@ -1,7 +1,7 @@
 -- All demands at the capacity of document 01's pages: 24. Assumes nothing.
 use native.Mathlib.Omega.{arith}
 use Rattle.calls.specs.Demands.{The-demands}
-use Rattle.state.proofs.To.Height.{height-most}
+use Rattle.invariant.proofs.To.Height.{height-most}
 use Rattle.demands.proofs.Booked.{Wide}
 use Rattle.demands.proofs.Demands.{the-demands}
 

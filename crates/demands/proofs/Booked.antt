@@ -13,7 +13,7 @@ use lib.ListN.{length, take, drop, drop-of-length-le}
 use lib.Seq.{take-nil}
 use borrow.Author.Tests.{eqb-false}
 use Rattle.rule.specs.declared.Pair.{Pair}
-use Rattle.rule.specs.Time.{END, lengthened, covers}
+use Rattle.rule.specs.Time.{END, effect-end, covers}
 use Rattle.rule.specs.Pairs.{combine}
 use Rattle.rule.specs.Bounds.{Effective}
 use Rattle.fields.specs.Bytes.{Bytes, part}
@@ -22,7 +22,7 @@ use Rattle.page.specs.Layout.{page-size}
 use Rattle.page.specs.Fit.{most-changes, most-height}
 use Rattle.image.specs.Images.{Image, page-at, cell-bytes, image-of, image-bytes}
 use Rattle.image.specs.Sound.{sound}
-use Rattle.image.specs.Instant.{Looked, look-up}
+use Rattle.image.specs.Instant.{Lookup, look-up}
 use Rattle.soundness.proofs.Sound.{the-head, sound-facts}
 use Rattle.steps.specs.Change.{change, change-names}
 use Rattle.calls.specs.Changes.{Side, effect}
@@ -31,15 +31,15 @@ use Rattle.calls.specs.Accepted.{named}
 use Rattle.calls.proofs.Changes.{effective}
 use Rattle.tree.specs.Tree.{pair-at}
 use Rattle.tree.specs.Cut.{State}
-use Rattle.state.specs.Good.{Structure, Good}
-use Rattle.state.proofs.From.Load.{state-in}
-use Rattle.state.proofs.From.Good.{sound-good}
-use Rattle.state.proofs.From.Canonical.{canonical}
-use Rattle.state.proofs.From.Look.{look-good}
+use Rattle.invariant.specs.Invariant.{Structure, Invariant}
+use Rattle.invariant.proofs.From.Load.{state-in}
+use Rattle.invariant.proofs.From.Invariant.{sound-invariant}
+use Rattle.invariant.proofs.From.Canonical.{canonical}
+use Rattle.invariant.proofs.From.Look.{look-invariant}
 use Rattle.image.proofs.Written.{bytes-written}
-use Rattle.state.proofs.Change.{next, next-pairs, Changed, change-is, good-change}
-use Rattle.state.proofs.To.Sound.{length-written, page-written, head-read-back, good-sound, look-written}
-use Rattle.ledger.proofs.Accepted.{Passed, passed}
+use Rattle.invariant.proofs.Change.{next, next-pairs, Changed, change-is, invariant-change}
+use Rattle.invariant.proofs.To.Sound.{length-written, page-written, head-read-back, invariant-sound, look-written}
+use Rattle.demands.proofs.Book.Accepted.{Passed, passed}
 
 -- What is asked of half the capacity of a page: 12 has it.
 pub record Wide (half : ℕ) : Type 0 where
@@ -48,7 +48,7 @@ pub record Wide (half : ℕ) : Type 0 where
 
 -- ---- the image that it leaves
 
-image-accepted : (half : ℕ) (side : Side) (v : ℤ) (s e : ℕ) (img scratch : List ℕ) → book half side v s e img scratch .number ≡ 0
+image-accepted : (half : ℕ) (side : Side) (v : ℤ) (s e : ℕ) (img scratch : List ℕ) → book half side v s e img scratch .status ≡ 0
     → book half side v s e img scratch .image ≡ changed half side v s e img
 unfolding book
 image-accepted half side v s e img scratch n = ap (λ k. cond (eqb k 0) (changed half side v s e img) img) n
@@ -74,7 +74,7 @@ pub record Left-by-change (half : ℕ) (side : Side) (v : ℤ) (s e : ℕ) (img 
   pub changes : head half img′ .changes ≡ suc (head half img .changes)
   pub pairs : (t : ℕ) → t < END
       → look-up half img′ t .pair
-      ≡ cond (covers s (lengthened e (head half img .window)) t) (combine (head half img .kind) (look-up half img t .pair) (effect side v)) (look-up half img t .pair)
+      ≡ cond (covers s (effect-end e (head half img .window)) t) (combine (head half img .kind) (look-up half img t .pair) (effect side v)) (look-up half img t .pair)
   pub frame : (p : ℕ) → ¬ List·Memᴰ p (named half side v s e img) → page-at half img′ p ≡ page-at half img p
 
 module _ {half : ℕ} (wide : Wide half) (side : Side) (v : ℤ) (s e : ℕ) (img : List ℕ) {scratch : List ℕ} (b : Bytes img) (a : Passed half side v s e img scratch) where
@@ -88,10 +88,10 @@ module _ {half : ℕ} (wide : Wide half) (side : Side) (v : ℤ) (s e : ℕ) (im
   Y = state-in half img
 
   abbrev end : ℕ
-  end = lengthened e (X .head .window)
+  end = effect-end e (X .head .window)
 
-  g : Good half X Y
-  g = sound-good half img some (a .whole)
+  g : Invariant half X Y
+  g = sound-invariant half img some (a .whole)
 
   abbrev added : Pair
   added = effect side v
@@ -111,9 +111,9 @@ module _ {half : ℕ} (wide : Wide half) (side : Side) (v : ℤ) (s e : ℕ) (im
   unfolding head image-of
   few = omega (arith, eqb-false (X .head .changes) most-changes (a .few), g .structure .changes-most)
 
-  g′ : Good half Z U
+  g′ : Invariant half Z U
   unfolding head image-of
-  g′ = good-change (wide .two) s end added g f few (a .pages)
+  g′ = invariant-change (wide .two) s end added g f few (a .pages)
 
   c : Changed half s end added X Y
   unfolding head image-of
@@ -163,8 +163,8 @@ module _ {half : ℕ} (wide : Wide half) (side : Side) (v : ℤ) (s e : ℕ) (im
       let k : the-head half (image-bytes half Z) .kind ≡ X .head .kind =
       ap (λ (h : Head). h .kind) (head-read-back half Z U some (g′ .structure) tall′) ∙ c .kind in
       let before : look-up half img t .pair ≡ pair-at (combine (X .head .kind)) (Y .tree) t =
-      ap (λ (r : Looked). r .pair) (look-good half img some (sound-facts half img (a .whole)) Y (g .structure .shown) t .looked) in
-      ap (λ (r : Looked). r .pair) (look-written half Z U some (g′ .structure) tall′ t .looked)
+      ap (λ (r : Lookup). r .pair) (look-invariant half img some (sound-facts half img (a .whole)) Y (g .structure .shown) t .looked) in
+      ap (λ (r : Lookup). r .pair) (look-written half Z U some (g′ .structure) tall′ t .looked)
       ∙ ap (λ n. pair-at (combine n) (U .tree) t) k
       ∙ next-pairs (wide .two) s end added g t below
       ∙ ap (λ q. cond (covers s end t) (combine (X .head .kind) q (effect side v)) q) (sym before)
@@ -175,7 +175,7 @@ module _ {half : ℕ} (wide : Wide half) (side : Side) (v : ℤ) (s e : ℕ) (im
       let h = head-read-back half Z U some (g′ .structure) tall′ in
       record {
         bytes = bytes-written half Z;
-        sound = good-sound half Z U some g′ tall′;
+        sound = invariant-sound half Z U some g′ tall′;
         size = size′ ∙ sym size;
         kind = ap (λ (k : Head). k .kind) h ∙ c .kind;
         window = ap (λ (k : Head). k .window) h ∙ c .window;
@@ -184,8 +184,8 @@ module _ {half : ℕ} (wide : Wide half) (side : Side) (v : ℤ) (s e : ℕ) (im
         frame = framed;
       }
 
--- by the number that it returned
-pub booked : {half : ℕ} → Wide half → (side : Side) (v : ℤ) (s e : ℕ) (img scratch : List ℕ) → Bytes img → book half side v s e img scratch .number ≡ 0
+-- by the status that it returned
+pub booked : {half : ℕ} → Wide half → (side : Side) (v : ℤ) (s e : ℕ) (img scratch : List ℕ) → Bytes img → book half side v s e img scratch .status ≡ 0
     → Left-by-change half side v s e img (book half side v s e img scratch .image)
 booked {half} wide side v s e img scratch b n =
     rw (image-accepted half side v s e img scratch n)

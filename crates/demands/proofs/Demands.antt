@@ -14,9 +14,9 @@ use Rattle.calls.specs.Demands.{Demand-2, Demand-3-list, Same-changes, Headed, 
 use Rattle.calls.proofs.Tables.{turned-back}
 use Rattle.calls.proofs.Steps.{steps}
 use Rattle.answers.proofs.Demand.{demand-1}
-use Rattle.ledger.proofs.Books.{book-fed, book-is, items-length}
-use Rattle.ledger.proofs.Aggregates.{book-aggregate, aggregate-live}
-use Rattle.ledger.proofs.Listings.{book-listing, listing-same-changes}
+use Rattle.demands.proofs.Book.Books.{book-fed, book-is, items-length}
+use Rattle.demands.proofs.Book.Aggregates.{book-aggregate, aggregate-live}
+use Rattle.demands.proofs.Book.Listings.{book-listing, listing-same-changes}
 use Rattle.demands.proofs.Booked.{Wide}
 use Rattle.demands.proofs.Agree.{instant-is, average-is, listing-is, as-the-book}
 use Rattle.demands.proofs.Accepted.{every-change}
@@ -29,7 +29,7 @@ module _ {half : ℕ} (wide : Wide half) where
         record {
           instants = λ t l. let r = instant-is (R .kept) t l in (r .0, r .1 ∙ pair-is t l);
           averages =
-              λ t l. average-is (R .kept) t l ∙ (λ i. record { number = 0; average = average (book-kind kind window cs i) (pair-is t l i) });
+              λ t l. average-is (R .kept) t l ∙ (λ i. record { status = 0; average = average (book-kind kind window cs i) (pair-is t l i) });
           spans = λ a b out. listing-is (R .kept) a b out ∙ book-listing kind window a b out (R .spanned) (R .sided);
           sound-after = R .kept .sound;
           live = λ m t. aggregate-live kind window t (R .sided) m;
@@ -63,7 +63,7 @@ module _ {half : ℕ} (wide : Wide half) where
   the-demands =
       record {
         demand-1 = demand-1 half;
-        demand-1-numbers = turned-back half;
+        demand-1-statuses = turned-back half;
         steps = steps half;
         fed = book-fed;
         demand-2 = λ T. demand-2 (reached wide T);

@@ -7,30 +7,30 @@ use mathlib.Core.List.{List}
 use native.Mathlib.Omega.{arith}
 use lib.Dec.{leb·zero}
 use borrow.Author.Tests.{not-false, ne-eqb, le-leb}
-use Rattle.lists.specs.Lists.{joined, all-none, all-more}
+use Rattle.lists.specs.Lists.{concat-map, all-none, all-more}
 use Rattle.rule.specs.declared.Pair.{Pair}
 use Rattle.rule.specs.Time.{END, kind-ok, window-ok}
 use Rattle.rule.specs.Pairs.{none}
 use Rattle.rule.proofs.Laws.{value-or-none-is}
 use Rattle.page.specs.declared.Head.{Head}
-use Rattle.page.specs.Entries.{entry, last-from, place}
+use Rattle.page.specs.Entries.{entry, last-from, index-of}
 use Rattle.page.specs.Fit.{most-height}
 use Rattle.image.specs.Images.{Image, pages-in, length-ok, image-of, image-bytes, fresh}
 use Rattle.lists.specs.Lists.{times}
 use Rattle.image.specs.Sound.{sound}
-use Rattle.image.specs.Instant.{Looked}
-use Rattle.calls.specs.Calls.{head, format-number, format}
+use Rattle.image.specs.Instant.{Lookup}
+use Rattle.calls.specs.Calls.{head, format-status, format}
 use Rattle.calls.specs.Book.{empty-book, items-pair, book-pair}
-use Rattle.tree.specs.Tree.{Ent, Kid, ent-of, pair-under, pair-in, pages-under}
+use Rattle.tree.specs.Tree.{Node, Subtree, node-of, pair-under, pair-in, pages-under}
 use Rattle.tree.specs.Shape.{done, more, Shaped, Leaf, root-least, Formed}
-use Rattle.tree.specs.Held.{Within, times-below, times-spare, held}
-use Rattle.view.proofs.Fresh.{fresh-state, fresh-shown}
-use Rattle.state.specs.Good.{Bounds, Structure, Good}
-use Rattle.state.proofs.From.Good.{pages-range}
+use Rattle.tree.specs.Conserved.{Path-bounded, times-below, times-spare, held}
+use Rattle.refinement.proofs.Fresh.{fresh-state, fresh-represented}
+use Rattle.invariant.specs.Invariant.{Bounds, Structure, Invariant}
+use Rattle.invariant.proofs.From.Invariant.{pages-range}
 use Rattle.image.proofs.Written.{bytes-written}
-use Rattle.state.proofs.To.Sound.{head-read-back, good-sound, look-written}
+use Rattle.invariant.proofs.To.Sound.{head-read-back, invariant-sound, look-written}
 use Rattle.demands.proofs.Rows.{first-none}
-use Rattle.demands.proofs.Kept.{Kept}
+use Rattle.demands.proofs.Invariant.{Trace-invariant}
 
 module _ (half pages kind window : ℕ) (some : 1 ≤ half) (least : 2 ≤ pages) (most : pages ≤ 1024) (k : kind-ok kind ≡ true) (w : window-ok window ≡ true) where
   abbrev X : Image
@@ -41,19 +41,19 @@ module _ (half pages kind window : ℕ) (some : 1 ≤ half) (least : 2 ≤ pages
   fresh-formed = record { least = omega arith; most = omega arith; spans = more {lo = 0} {mid = END} refl (omega arith) refl done }
 
   fresh-held : (p : ℕ) → 1 ≤ p → held p fresh-state ≡ 1
-  unfolding held times-below times-spare times joined pages-under
+  unfolding held times-below times-spare times concat-map pages-under
   fresh-held zero l = absurd (omega arith)
   fresh-held (suc zero) l = refl
   fresh-held (suc (suc p)) l = rw (ne-eqb (suc (suc p)) 1 (λ e. omega arith), le-leb 2 (suc (suc p)) (omega arith))
 
   head-held : held 0 fresh-state ≡ 0
-  unfolding held times-below times-spare times joined pages-under
+  unfolding held times-below times-spare times concat-map pages-under
   head-held = refl
 
   fresh-bounds : Bounds kind 0 (fresh-state .tree)
-  unfolding Within
+  unfolding Path-bounded
   fresh-bounds =
-      let x : Ent (Kid 0) = record { entry = entry 0 none 0; kid = tt } in
+      let x : Node (Subtree 0) = record { entry = entry 0 none 0; subtree = tt } in
       record {
         sums = λ one. all-more {x = x} (tt, omega arith) all-none;
         counts = λ one. all-more {x = x} (tt, omega arith) all-none;
@@ -64,7 +64,7 @@ module _ (half pages kind window : ℕ) (some : 1 ≤ half) (least : 2 ≤ pages
   unfolding fresh
   fresh-structure =
       record {
-        shown = fresh-shown pages kind window;
+        shown = fresh-represented pages kind window;
         formed = fresh-formed;
         once = fresh-held;
         head-apart = head-held;
@@ -74,49 +74,49 @@ module _ (half pages kind window : ℕ) (some : 1 ≤ half) (least : 2 ≤ pages
         ranges = record { pages-least = least; pages-most = most; mark-most = least; kind-fits = k; window-fits = w };
       }
 
-  fresh-good : Good half X fresh-state
-  fresh-good = record { structure = fresh-structure }
+  fresh-invariant : Invariant half X fresh-state
+  fresh-invariant = record { structure = fresh-structure }
 
   tall : X .head .height ≤ most-height
   unfolding fresh
   tall = omega arith
 
-  fresh-pair : (rule : Pair → Pair → Pair) (t : ℕ) → pair-in rule 0 t (fresh-state .tree .ents) ≡ none
-  unfolding pair-in pair-under ent-of place last-from
+  fresh-pair : (rule : Pair → Pair → Pair) (t : ℕ) → pair-in rule 0 t (fresh-state .tree .nodes) ≡ none
+  unfolding pair-in pair-under node-of index-of last-from
   fresh-pair rule t = rw (leb·zero t)
 
-  pub kept-fresh : Kept half (image-bytes half X) (empty-book kind window)
+  pub kept-fresh : Trace-invariant half (image-bytes half X) (empty-book kind window)
   unfolding head image-of empty-book book-pair items-pair
   kept-fresh =
       let h = head-read-back half X fresh-state some fresh-structure tall in
       record {
         bytes = bytes-written half X;
-        sound = good-sound half X fresh-state some fresh-good tall;
+        sound = invariant-sound half X fresh-state some fresh-invariant tall;
         kind = ap (λ (g : Head). g .kind) h ∙ unfold fresh in refl;
         window = ap (λ (g : Head). g .window) h ∙ unfold fresh in refl;
         changes = ap (λ (g : Head). g .changes) h ∙ unfold fresh in refl;
         pairs =
             λ t below.
-            ap (λ (r : Looked). r .pair) (look-written half X fresh-state some fresh-structure tall t .looked) ∙ fresh-pair _ t;
+            ap (λ (r : Lookup). r .pair) (look-written half X fresh-state some fresh-structure tall t .looked) ∙ fresh-pair _ t;
       }
 
 -- ---- format
 
-module _ (half kind window : ℕ) (img : List ℕ) (n : format half kind window img .number ≡ 0) where
+module _ (half kind window : ℕ) (img : List ℕ) (n : format half kind window img .status ≡ 0) where
   record Formatted : Type 0 where
     length-fits : length-ok half img ≡ true
     kind-fits : kind-ok kind ≡ true
     window-fits : window-ok window ≡ true
 
   formatted : Formatted
-  unfolding format format-number
+  unfolding format format-status
   formatted =
       let a = first-none 16 _ _ (omega arith) n in
       let b = first-none 14 _ _ (omega arith) (a .1) in
       let c = simp and-eq-true-iff at (not-false (kind-ok kind && window-ok window) (b .0)) in
       record { length-fits = not-false _ (a .0); kind-fits = c .0; window-fits = c .1 }
 
-  pub kept-format : 1 ≤ half → Kept half (format half kind window img .image) (empty-book kind window)
+  pub kept-format : 1 ≤ half → Trace-invariant half (format half kind window img .image) (empty-book kind window)
   unfolding format
   kept-format some =
       let f = formatted in

@@ -1,4 +1,4 @@
--- What the number that a call returns says of the rows of document 01's tables. Assumes nothing.
+-- What the status that a call returns says of the rows of document 01's tables. Assumes nothing.
 use Prim.Native.Nat.{ℕ, _<_}
 use mathlib.Core.Path.{_≡_, refl}
 use mathlib.Core.Bool.{Bool, true, false}

@@ -10,21 +10,21 @@ use Rattle.page.specs.declared.Entry.{Entry}
 use Rattle.page.specs.declared.Page.{Page}
 use Rattle.page.specs.Entries.{at, no-entry, inserted}
 use Rattle.lists.specs.Lists.{splice}
-use Rattle.page.specs.Decoded.{shown}
-use Rattle.edit.specs.Shows.{Shows, firsts}
+use Rattle.page.specs.Decoded.{entry-list}
+use Rattle.edit.specs.Contents.{Has-entries, first-slots}
 use Rattle.page.proofs.Laws.Decoded.{length-shown}
-use Rattle.edit.proofs.Places.{firsts-length, firsts-take, firsts-stored, shown-firsts, Wide, stored}
+use Rattle.edit.proofs.Slots.{first-slots-length, first-slots-take, first-slots-stored, entry-list-first-slots, Wide, stored}
 
 -- the number follows from the entries
-pub shows-number : {l : ℕ} {es : List Entry} {r : Page} → Shows l es r → r .number ≡ length es
-shows-number {r = r} s = sym (length-shown r) ∙ ap length (s .entries)
+pub has-len : {l : ℕ} {es : List Entry} {r : Page} → Has-entries l es r → r .len ≡ length es
+has-len {r = r} s = sym (length-shown r) ∙ ap length (s .entries)
 
-pub shows-as : {l : ℕ} {es es′ : List Entry} {r : Page} → Shows l es r → es ≡ es′ → Shows l es′ r
-shows-as s same = record { level = s .level; entries = s .entries ∙ same }
+pub has-as : {l : ℕ} {es es′ : List Entry} {r : Page} → Has-entries l es r → es ≡ es′ → Has-entries l es′ r
+has-as s same = record { level = s .level; entries = s .entries ∙ same }
 
 -- an edit of an edited page
-pub shows-then : {l : ℕ} {es : List Entry} (f : List Entry → List Entry) {q r : Page} → Shows l es q → Shows (q .level) (f (shown q)) r → Shows l (f es) r
-shows-then f s t = record { level = t .level ∙ s .level; entries = t .entries ∙ ap f (s .entries) }
+pub has-then : {l : ℕ} {es : List Entry} (f : List Entry → List Entry) {q r : Page} → Has-entries l es q → Has-entries (q .level) (f (entry-list q)) r → Has-entries l (f es) r
+has-then f s t = record { level = t .level ∙ s .level; entries = t .entries ∙ ap f (s .entries) }
 
 -- an entry that becomes two is kept, with the second put in behind it
 pub splice-inserted : (i : ℕ) (e e′ : Entry) (es : List Entry) → i < length es → at es i ≡ e
@@ -34,31 +34,31 @@ splice-inserted i e e′ es h same =
     sym (rw (take-suc es i no-entry h, same) (append-assoc (take i es) (e ∷ []) (e′ ∷ drop (suc i) es)))
 
 module _ (p : Page) where
-  pub first-places : (k : ℕ) → k ≤ p .number → firsts k p ≡ take k (shown p)
-  first-places k h = rw (shown-firsts p refl) (sym (firsts-take p (p .number) k h))
+  pub slots-first : (k : ℕ) → k ≤ p .len → first-slots k p ≡ take k (entry-list p)
+  slots-first k h = rw (entry-list-first-slots p refl) (sym (first-slots-take p (p .len) k h))
 
-  pub replace-entries : (i : ℕ) (e : Entry) → Wide p → i < p .number → p .number ≤ 25
-      → shown (stored i e p) ≡ splice i (e ∷ []) (shown p)
+  pub replace-entries : (i : ℕ) (e : Entry) → Wide p → i < p .len → p .len ≤ 25
+      → entry-list (stored i e p) ≡ splice i (e ∷ []) (entry-list p)
   unfolding splice
   replace-entries i e w h b =
-      shown-firsts (stored i e p) refl ∙ firsts-stored i e p w (omega arith) (p .number)
-      ∙ rw (shown-firsts p refl) (set-split (firsts (p .number) p) i e (rw (firsts-length p) h))
+      entry-list-first-slots (stored i e p) refl ∙ first-slots-stored i e p w (omega arith) (p .len)
+      ∙ rw (entry-list-first-slots p refl) (set-split (first-slots (p .len) p) i e (rw (first-slots-length p) h))
 
-  pub remove-entries : (i : ℕ) → i < p .number → firsts i p ++ drop (i + 1) (firsts (p .number) p) ≡ splice i [] (shown p)
+  pub remove-entries : (i : ℕ) → i < p .len → first-slots i p ++ drop (i + 1) (first-slots (p .len) p) ≡ splice i [] (entry-list p)
   unfolding splice
-  remove-entries i h = rw (first-places i (omega arith), add-one, shown-firsts p refl)
+  remove-entries i h = rw (slots-first i (omega arith), add-one, entry-list-first-slots p refl)
 
-  -- e at the place that was made free
-  pub insert-entries : (i : ℕ) (e : Entry) → i ≤ p .number
-      → splice i (e ∷ []) (firsts (i + 1) p ++ drop i (firsts (p .number) p)) ≡ inserted i e (shown p)
+  -- e at the slot that was made free
+  pub insert-entries : (i : ℕ) (e : Entry) → i ≤ p .len
+      → splice i (e ∷ []) (first-slots (i + 1) p ++ drop i (first-slots (p .len) p)) ≡ inserted i e (entry-list p)
   unfolding splice inserted
   insert-entries i e h =
-      let behind : List Entry = drop i (firsts (p .number) p) in
+      let behind : List Entry = drop i (first-slots (p .len) p) in
       rw (
         add-one i,
-        take-append-le i (firsts (suc i) p) behind (rw (firsts-length p) (omega arith)),
-        drop-at (firsts (suc i) p) behind (suc i) (firsts-length p (suc i)),
-        firsts-take p (suc i) i (omega arith),
-        first-places i h,
-        shown-firsts p refl,
+        take-append-le i (first-slots (suc i) p) behind (rw (first-slots-length p) (omega arith)),
+        drop-at (first-slots (suc i) p) behind (suc i) (first-slots-length p (suc i)),
+        first-slots-take p (suc i) i (omega arith),
+        slots-first i h,
+        entry-list-first-slots p refl,
       )

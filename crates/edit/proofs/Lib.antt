@@ -1,4 +1,4 @@
-pub mod Places
+pub mod Slots
 pub mod Moved
 pub mod Edits
 pub mod Pushed

@@ -1,2 +1,2 @@
-pub mod Shows
+pub mod Contents
 pub mod Pushable

@@ -7,12 +7,12 @@ ghost use mathlib.Core.List.{[], _∷_};
 ghost use Prim.Native.Nat.{_<_, _≤_};
 ghost use Rattle.page.specs.Entries.{at};
 ghost use Rattle.lists.specs.Lists.{splice};
-ghost use Rattle.page.specs.Decoded.{shown};
-ghost use Rattle.edit.specs.Shows.{Shows};
+ghost use Rattle.page.specs.Decoded.{entry-list};
+ghost use Rattle.edit.specs.Contents.{Has-entries};
 
 pub fn entry_at(p: Page, i: usize) -> Entry
-    requires { ⌜ (i < p .number) × (p .number ≤ 25) ⌝ }
-    ensures { λ r. ⌜ r ≡ at (shown p) i ⌝ }
+    requires { ⌜ (i < p .len) × (p .len ≤ 25) ⌝ }
+    ensures { λ r. ⌜ r ≡ at (entry-list p) i ⌝ }
 {
     let pair = Pair {
         sum: p.sums[i],
@@ -27,8 +27,8 @@ pub fn entry_at(p: Page, i: usize) -> Entry
 
 // e in the place of the i-th entry.
 pub fn replace(p: Page, i: usize, e: Entry) -> Page
-    requires { ⌜ (i < p .number) × (p .number ≤ 25) ⌝ }
-    ensures { λ r. ⌜ Shows (p .level) (splice i (e ∷ []) (shown p)) r ⌝ }
+    requires { ⌜ (i < p .len) × (p .len ≤ 25) ⌝ }
+    ensures { λ r. ⌜ Has-entries (p .level) (splice i (e ∷ []) (entry-list p)) r ⌝ }
 {
     let pair = e.pair;
     let sum = pair.sum;

@@ -3,14 +3,14 @@ use page::Page;
 ghost use Prim.Native.Nat.{_+_, _≤_};
 ghost use mathlib.Core.List.{_++_};
 ghost use lib.ListN.{drop};
-ghost use Rattle.page.specs.Decoded.{shown};
-ghost use Rattle.edit.specs.Shows.{Shows, firsts};
+ghost use Rattle.page.specs.Decoded.{entry-list};
+ghost use Rattle.edit.specs.Contents.{Has-entries, first-slots};
 
-// The first places of p, `kept` of them, and behind those the places of q from `from` up to `end`.
+// The first slots of p, `kept` of them, and behind those the slots of q from `from` up to `end`.
 // Where p and q are one page, entries move within it: q is read as it was, so none is overwritten before it is moved.
-pub fn joined(p: Page, kept: usize, q: Page, from: usize, end: usize) -> Page
+pub fn copy_range(p: Page, kept: usize, q: Page, from: usize, end: usize) -> Page
     requires { ⌜ (from ≤ end) × (end ≤ 25) × (kept + end ≤ from + 25) ⌝ }
-    ensures { λ r. ⌜ Shows (p .level) (firsts kept p ++ drop from (firsts end q)) r ⌝ }
+    ensures { λ r. ⌜ Has-entries (p .level) (first-slots kept p ++ drop from (first-slots end q)) r ⌝ }
 {
     let mut r = p;
     let mut to = kept;
@@ -25,14 +25,14 @@ pub fn joined(p: Page, kept: usize, q: Page, from: usize, end: usize) -> Page
         to = to + 1;
         i = i + 1;
     }
-    r.number = to;
+    r.len = to;
     r
 }
 
 // All entries of p, then all of q.
 pub fn append(p: Page, q: Page) -> Page
-    requires { ⌜ p .number + q .number ≤ 25 ⌝ }
-    ensures { λ r. ⌜ Shows (p .level) (shown p ++ shown q) r ⌝ }
+    requires { ⌜ p .len + q .len ≤ 25 ⌝ }
+    ensures { λ r. ⌜ Has-entries (p .level) (entry-list p ++ entry-list q) r ⌝ }
 {
-    joined(p, p.number, q, 0, q.number)
+    copy_range(p, p.len, q, 0, q.len)
 }

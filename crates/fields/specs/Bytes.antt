@@ -9,11 +9,11 @@ use lib.Dec.{eqb}
 abbrev pub Bytes : List ℕ → Type 0
 Bytes s = (i : ℕ) → getD s i 0 < 256
 
--- the n bytes of s from place o on
+-- the n bytes of s from offset o on
 unfoldable pub part : List ℕ → ℕ → ℕ → List ℕ
 part s o n = take n (drop o s)
 
--- s with bs in the place of as many bytes from place o on
+-- s with bs in the place of as many bytes from offset o on
 unfoldable pub patch : List ℕ → ℕ → List ℕ → List ℕ
 patch s o bs = take o s ++ (bs ++ drop (o + length bs) s)
 

@@ -16,7 +16,7 @@ unfoldable pub digits : ℕ → ℕ → List ℕ
 digits zero v = []
 digits (suc k) v = v % 256 ∷ digits k (v / 256)
 
--- the numbers at a place: u32, i32 and i64
+-- the numbers at an offset: u32, i32 and i64
 unfoldable pub u32-at : List ℕ → ℕ → ℕ
 u32-at s o = num (part s o 4)
 

@@ -7,7 +7,7 @@ ghost use Rattle.fields.specs.Bytes.{part, patch, all-are};
 // "Unused bytes are FF (hexadecimal)."
 pub const UNUSED_BYTE: u8 = 255;
 
-// Whether the n bytes from place a on are all FF: no exit in the loop, so that many bytes are tested at once.
+// Whether the n bytes from offset a on are all FF: no exit in the loop, so that many bytes are tested at once.
 pub fn all_ff(s: &[u8], a: usize, n: usize) -> bool
     requires { ⌜ a + n ≤ length (now s) ⌝ }
     ensures { λ r. ⌜ r ≡ all-are 255 (part (now (s .entry)) a n) ⌝ }
@@ -21,7 +21,7 @@ pub fn all_ff(s: &[u8], a: usize, n: usize) -> bool
     ok
 }
 
-// Writes the byte b at the n places from a on.
+// Writes the byte b at the n offsets from a on.
 pub fn fill(s: &mut [u8], a: usize, n: usize, b: u8)
     requires { ⌜ a + n ≤ length (now s) ⌝ }
     ensures { λ _. ⌜ now (s .exit) ≡ patch (now (s .entry)) a (replicate n b) ⌝ }

@@ -1,4 +1,4 @@
-// Numbers in bytes: reading and writing them at a place of a slice, and runs of one byte.
+// Numbers in bytes: reading and writing them at an offset of a slice, and runs of one byte.
 pub mod fill;
 pub mod read;
 mod sign;

@@ -1,4 +1,4 @@
-// Reading a number at a place of a slice.
+// Reading a number at an offset of a slice.
 use super::sign::signed32;
 use super::sign::signed64;
 ghost use mathlib.Core.Path.{_≡_};
@@ -7,7 +7,7 @@ ghost use lib.ListN.{length, getD};
 ghost use Rattle.fields.specs.Numbers.{num, u32-at, i32-at, i64-at};
 ghost use Rattle.fields.specs.Bytes.{part};
 
-// The byte at place i, of which the contract also says that it is small, so that no sum of such bytes wraps.
+// The byte at offset i, of which the contract also says that it is small, so that no sum of such bytes wraps.
 fn byte_at(s: &[u8], i: usize) -> u32
     requires { ⌜ i < length (now s) ⌝ }
     ensures { λ r. ⌜ (r ≡ getD (now (s .entry)) i 0) × (r < 256) ⌝ }
@@ -22,7 +22,7 @@ fn wide(x: u32) -> u64
     x as u64
 }
 
-// The u32 at place o.
+// The u32 at offset o.
 pub fn get_u32(s: &[u8], o: usize) -> u32
     requires { ⌜ o + 4 ≤ length (now s) ⌝ }
     ensures { λ r. ⌜ r ≡ u32-at (now (s .entry)) o ⌝ }
@@ -33,7 +33,7 @@ pub fn get_u32(s: &[u8], o: usize) -> u32
         + 16777216 * byte_at(s, o + 3)
 }
 
-// The number that the eight bytes at place o show.
+// The number that the eight bytes at offset o show.
 fn get_u64(s: &[u8], o: usize) -> u64
     requires { ⌜ o + 8 ≤ length (now s) ⌝ }
     ensures { λ r. ⌜ r ≡ num (part (now (s .entry)) o 8) ⌝ }
@@ -41,7 +41,7 @@ fn get_u64(s: &[u8], o: usize) -> u64
     wide(get_u32(s, o)) + 4294967296 * wide(get_u32(s, o + 4))
 }
 
-// The i32 at place o.
+// The i32 at offset o.
 pub fn get_i32(s: &[u8], o: usize) -> i32
     requires { ⌜ o + 4 ≤ length (now s) ⌝ }
     ensures { λ r. ⌜ r ≡ i32-at (now (s .entry)) o ⌝ }
@@ -49,7 +49,7 @@ pub fn get_i32(s: &[u8], o: usize) -> i32
     signed32(get_u32(s, o))
 }
 
-// The i64 at place o.
+// The i64 at offset o.
 pub fn get_i64(s: &[u8], o: usize) -> i64
     requires { ⌜ o + 8 ≤ length (now s) ⌝ }
     ensures { λ r. ⌜ r ≡ i64-at (now (s .entry)) o ⌝ }

@@ -1,7 +1,7 @@
 -- `Parts` has the laws of the parts of a check, `Pages` what a fit page is, fact by fact, `Spans` that the spans of its entries follow each other,
--- `Heads` what a fit head is, `Ways` that a walk down from one stays within bounds.
+-- `Heads` what a fit head is, `Paths` that a walk down from one stays within bounds.
 pub mod Parts
 pub mod Pages
 pub mod Spans
 pub mod Heads
-pub mod Ways
+pub mod Paths

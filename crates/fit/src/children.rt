@@ -1,9 +1,9 @@
 // "an inner entry's child lies in 1 to n−1, a leaf's is 0"
-use page::Place;
+use page::PageContext;
 use page::at::child_at;
 ghost use mathlib.Core.Path.{_≡_};
 ghost use Rattle.page.specs.Fit.{child-ok, children-ok};
-ghost use Rattle.fit.specs.Places.{Compared};
+ghost use Rattle.fit.specs.Contexts.{Compared};
 
 // Whether a child may stand in an entry of a level.
 fn child_ok(pages: u32, level: u32, child: u32) -> bool
@@ -16,7 +16,7 @@ fn child_ok(pages: u32, level: u32, child: u32) -> bool
 }
 
 // Whether the children of a page of n entries may stand there: no exit in the loop.
-pub fn children_ok(s: &[u8], n: usize, pages: u32, at: Place) -> bool
+pub fn children_ok(s: &[u8], n: usize, pages: u32, at: PageContext) -> bool
     requires { ⌜ Compared (now s) n ⌝ }
     ensures { λ r. ⌜ r ≡ children-ok 12 pages at (now (s .entry)) ⌝ }
 {

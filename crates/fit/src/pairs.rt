@@ -1,7 +1,7 @@
 // "for kind 1 the absolute sums of an entry and of those above it on its way add to at most 1,000,000 × changes, absolute
 // counts to at most changes; kinds 2 and 3 have (0, 0) or a value with 1"
 use page::Head;
-use page::Place;
+use page::PageContext;
 use page::at::pair_at;
 use rule::Pair;
 use rule::combine::value_or_none;
@@ -10,10 +10,10 @@ use rule::limits::TOTALS;
 use rule::numbers::magnitude;
 ghost use mathlib.Core.Path.{_≡_};
 ghost use Rattle.page.specs.Fit.{pair-ok, pairs-ok};
-ghost use Rattle.fit.specs.Places.{Bounded, Compared};
+ghost use Rattle.fit.specs.Contexts.{Bounded, Compared};
 
-// Whether a pair may stand in an entry of a page at a place.
-fn pair_ok(h: Head, at: Place, p: Pair) -> bool
+// Whether a pair may stand in an entry of a page in a context.
+fn pair_ok(h: Head, at: PageContext, p: Pair) -> bool
     requires { ⌜ Bounded at ⌝ }
     ensures { λ r. ⌜ r ≡ pair-ok h at p ⌝ }
 {
@@ -27,7 +27,7 @@ fn pair_ok(h: Head, at: Place, p: Pair) -> bool
 }
 
 // Whether the pairs of a page of n entries may stand there: no exit in the loop.
-pub fn pairs_ok(s: &[u8], n: usize, h: Head, at: Place) -> bool
+pub fn pairs_ok(s: &[u8], n: usize, h: Head, at: PageContext) -> bool
     requires { ⌜ Compared (now s) n ⌝ }
     requires { ⌜ Bounded at ⌝ }
     ensures { λ r. ⌜ r ≡ pairs-ok 12 h at (now (s .entry)) ⌝ }

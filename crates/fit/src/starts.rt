@@ -1,5 +1,5 @@
 // "starts rise strictly, the first is the parent entry's start (root: 0), the last lies below that entry's end (root: END)"
-use page::Place;
+use page::PageContext;
 use page::at::start_at;
 ghost use mathlib.Core.Path.{_≡_};
 ghost use Prim.Native.Nat.{suc, _-_};
@@ -7,7 +7,7 @@ ghost use lib.Dec.{ltb};
 ghost use Rattle.fields.specs.Bytes.{every};
 ghost use Rattle.page.specs.Layout.{start-at};
 ghost use Rattle.page.specs.Fit.{starts-ok};
-ghost use Rattle.fit.specs.Places.{Compared};
+ghost use Rattle.fit.specs.Contexts.{Compared};
 
 // Whether the starts of a page of n entries rise strictly: no exit in the loop, so that many are tested at once.
 fn rising(s: &[u8], n: usize) -> bool
@@ -23,8 +23,8 @@ fn rising(s: &[u8], n: usize) -> bool
     ok
 }
 
-// Whether the starts of a page of n entries are those of its place.
-pub fn starts_ok(s: &[u8], n: usize, at: Place) -> bool
+// Whether the starts of a page of n entries are those of its context.
+pub fn starts_ok(s: &[u8], n: usize, at: PageContext) -> bool
     requires { ⌜ Compared (now s) n ⌝ }
     ensures { λ r. ⌜ r ≡ starts-ok at (now (s .entry)) ⌝ }
 {

@@ -1,20 +1,20 @@
-// Is a page fit at its place?
+// Is a page fit in its context?
 use super::children::children_ok;
-use super::number::number_ok;
+use super::entry_count::entry_count_ok;
 use super::pairs::pairs_ok;
 use super::starts::starts_ok;
 use super::unused::unused_ok;
 use page::Head;
-use page::Place;
+use page::PageContext;
+use page::at::entry_count;
 use page::at::level_of;
-use page::at::number_of;
 ghost use mathlib.Core.Path.{_≡_};
 ghost use lib.ListN.{length};
 ghost use Rattle.page.specs.Fit.{page-fit};
-ghost use Rattle.fit.specs.Places.{Bounded};
+ghost use Rattle.fit.specs.Contexts.{Bounded};
 
-// Whether a page is fit at its place, for any 512 bytes: exits stand only between the parts of the check.
-pub fn page_fit(s: &[u8], h: Head, at: Place) -> bool
+// Whether a page is fit in its context, for any 512 bytes: exits stand only between the parts of the check.
+pub fn page_fit(s: &[u8], h: Head, at: PageContext) -> bool
     requires { ⌜ length (now s) ≡ 512 ⌝ }
     requires { ⌜ Bounded at ⌝ }
     ensures { λ r. ⌜ r ≡ page-fit 12 h at (now (s .entry)) ⌝ }
@@ -23,11 +23,11 @@ pub fn page_fit(s: &[u8], h: Head, at: Place) -> bool
     if level_of(s) != at.level {
         return false;
     }
-    // The page may be worn: the number of entries is compared with 24 before anything uses it.
-    if !number_ok(s, at) {
+    // The page may be worn: the count of entries is compared with 24 before anything uses it.
+    if !entry_count_ok(s, at) {
         return false;
     }
-    let n = number_of(s) as usize;
+    let n = entry_count(s) as usize;
     if !starts_ok(s, n, at) {
         return false;
     }

@@ -9,7 +9,7 @@ use page::layout::START_BYTES;
 use page::layout::STARTS_OFFSET;
 ghost use mathlib.Core.Path.{_≡_};
 ghost use Rattle.page.specs.Layout.{unused-ok};
-ghost use Rattle.fit.specs.Places.{Compared};
+ghost use Rattle.fit.specs.Contexts.{Compared};
 
 // Whether every byte that a page of n entries doesn't use is FF.
 pub fn unused_ok(s: &[u8], n: usize) -> bool

@@ -9,15 +9,15 @@ use borrow.Author.Tests.{lt-ltb, le-ltb}
 use Rattle.rule.specs.Pairs.{combine, same-pair}
 use Rattle.page.specs.declared.Entry.{Entry}
 use Rattle.page.specs.declared.Page.{Page}
-use Rattle.page.specs.Decoded.{shown}
-use Rattle.page.specs.Entries.{at, place}
+use Rattle.page.specs.Decoded.{entry-list}
+use Rattle.page.specs.Entries.{at, index-of}
 use Rattle.lists.specs.Lists.{splice}
 use Rattle.image.specs.Images.{Image, tree}
-use Rattle.edit.specs.Shows.{Shows}
-use Rattle.edit.proofs.Edits.{shows-then}
+use Rattle.edit.specs.Contents.{Has-entries}
+use Rattle.edit.proofs.Edits.{has-then}
 use Rattle.steps.specs.Supply.{entries, put}
 use Rattle.steps.specs.Heal.{heals, heal-page}
-use Rattle.store.specs.Holding.{Loaded}
+use Rattle.store.specs.Encoding.{Loaded}
 
 -- ---- the test
 
@@ -37,19 +37,19 @@ module _ (t i : ℕ) (es : List Entry) where
 
 -- ---- what becomes of the leaf, whatever the kind
 
-module _ (kind t p : ℕ) {i : ℕ} (X : Image) {page : Page} (n : Loaded zero (entries X p) page) (e : i ≡ place t (entries X p)) where
-  tested : heals t (shown page) i ≡ heals t (entries X p) (place t (entries X p))
+module _ (kind t p : ℕ) {i : ℕ} (X : Image) {page : Page} (n : Loaded zero (entries X p) page) (e : i ≡ index-of t (entries X p)) where
+  tested : heals t (entry-list page) i ≡ heals t (entries X p) (index-of t (entries X p))
   tested = λ j. heals t (n .shows .entries j) (e j)
 
-  pub leaf-kept : heals t (shown page) i ≡ false → X ≡ heal-page 12 (combine kind) t 0 p X
+  pub leaf-kept : heals t (entry-list page) i ≡ false → X ≡ heal-page 12 (combine kind) t 0 p X
   unfolding heal-page
-  leaf-kept b = ap (λ b. cond b (put p (tree zero (splice (place t (entries X p)) [] (entries X p))) X) X) (sym (sym tested ∙ b))
+  leaf-kept b = ap (λ b. cond b (put p (tree zero (splice (index-of t (entries X p)) [] (entries X p))) X) X) (sym (sym tested ∙ b))
 
-  pub leaf-healed : {r : Page} → heals t (shown page) i ≡ true → Shows (page .level) (splice i [] (shown page)) r
-      → put p (tree (r .level) (shown r)) X ≡ heal-page 12 (combine kind) t 0 p X
+  pub leaf-healed : {r : Page} → heals t (entry-list page) i ≡ true → Has-entries (page .level) (splice i [] (entry-list page)) r
+      → put p (tree (r .level) (entry-list r)) X ≡ heal-page 12 (combine kind) t 0 p X
   unfolding heal-page
   leaf-healed {r} b s =
       let es : List Entry = entries X p in
-      let w = shows-then (splice i []) (n .shows) s in
+      let w = has-then (splice i []) (n .shows) s in
       (λ j. put p (tree (w .level j) (w .entries j)) X)
       ∙ (λ j. cond (sym (sym tested ∙ b) j) (put p (tree zero (splice (e j) [] es)) X) X)

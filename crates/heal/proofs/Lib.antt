@@ -1,10 +1,11 @@
--- `Parts` has the laws of two lists shared anew, `Families` what is read of two siblings, `Outcomes` what a give and a merge write.
--- `Leaves` has the entry that goes, `Turning` a page that turns to its neighbour, `Ways` the way down and back up, `Roots` a root that
--- shrinks.
+-- `Parts` has the laws of two lists shared anew, `Loaded` what is read of two siblings, `Outcomes` what redistributing and merging write.
+-- `Leaves` has the entry that goes, `Rebalancing` a page that is rebalanced with its sibling, `Paths` the way down and back up, `Roots` a
+-- root that
+-- collapses.
 pub mod Parts
-pub mod Families
+pub mod Loaded
 pub mod Outcomes
 pub mod Leaves
-pub mod Turning
-pub mod Ways
+pub mod Rebalancing
+pub mod Paths
 pub mod Roots

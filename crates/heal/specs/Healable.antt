@@ -5,34 +5,34 @@ use mathlib.Core.Path.{_≡_}
 use mathlib.Core.Bool.{true, cond}
 use lib.ListN.{length}
 use Rattle.rule.specs.Pairs.{combine}
-use Rattle.page.specs.Entries.{at, place}
+use Rattle.page.specs.Entries.{at, index-of}
 use Rattle.image.specs.Images.{Image}
 use Rattle.steps.specs.Supply.{entries}
-use Rattle.steps.specs.Heal.{short, left-of, turn, heal-page}
-use Rattle.store.specs.Ready.{Tree-page, Has-entry, Searchable, entry-for, Push-ready, Chain-room}
+use Rattle.steps.specs.Heal.{short, left-of, rebalance, heal-page}
+use Rattle.store.specs.Preconditions.{Tree-page, Has-entry, Searchable, entry-for, Push-ready, Chain-room}
 use Rattle.heal.specs.Siblings.{Siblings}
 
 -- "A page other than the root left with 11 turns to its left neighbour under the same parent, else the right": the page under the i-th
--- entry of page p can. Its neighbour gives, or the right one of the two is given back.
-pub record Turnable (level p i : ℕ) (X : Image) : Type 0 where
+-- entry of page p can. Its sibling gives, or the right one of the two is given back.
+pub record Rebalanceable (level p i : ℕ) (X : Image) : Type 0 where
   pub siblings : Siblings level p (left-of i) X
   pub short : length (entries X (at (entries X p) i .child)) < 12
   pub room : Chain-room X
 
--- The child page q, under the i-th entry of page p, was healed: it is a tree page, and if it is short it can turn.
-pub record Settles (level p i q : ℕ) (X : Image) : Type 0 where
-  pub treed : Tree-page level q X
-  pub turns : short 12 q X ≡ true → Turnable level p i X
+-- The child page q, under the i-th entry of page p, was healed: it is a tree page, and if it is short it can be rebalanced.
+pub record Rebalanceable-if-short (level p i q : ℕ) (X : Image) : Type 0 where
+  pub tree-page : Tree-page level q X
+  pub rebalances : short 12 q X ≡ true → Rebalanceable level p i X
 
 -- what that leaves
-unfoldable pub settled : ℕ → ℕ → ℕ → ℕ → ℕ → Image → Image
-settled kind level p i q X = cond (short 12 q X) (turn 12 (combine kind) level p i X) X
+unfoldable pub rebalance-if-short : ℕ → ℕ → ℕ → ℕ → ℕ → Image → Image
+rebalance-if-short kind level p i q X = cond (short 12 q X) (rebalance 12 (combine kind) level p i X) X
 
--- an inner page: it can be searched, its child page can be healed, and what that leaves can be settled
+-- an inner page: it can be searched, its child page can be healed, and what that leaves can be rebalanced
 pub record Inner-healable (kind t level p : ℕ) (Below : ℕ → Image → Type 0) (X : Image) : Type 0 where
   pub searchable : Searchable (suc level) p t X
   pub below : Below (entry-for t p X .child) X
-  pub settles : Settles level p (place t (entries X p)) (entry-for t p X .child)
+  pub rebalances : Rebalanceable-if-short level p (index-of t (entries X p)) (entry-for t p X .child)
       (heal-page 12 (combine kind) t level (entry-for t p X .child) X)
 
 -- page p of the level named; a leaf can be searched
@@ -41,7 +41,7 @@ Page-healable kind t zero p X = Searchable zero p t X
 Page-healable kind t (suc l) p X = Inner-healable kind t l p (λ q Y. Page-healable kind t l q Y) X
 
 -- "An inner root with one entry combines its pair into its child's entries, is given back, and the child becomes root."
-pub record Lowerable (X : Image) : Type 0 where
+pub record Collapsible (X : Image) : Type 0 where
   pub inner : 1 < X .head .height
   pub low : X .head .height - 2 < 255
   pub root : Has-entry (X .head .height - 1) (X .head .root) 0 X
@@ -49,12 +49,12 @@ pub record Lowerable (X : Image) : Type 0 where
   pub room : Chain-room X
 
 -- the root can be read, and can go if it is such a one
-pub record Shrinkable (X : Image) : Type 0 where
+pub record Collapsible-if-single (X : Image) : Type 0 where
   pub root : Tree-page (X .head .height - 1) (X .head .root) X
-  pub lowers : 1 < X .head .height → length (entries X (X .head .root)) ≡ 1 → Lowerable X
+  pub collapses : 1 < X .head .height → length (entries X (X .head .root)) ≡ 1 → Collapsible X
 
--- "Heal at t": from the root down, and then the root may shrink
+-- "Heal at t": from the root down, and then the root may collapse
 pub record Healable (kind t : ℕ) (X : Image) : Type 0 where
   pub some : 1 ≤ X .head .height
   pub page : Page-healable kind t (X .head .height - 1) (X .head .root) X
-  pub shrinks : Shrinkable (heal-page 12 (combine kind) t (X .head .height - 1) (X .head .root) X)
+  pub collapses : Collapsible-if-single (heal-page 12 (combine kind) t (X .head .height - 1) (X .head .root) X)

@@ -11,9 +11,9 @@ use Rattle.lists.specs.Lists.{splice}
 use Rattle.image.specs.Images.{Image}
 use Rattle.steps.specs.Supply.{entries}
 use Rattle.steps.specs.Heal.{pushed}
-use Rattle.store.specs.Holding.{Loaded}
-use Rattle.store.specs.Ready.{Has-entry, Push-ready, Chain-room}
-use Rattle.heal.specs.declared.Family.{Family}
+use Rattle.store.specs.Encoding.{Loaded}
+use Rattle.store.specs.Preconditions.{Has-entry, Push-ready, Chain-room}
+use Rattle.heal.specs.declared.SiblingPair.{SiblingPair}
 
 -- ---- what is asked
 
@@ -25,34 +25,34 @@ pub record Siblings (level p l : ℕ) (X : Image) : Type 0 where
   pub right : Push-ready level (at (entries X p) (suc l)) X
 
 -- all entries of two siblings, in number
-abbrev pub total : ℕ → ℕ → Image → ℕ
-total p l X = length (entries X (at (entries X p) l .child)) + length (entries X (at (entries X p) (suc l) .child))
+abbrev pub joint-count : ℕ → ℕ → Image → ℕ
+joint-count p l X = length (entries X (at (entries X p) l .child)) + length (entries X (at (entries X p) (suc l) .child))
 
 -- the left page has k of all, and either page room for what it gets
-pub record Sharable (level p l k : ℕ) (X : Image) : Type 0 where
+pub record Redistributable (level p l k : ℕ) (X : Image) : Type 0 where
   pub siblings : Siblings level p l X
   pub left : k ≤ 24
-  pub right : total p l X ≤ k + 24
-  pub some : k < total p l X
+  pub right : joint-count p l X ≤ k + 24
+  pub some : k < joint-count p l X
 
 -- the left page has room for all, and the right one can be given back
 pub record Mergeable (level p l : ℕ) (X : Image) : Type 0 where
   pub siblings : Siblings level p l X
-  pub few : total p l X ≤ 24
+  pub few : joint-count p l X ≤ 24
   pub room : Chain-room X
 
 -- two decoded pages of whose entries the first k and the others each have room in a page
-pub record Parted (k : ℕ) (p q : Page) : Type 0 where
-  pub left-places : p .number ≤ 25
-  pub right-places : q .number ≤ 25
+pub record Divisible (k : ℕ) (p q : Page) : Type 0 where
+  pub left-slots : p .len ≤ 25
+  pub right-slots : q .len ≤ 25
   pub first : k ≤ 25
-  pub all : k ≤ p .number + q .number
-  pub rest : p .number + q .number ≤ k + 25
+  pub all : k ≤ p .len + q .len
+  pub rest : p .len + q .len ≤ k + 25
 
 -- ---- what is read and made
 
 -- what is read of the l-th entry of page p and the next, and of the pages under both: the pairs above are combined into their entries
-pub record Siblings-read (kind level p l : ℕ) (X : Image) (r : Family) : Type 0 where
+pub record Siblings-read (kind level p l : ℕ) (X : Image) (r : SiblingPair) : Type 0 where
   pub parent : Loaded (suc level) (entries X p) (r .parent)
   pub a : r .a ≡ at (entries X p) l
   pub b : r .b ≡ at (entries X p) (suc l)

@@ -10,10 +10,10 @@ use store::pages::save;
 ghost use mathlib.Core.Path.{_≡_};
 ghost use Prim.Native.Nat.{ℕ, _<_, _≤_};
 ghost use Rattle.rule.specs.Pairs.{combine, same-pair};
-ghost use Rattle.page.specs.Decoded.{shown};
+ghost use Rattle.page.specs.Decoded.{entry-list};
 ghost use Rattle.steps.specs.Heal.{heals, heal-page};
-ghost use Rattle.store.specs.Holding.{Holds, Some, Each};
-ghost use Rattle.store.specs.Ready.{Searchable};
+ghost use Rattle.store.specs.Encoding.{Encodes, Pre, Post};
+ghost use Rattle.store.specs.Preconditions.{Searchable};
 
 // Whether two entries have the same pair.
 fn alike(e: Entry, before: Entry) -> bool
@@ -26,8 +26,8 @@ fn alike(e: Entry, before: Entry) -> bool
 
 // Whether the i-th entry goes.
 fn heals(page: Page, i: usize, t: u32) -> bool
-    requires { ⌜ (i < page .number) × (page .number ≤ 25) ⌝ }
-    ensures { λ r. ⌜ r ≡ heals t (shown page) i ⌝ }
+    requires { ⌜ (i < page .len) × (page .len ≤ 25) ⌝ }
+    ensures { λ r. ⌜ r ≡ heals t (entry-list page) i ⌝ }
 {
     if i == 0 {
         return false;
@@ -39,9 +39,9 @@ fn heals(page: Page, i: usize, t: u32) -> bool
 
 // The leaf p. Nothing is written where no entry goes. The kind's rule has no part in it.
 pub(crate) fn heal_leaf(img: &mut [u8], p: u32, t: u32)
-    requires { ⌜ Some (now img) (Searchable 0 p t) ⌝ }
-    ensures { λ _. ⌜ Each (now (img .entry)) (Searchable 0 p t)
-        (λ X. (kind : ℕ) → Holds (now (img .exit)) (heal-page 12 (combine kind) t 0 p X)) ⌝ }
+    requires { ⌜ Pre (now img) (Searchable 0 p t) ⌝ }
+    ensures { λ _. ⌜ Post (now (img .entry)) (Searchable 0 p t)
+        (λ X. (kind : ℕ) → Encodes (now (img .exit)) (heal-page 12 (combine kind) t 0 p X)) ⌝ }
 {
     let found = find_entry(img, p, t);
     let page = load(img, p);

@@ -16,7 +16,7 @@ use Rattle.page.specs.Layout.{capacity, page-size, level-of, entries-of, next-o
 use Rattle.page.specs.Widths.{Entries-fit}
 use Rattle.page.proofs.Laws.Trees.{bytes-tree, length-tree, level-of-tree, entries-of-tree}
 use Rattle.page.proofs.Laws.Frees.{bytes-free, length-free, level-of-free, next-of-free, never-used-ok-unused, unused-again}
-use Rattle.image.specs.Images.{Cell, tree, free, never-used, never-used-level, cell-of, cell-bytes, Kept}
+use Rattle.image.specs.Images.{Cell, tree, free, never-used, never-used-level, cell-of, cell-bytes, Canonical}
 
 -- ---- a cell of bytes
 
@@ -72,9 +72,9 @@ bytes-cell half (tree level es) = bytes-tree half level es
 bytes-cell half (free next) = bytes-free half next
 bytes-cell half never-used = bytes-unused (page-size half)
 
-pub kept-tree : (half level : ℕ) (es : List Entry) → length es ≤ capacity half → length es < 2 ^ 32 → level < free-level → Entries-fit es → Kept half (tree level es)
+pub canonical-tree : (half level : ℕ) (es : List Entry) → length es ≤ capacity half → length es < 2 ^ 32 → level < free-level → Entries-fit es → Canonical half (tree level es)
 unfolding cell-bytes
-kept-tree half level es within narrow low fits =
+canonical-tree half level es within narrow low fits =
     let s : List ℕ = tree-bytes half level es in
     let v : level-of s ≡ level = level-of-tree half level es within (omega arith) in
     record {
@@ -82,14 +82,14 @@ kept-tree half level es within narrow low fits =
       again = cell-tree half s (omega arith) ∙ (λ j. tree (v j) (entries-of-tree half level es within narrow fits j));
     }
 
-pub kept-free : (half next : ℕ) → next < 2 ^ 32 → Kept half (free next)
+pub canonical-free : (half next : ℕ) → next < 2 ^ 32 → Canonical half (free next)
 unfolding cell-bytes
-kept-free half next narrow =
+canonical-free half next narrow =
     record { sized = length-free half next; again = cell-free half (free-bytes half next) (level-of-free half next) ∙ ap free (next-of-free half next narrow) }
 
-pub kept-never : (half : ℕ) → Kept half never-used
+pub canonical-never : (half : ℕ) → Canonical half never-used
 unfolding cell-bytes
-kept-never half =
+canonical-never half =
     let n : ℕ = page-size half in
     record {
       sized = length-unused n;

@@ -5,15 +5,15 @@ use mathlib.Core.Bool.{true, and-eq-true-iff}
 use mathlib.Core.List.{List}
 use native.Mathlib.Omega.{arith}
 use borrow.Author.Tests.{leb-true}
-use Rattle.page.specs.Entries.{place}
+use Rattle.page.specs.Entries.{index-of}
 use Rattle.page.specs.declared.Head.{Head}
-use Rattle.page.specs.Layout.{capacity, number-of, entries-of}
-use Rattle.page.specs.Fit.{Place, fewest, number-ok, page-fit}
-use Rattle.page.proofs.Laws.Places.{place-within}
+use Rattle.page.specs.Layout.{capacity, entry-count, entries-of}
+use Rattle.page.specs.Fit.{Page-context, fewest, entry-count-ok, page-fit}
+use Rattle.page.proofs.Laws.Indices.{index-within}
 
-module _ (half : ℕ) (h : Head) (at : Place) (s : List ℕ) (some : 1 ≤ fewest half at) (fits : page-fit half h at s ≡ true) where
-  number-fits : (fewest half at ≤ number-of s) × (number-of s ≤ capacity half)
-  unfolding page-fit number-ok
+module _ (half : ℕ) (h : Head) (at : Page-context) (s : List ℕ) (some : 1 ≤ fewest half at) (fits : page-fit half h at s ≡ true) where
+  number-fits : (fewest half at ≤ entry-count s) × (entry-count s ≤ capacity half)
+  unfolding page-fit entry-count-ok
   number-fits =
       let k = simp and-eq-true-iff at fits in
       (leb-true _ _ (k .1 .0 .0), leb-true _ _ (k .1 .0 .1))
@@ -22,5 +22,5 @@ module _ (half : ℕ) (h : Head) (at : Place) (s : List ℕ) (some : 1 ≤ fewes
   pub room : 1 ≤ half
   room = omega (arith, number-fits)
 
-  pub found-within : (t : ℕ) → place t (entries-of half s) < number-of s
-  found-within t = place-within half s t (number-fits .1) (omega (arith, number-fits))
+  pub found-within : (t : ℕ) → index-of t (entries-of half s) < entry-count s
+  found-within t = index-within half s t (number-fits .1) (omega (arith, number-fits))

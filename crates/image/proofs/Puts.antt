@@ -10,13 +10,13 @@ use Rattle.fields.proofs.Laws.Parts.{patch-append-left, patch-append-right, pat
 use Rattle.page.specs.declared.Head.{Head}
 use Rattle.page.specs.Layout.{page-size, head-bytes}
 use Rattle.page.proofs.Laws.Heads.{length-head}
-use Rattle.image.specs.Images.{Image, cell-bytes, image-bytes, Kept}
+use Rattle.image.specs.Images.{Image, cell-bytes, image-bytes, Canonical}
 use Rattle.image.proofs.Rows.{rows, patch-rows}
 
 module _ (half : ℕ) (some : 1 ≤ half) where
   -- page p of Y is written, and the other pages are the same
   pub put-page : (X Y : Image) (p : ℕ) → X .head ≡ Y .head → ((q : ℕ) → (q ≡ p → ⊥) → X .page q ≡ Y .page q)
-      → ((q : ℕ) → 1 ≤ q → q < X .head .pages → Kept half (X .page q)) → length (cell-bytes half (Y .page p)) ≡ page-size half → 1 ≤ p → p < X .head .pages
+      → ((q : ℕ) → 1 ≤ q → q < X .head .pages → Canonical half (X .page q)) → length (cell-bytes half (Y .page p)) ≡ page-size half → 1 ≤ p → p < X .head .pages
       → patch (image-bytes half X) (page-size half * p) (cell-bytes half (Y .page p)) ≡ image-bytes half Y
   unfolding image-bytes
   put-page X Y zero h same kept sized l b = absurd (omega arith)

@@ -1,4 +1,4 @@
--- Pieces of one size one behind another: how long they are together, each at its place, and one of them written. Assumes nothing.
+-- Pieces of one size one behind another: how long they are together, each at its offset, and one of them written. Assumes nothing.
 use Prim.Native.Nat.{ℕ, zero, suc, _+_, _*_, _<_}
 use mathlib.Core.Path.{_≡_, refl, sym, ap, _∙_}
 use mathlib.Core.List.{List, [], _∷_, _++_}
@@ -8,21 +8,21 @@ use native.Mathlib.Decide.{decLt}
 use lib.ListN.{length, length-append}
 use Rattle.fields.specs.Bytes.{part, patch}
 use Rattle.fields.proofs.Laws.Parts.{part-append-left, patch-append-left, patch-append-right, patch-whole}
-use Rattle.lists.specs.Lists.{listed, joined}
-use Rattle.lists.proofs.Joined.{joined-append, joined-one}
+use Rattle.lists.specs.Lists.{listed, concat-map}
+use Rattle.lists.proofs.Concat.{concat-map-append, concat-map-one}
 use Rattle.page.proofs.Laws.Pieces.{part-last}
 
 -- the pieces below n
 abbrev pub rows : (ℕ → List ℕ) → ℕ → List ℕ
-rows f n = joined f (listed n (λ p. p))
+rows f n = concat-map f (listed n (λ p. p))
 
 module _ (f : ℕ → List ℕ) (k : ℕ) where
   rows-more : (n : ℕ) → rows f (suc n) ≡ rows f n ++ f n
   unfolding listed
-  rows-more n = joined-append f (listed n (λ p. p)) (n ∷ []) ∙ ap (λ r. rows f n ++ r) (joined-one f n)
+  rows-more n = concat-map-append f (listed n (λ p. p)) (n ∷ []) ∙ ap (λ r. rows f n ++ r) (concat-map-one f n)
 
   pub length-rows : (n : ℕ) → ((i : ℕ) → i < n → length (f i) ≡ k) → length (rows f n) ≡ k * n
-  unfolding joined listed
+  unfolding concat-map listed
   length-rows zero each = sym (mul-zero k)
   length-rows (suc n) each =
       ap length (rows-more n)
@@ -45,7 +45,7 @@ module _ (f : ℕ → List ℕ) (k : ℕ) where
 
 -- pieces that are the same below n
 rows-same : (f g : ℕ → List ℕ) (n : ℕ) → ((i : ℕ) → i < n → f i ≡ g i) → rows f n ≡ rows g n
-unfolding joined listed
+unfolding concat-map listed
 rows-same f g zero same = refl
 rows-same f g (suc n) same = rows-more f 0 n ∙ (λ j. rows-same f g n (λ i l. same i (omega arith)) j ++ same n (omega arith) j) ∙ sym (rows-more g 0 n)
 

@@ -13,11 +13,11 @@ use Rattle.rule.specs.declared.Pair.{Pair}
 use Rattle.rule.specs.Pairs.{combine}
 use Rattle.rule.specs.Time.{overlaps}
 use Rattle.page.specs.declared.Head.{Head}
-use Rattle.page.specs.Entries.{place}
-use Rattle.page.specs.Layout.{number-of, start-at, pair-at, child-at, entries-of, head-of}
-use Rattle.page.specs.Fit.{Place, root-place, place-below, fewest, end-at, page-fit}
+use Rattle.page.specs.Entries.{index-of}
+use Rattle.page.specs.Layout.{entry-count, start-at, pair-at, child-at, entries-of, head-of}
+use Rattle.page.specs.Fit.{Page-context, root-context, context-below, fewest, end-at, page-fit}
 use Rattle.image.specs.Images.{page-at}
-use Rattle.image.specs.Instant.{Looked, stopped, leaf-answer, above, look, look-up}
+use Rattle.image.specs.Instant.{Lookup, stopped, leaf-answer, above, look, look-up}
 use Rattle.image.specs.Listing.{Walked, nothing, then, in-turn, under, leaf-run, walk-page, walk, walk-over}
 use Rattle.image.specs.Listing
 use Rattle.image.specs.Trail.{Visit, each-in-turn, finds-fit, all-fit, up-to-unfit, Ends-unfit, visits, trail, entry-of, entries-over, instant-trail, listing-trail}
@@ -102,7 +102,7 @@ module _ (half : ℕ) (h : Head) (img : List ℕ) where
   -- ---- an instant
 
   -- what was found, by the looks: whether all pages are fit, and how many were read
-  record Told (r : Looked) (vs : List Visit) : Type 0 where
+  record Told (r : Lookup) (vs : List Visit) : Type 0 where
     pub fit : r .fit ≡ all-fit half h img vs
     pub pages : r .pages ≡ length (up-to-unfit half h img vs)
 
@@ -111,7 +111,7 @@ module _ (half : ℕ) (h : Head) (img : List ℕ) where
   at-leaf true q v e = record { fit = λ j. sym e j && true; pages = λ j. length (v ∷ cond (sym e j) [] []) }
   at-leaf false q v e = record { fit = λ j. sym e j && true; pages = λ j. length (v ∷ cond (sym e j) [] []) }
 
-  at-inner : (c : Bool) (comb : Pair → Pair → Pair) (q : Pair) (r : Looked) (v : Visit) (below : List Visit)
+  at-inner : (c : Bool) (comb : Pair → Pair → Pair) (q : Pair) (r : Lookup) (v : Visit) (below : List Visit)
       → finds-fit half h img v ≡ c
       → (c ≡ true → Told r below)
       → Told (cond c (above comb q r) stopped) (v ∷ cond c below [])
@@ -124,30 +124,30 @@ module _ (half : ℕ) (h : Head) (img : List ℕ) where
       }
   at-inner false comb q r v below e told = record { fit = λ j. sym e j && true; pages = λ j. length (v ∷ cond (sym e j) [] []) }
 
-  look-told : (t l : ℕ) (at : Place) (p : ℕ) → 1 ≤ fewest half at → Told (look half h img t l at p) (visits half h img (entry-of half t) l at p)
-  unfolding look visits finds-fit entry-of fewest place-below
+  look-told : (t l : ℕ) (at : Page-context) (p : ℕ) → 1 ≤ fewest half at → Told (look half h img t l at p) (visits half h img (entry-of half t) l at p)
+  unfolding look visits finds-fit entry-of fewest context-below
   look-told t zero at p some = at-leaf (page-fit half h at (page-at half img p)) _ (record { at = at; page = p }) refl
   look-told t (suc l) at p some =
-      at-inner (page-fit half h at s) (combine (h .kind)) (pair-at half s i) (look half h img t l (place-below half s at i) (child-at half s i))
+      at-inner (page-fit half h at s) (combine (h .kind)) (pair-at half s i) (look half h img t l (context-below half s at i) (child-at half s i))
       (record { at = at; page = p }) _ refl
-      (λ fits. below fits (look-told t l (place-below half s at i) (child-at half s i) (child-some fits)))
+      (λ fits. below fits (look-told t l (context-below half s at i) (child-at half s i) (child-some fits)))
     where
       s : List ℕ
       s = page-at half img p
 
       i : ℕ
-      i = place t (entries-of half s)
+      i = index-of t (entries-of half s)
 
-      child-some : page-fit half h at s ≡ true → 1 ≤ fewest half (place-below half s at i)
+      child-some : page-fit half h at s ≡ true → 1 ≤ fewest half (context-below half s at i)
       child-some fits = room half h at s some fits
 
       below : page-fit half h at s ≡ true
-          → Told (look half h img t l (place-below half s at i) (child-at half s i)) (visits half h img (entry-of half t) l (place-below half s at i) (child-at half s i))
-          → Told (look half h img t l (place-below half s at i) (child-at half s i))
-          (each-in-turn (number-of s) (λ k. cond (entry-of half t at s k) (visits half h img (entry-of half t) l (place-below half s at k) (child-at half s k)) []))
+          → Told (look half h img t l (context-below half s at i) (child-at half s i)) (visits half h img (entry-of half t) l (context-below half s at i) (child-at half s i))
+          → Told (look half h img t l (context-below half s at i) (child-at half s i))
+          (each-in-turn (entry-count s) (λ k. cond (entry-of half t at s k) (visits half h img (entry-of half t) l (context-below half s at k) (child-at half s k)) []))
       below fits told =
-          let f : ℕ → List Visit = λ k. visits half h img (entry-of half t) l (place-below half s at k) (child-at half s k) in
-          subst⁻¹ (Told (look half h img t l (place-below half s at i) (child-at half s i))) (each-one f i (number-of s) (found-within half h at s some fits t)) told
+          let f : ℕ → List Visit = λ k. visits half h img (entry-of half t) l (context-below half s at k) (child-at half s k) in
+          subst⁻¹ (Told (look half h img t l (context-below half s at i) (child-at half s i))) (each-one f i (entry-count s) (found-within half h at s some fits t)) told
 
   -- ---- a listing
 
@@ -180,12 +180,12 @@ module _ (half : ℕ) (h : Head) (img : List ℕ) where
   leaf-told true w v e told = told ∙ (λ j. sym e j && true)
   leaf-told false w v e told = λ j. sym e j && true
 
-  walk-told : (a b l : ℕ) (at : Place) (p : ℕ) → walk half h img a b l at p .fit ≡ all-fit half h img (visits half h img (entries-over a b) l at p)
+  walk-told : (a b l : ℕ) (at : Page-context) (p : ℕ) → walk half h img a b l at p .fit ≡ all-fit half h img (visits half h img (entries-over a b) l at p)
   unfolding walk walk-page visits finds-fit all-fit entries-over leaf-run under
   walk-told a b zero at p =
       let s : List ℕ = page-at half img p in
       leaf-told (page-fit half h at s) _ (record { at = at; page = p }) refl
-      (in-turn-fit _ (number-of s) (λ i. chosen (overlaps a b (start-at s i) (end-at s (at .hi) i)) (leaf-run a (start-at s i) (pair-at half s i)) [] refl ∙ no-looks (overlaps a b (start-at s i) (end-at s (at .hi) i))))
+      (in-turn-fit _ (entry-count s) (λ i. chosen (overlaps a b (start-at s i) (end-at s (at .hi) i)) (leaf-run a (start-at s i) (pair-at half s i)) [] refl ∙ no-looks (overlaps a b (start-at s i) (end-at s (at .hi) i))))
     where
       no-looks : (c : Bool) → all-fit half h img (cond c [] []) ≡ true
       no-looks true = refl
@@ -193,17 +193,17 @@ module _ (half : ℕ) (h : Head) (img : List ℕ) where
   walk-told a b (suc l) at p =
       let s : List ℕ = page-at half img p in
       page-told (page-fit half h at s) _ (record { at = at; page = p }) _ refl
-      (in-turn-told _ _ (number-of s)
+      (in-turn-told _ _ (entry-count s)
       (λ i.
       chosen (overlaps a b (start-at s i) (end-at s (at .hi) i))
-      (under (combine (h .kind)) (pair-at half s i) (walk half h img a b l (place-below half s at i) (child-at half s i)))
-      (visits half h img (entries-over a b) l (place-below half s at i) (child-at half s i))
-      (walk-told a b l (place-below half s at i) (child-at half s i))))
+      (under (combine (h .kind)) (pair-at half s i) (walk half h img a b l (context-below half s at i) (child-at half s i)))
+      (visits half h img (entries-over a b) l (context-below half s at i) (child-at half s i))
+      (walk-told a b l (context-below half s at i) (child-at half s i))))
 
 -- ---- from the root
 
-root-some : (half : ℕ) (h : Head) → 1 ≤ fewest half (root-place h)
-unfolding fewest root-place
+root-some : (half : ℕ) (h : Head) → 1 ≤ fewest half (root-context h)
+unfolding fewest root-context
 root-some half h = go (eqb (h .height - 1) 0)
   where
     go : (c : Bool) → 1 ≤ cond c 1 2
@@ -217,22 +217,22 @@ module _ (half : ℕ) (img : List ℕ) where
   pub look-up-fit : (t : ℕ) → look-up half img t .fit ≡ all-fit half h img (instant-trail half t img)
   unfolding look-up instant-trail trail
   look-up-fit t =
-      look-told half h img t (h .height - 1) (root-place h) (h .root) (root-some half h) .fit
-      ∙ sym (all-fit-up-to half h img (visits half h img (entry-of half t) (h .height - 1) (root-place h) (h .root)))
+      look-told half h img t (h .height - 1) (root-context h) (h .root) (root-some half h) .fit
+      ∙ sym (all-fit-up-to half h img (visits half h img (entry-of half t) (h .height - 1) (root-context h) (h .root)))
 
   -- an unfit page that an instant looks at is the last one
   pub instant-ends : (t : ℕ) → all-fit half h img (instant-trail half t img) ≡ false → Ends-unfit half h img (instant-trail half t img)
   unfolding instant-trail trail
   instant-ends t e =
-      let vs : List Visit = visits half h img (entry-of half t) (h .height - 1) (root-place h) (h .root) in
+      let vs : List Visit = visits half h img (entry-of half t) (h .height - 1) (root-context h) (h .root) in
       ends-unfit half h img vs (sym (all-fit-up-to half h img vs) ∙ e)
 
   pub look-up-looks : (t : ℕ) → look-up half img t .pages ≡ length (instant-trail half t img)
   unfolding look-up instant-trail trail
-  look-up-looks t = look-told half h img t (h .height - 1) (root-place h) (h .root) (root-some half h) .pages
+  look-up-looks t = look-told half h img t (h .height - 1) (root-context h) (h .root) (root-some half h) .pages
 
   pub walk-over-fit : (a b : ℕ) → walk-over half img a b .fit ≡ all-fit half h img (listing-trail half a b img)
   unfolding walk-over listing-trail trail
   walk-over-fit a b =
-      walk-told half h img a b (h .height - 1) (root-place h) (h .root)
-      ∙ sym (all-fit-up-to half h img (visits half h img (entries-over a b) (h .height - 1) (root-place h) (h .root)))
+      walk-told half h img a b (h .height - 1) (root-context h) (h .root)
+      ∙ sym (all-fit-up-to half h img (visits half h img (entries-over a b) (h .height - 1) (root-context h) (h .root)))

@@ -14,8 +14,8 @@ use Rattle.page.specs.Layout.{page-size, head-of, head-bytes}
 use Rattle.lists.specs.Lists.{listed}
 use Rattle.page.specs.Widths.{Head-fits}
 use Rattle.page.proofs.Laws.Heads.{bytes-head, length-head, head-of-head}
-use Rattle.page.proofs.Laws.Joined.{bytes-joined}
-use Rattle.image.specs.Images.{Image, page-at, pages-in, length-ok, cell-of, cell-bytes, image-of, image-bytes, Kept}
+use Rattle.page.proofs.Laws.Concat.{bytes-joined}
+use Rattle.image.specs.Images.{Image, page-at, pages-in, length-ok, cell-of, cell-bytes, image-of, image-bytes, Canonical}
 use Rattle.image.proofs.Cells.{bytes-cell}
 use Rattle.image.proofs.Rows.{rows, length-rows, part-rows}
 
@@ -26,7 +26,7 @@ bytes-written half X =
     bytes-append (head-bytes half (X .head)) (rows cell (X .head .pages - 1)) (bytes-head half (X .head))
     (bytes-joined cell (λ p. bytes-cell half (X .page (suc p))) (listed (X .head .pages - 1) (λ p. p)))
 
-module _ (half : ℕ) (X : Image) (some : 1 ≤ half) (one : 1 ≤ X .head .pages) (kept : (p : ℕ) → 1 ≤ p → p < X .head .pages → Kept half (X .page p)) where
+module _ (half : ℕ) (X : Image) (some : 1 ≤ half) (one : 1 ≤ X .head .pages) (kept : (p : ℕ) → 1 ≤ p → p < X .head .pages → Canonical half (X .page p)) where
   cell : ℕ → List ℕ
   cell p = cell-bytes half (X .page (suc p))
 

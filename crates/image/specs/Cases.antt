@@ -10,7 +10,7 @@ use Rattle.fields.specs.Bytes.{patch}
 use Rattle.page.specs.declared.Entry.{Entry}
 use Rattle.page.specs.Entries.{entry}
 use Rattle.page.specs.Layout.{head-of}
-use Rattle.page.specs.Fit.{root-place}
+use Rattle.page.specs.Fit.{root-context}
 use Rattle.image.specs.Images.{Cell, tree, free, never-used, page-at, image-bytes}
 use Rattle.image.specs.Sound.{sound}
 use Rattle.image.specs.Trail.{visits, every-entry, instant-trail, listing-trail, audit-trail}
@@ -70,7 +70,7 @@ pub record Cases : Type 0 where
   pub below-hurt :
       let img = hurt 3 whole in
       let h = head-of (page-at 2 img 0) in
-      pages-of (visits 2 h img every-entry 1 (root-place h) 3) ≡ 3 ∷ []
+      pages-of (visits 2 h img every-entry 1 (root-context h) 3) ≡ 3 ∷ []
   -- A page that is met once more is unfit there.
   pub page-twice : pages-of (audit-trail 2 (pages 7 5 2 6 (entry 0 none 1 ∷ entry 15 none 1 ∷ []))) ≡ 3 ∷ 1 ∷ 1 ∷ []
   pub fit-once :

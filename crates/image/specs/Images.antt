@@ -12,7 +12,7 @@ use Rattle.page.specs.declared.Entry.{Entry}
 use Rattle.page.specs.declared.Head.{Head}
 use Rattle.page.specs.Entries.{entry}
 use Rattle.page.specs.Layout.{page-size, level-of, entries-of, next-of, free-level, head-of, tree-bytes, free-bytes, head-bytes}
-use Rattle.lists.specs.Lists.{listed, joined}
+use Rattle.lists.specs.Lists.{listed, concat-map}
 
 -- the bytes of page p
 unfoldable pub page-at : ℕ → List ℕ → ℕ → List ℕ
@@ -71,10 +71,10 @@ image-of half img = record { head = head-of (page-at half img 0); page = λ p. c
 
 unfoldable pub image-bytes : ℕ → Image → List ℕ
 image-bytes half X =
-    head-bytes half (X .head) ++ joined (λ p. cell-bytes half (X .page (suc p))) (listed (X .head .pages - 1) (λ p. p))
+    head-bytes half (X .head) ++ concat-map (λ p. cell-bytes half (X .page (suc p))) (listed (X .head .pages - 1) (λ p. p))
 
 -- A cell whose bytes are those of a page and are read back.
-pub record Kept (half : ℕ) (c : Cell) : Type 0 where
+pub record Canonical (half : ℕ) (c : Cell) : Type 0 where
   pub sized : length (cell-bytes half c) ≡ page-size half
   pub again : cell-of half (cell-bytes half c) ≡ c
 

@@ -7,8 +7,8 @@ use Rattle.rule.specs.Pairs.{same-pair, combine}
 use Rattle.rule.specs.Time.{overlaps}
 use Rattle.fields.specs.Numbers.{u32-bytes, i32-bytes, i64-bytes}
 use Rattle.page.specs.declared.Head.{Head}
-use Rattle.page.specs.Layout.{number-of, start-at, pair-at, child-at, head-of}
-use Rattle.page.specs.Fit.{Place, root-place, place-below, end-at, page-fit}
+use Rattle.page.specs.Layout.{entry-count, start-at, pair-at, child-at, head-of}
+use Rattle.page.specs.Fit.{Page-context, root-context, context-below, end-at, page-fit}
 use Rattle.image.specs.Images.{page-at}
 
 -- A run: from its start up to the next one's the pair is the same.
@@ -54,22 +54,22 @@ unfoldable pub leaf-run : ℕ → ℕ → Pair → Walked
 leaf-run a start p = record { fit = true; runs = record { start = max a start; pair = p } ∷ [] }
 
 -- of a fit page, what each entry gives that overlaps [a, b), in turn
-unfoldable pub walk-page : ℕ → Head → ℕ → ℕ → Place → List ℕ → (ℕ → Walked) → Walked
+unfoldable pub walk-page : ℕ → Head → ℕ → ℕ → Page-context → List ℕ → (ℕ → Walked) → Walked
 walk-page half h a b at s below =
     let found =
-    in-turn (number-of s)
+    in-turn (entry-count s)
     (λ i. let w = below i in cond (overlaps a b (start-at s i) (end-at s (at .hi) i)) w nothing) in
     cond (page-fit half h at s) found stopped
 
--- from page p at its place, of the level named: a leaf entry gives its own run, an inner one the runs of the page below
-unfoldable pub walk : ℕ → Head → List ℕ → ℕ → ℕ → ℕ → Place → ℕ → Walked
+-- from page p in its context, of the level named: a leaf entry gives its own run, an inner one the runs of the page below
+unfoldable pub walk : ℕ → Head → List ℕ → ℕ → ℕ → ℕ → Page-context → ℕ → Walked
 walk half h img a b zero at p =
     let s = page-at half img p in
     walk-page half h a b at s (λ i. leaf-run a (start-at s i) (pair-at half s i))
 walk half h img a b (suc l) at p =
     let s = page-at half img p in
     walk-page half h a b at s
-    (λ i. under (combine (h .kind)) (pair-at half s i) (walk half h img a b l (place-below half s at i) (child-at half s i)))
+    (λ i. under (combine (h .kind)) (pair-at half s i) (walk half h img a b l (context-below half s at i) (child-at half s i)))
 
 -- "joined as long as the pair is equal": the runs behind one whose pair is p
 unfoldable pub join-after : Pair → List Run → List Run
@@ -84,4 +84,4 @@ join (r ∷ rs) = r ∷ join-after (r .pair) rs
 unfoldable pub walk-over : ℕ → List ℕ → ℕ → ℕ → Walked
 walk-over half img a b =
     let h = head-of (page-at half img 0) in
-    walk half h img a b (h .height - 1) (root-place h) (h .root)
+    walk half h img a b (h .height - 1) (root-context h) (h .root)

@@ -5,28 +5,28 @@ use mathlib.Core.Bool.{Bool, cond, _&&_}
 use mathlib.Core.List.{List, [], _∷_}
 use lib.ListN.{length}
 use lib.Dec.{eqb}
-use Rattle.lists.specs.Lists.{joined}
+use Rattle.lists.specs.Lists.{concat-map}
 unfoldable pub use Rattle.lists.specs.Lists.{times, all-of}
 use Rattle.fields.specs.Bytes.{every}
 use Rattle.page.specs.declared.Head.{Head}
-use Rattle.page.specs.Layout.{number-of, child-at, entries-of, next-of, free-ok, never-used-ok, head-of}
-use Rattle.page.specs.Fit.{Place, root-place, place-below, page-fit, head-fit}
+use Rattle.page.specs.Layout.{entry-count, child-at, entries-of, next-of, free-ok, never-used-ok, head-of}
+use Rattle.page.specs.Fit.{Page-context, root-context, context-below, page-fit, head-fit}
 use Rattle.image.specs.Images.{page-at, pages-in, length-ok}
 
 -- "Audit goes by page and entry in turn: a page is checked by its entries, and an inner entry by its page below."
 -- The level falls on the way down, so that the walk ends on every image.
-unfoldable pub tree-fit : ℕ → Head → List ℕ → ℕ → Place → ℕ → Bool
+unfoldable pub tree-fit : ℕ → Head → List ℕ → ℕ → Page-context → ℕ → Bool
 tree-fit half h img zero at p = page-fit half h at (page-at half img p)
 tree-fit half h img (suc l) at p =
     let s = page-at half img p in
     page-fit half h at s
-    && every (number-of s) (λ i. tree-fit half h img l (place-below half s at i) (child-at half s i))
+    && every (entry-count s) (λ i. tree-fit half h img l (context-below half s at i) (child-at half s i))
 
 -- the pages of the tree, each as often as an entry leads to it
 unfoldable pub tree-pages : ℕ → List ℕ → ℕ → ℕ → List ℕ
 tree-pages half img zero p = p ∷ []
 tree-pages half img (suc l) p =
-    p ∷ joined (λ e. tree-pages half img l (e .child)) (entries-of half (page-at half img p))
+    p ∷ concat-map (λ e. tree-pages half img l (e .child)) (entries-of half (page-at half img p))
 
 -- the pages of the chain from page p on, at most as many as asked for: a chain that returns to itself has a page twice
 unfoldable pub chain-pages : ℕ → List ℕ → ℕ → ℕ → List ℕ
@@ -48,7 +48,7 @@ sound half img =
     let chain = chain-pages half img n (h .free) in
     length-ok half img
     && (head-fit half n (page-at half img 0)
-    && (tree-fit half h img (h .height - 1) (root-place h) (h .root)
+    && (tree-fit half h img (h .height - 1) (root-context h) (h .root)
     && (each-once (h .mark) tree chain
     && (eqb (length chain) (h .chain)
     && (all-of (λ p. free-ok half (page-at half img p)) chain

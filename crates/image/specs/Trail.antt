@@ -1,4 +1,4 @@
--- The pages that a walk from the root looks at, each with the place where it stands, in turn. An instant goes below the entry that
+-- The pages that a walk from the root looks at, each with the context where it stands, in turn. An instant goes below the entry that
 -- has it, a listing below each entry that overlaps its span, an audit below every entry. "if a page is unfit, the pages up to and
 -- including it": there a walk ends. Assumes nothing.
 use Prim.Native.Nat.{ℕ, zero, suc, _-_}
@@ -8,14 +8,14 @@ use mathlib.Core.List.{List, [], _∷_, _++_}
 use lib.Dec.{eqb}
 use Rattle.rule.specs.Time.{overlaps}
 use Rattle.page.specs.declared.Head.{Head}
-use Rattle.page.specs.Entries.{place}
-use Rattle.page.specs.Layout.{number-of, start-at, child-at, entries-of, head-of}
-use Rattle.page.specs.Fit.{Place, root-place, place-below, end-at, page-fit}
+use Rattle.page.specs.Entries.{index-of}
+use Rattle.page.specs.Layout.{entry-count, start-at, child-at, entries-of, head-of}
+use Rattle.page.specs.Fit.{Page-context, root-context, context-below, end-at, page-fit}
 use Rattle.image.specs.Images.{page-at}
 
--- A look at a page, at its place.
+-- A look at a page, in its context.
 pub record Visit : Type 0 where
-  pub at : Place
+  pub at : Page-context
   pub page : ℕ
 
 -- what f gives for each of the first n numbers, in turn
@@ -24,7 +24,7 @@ each-in-turn zero f = []
 each-in-turn (suc n) f = each-in-turn n f ++ f n
 
 module _ (half : ℕ) (h : Head) (img : List ℕ) where
-  -- the page is fit at its place
+  -- the page is fit in its context
   unfoldable pub finds-fit : Visit → Bool
   finds-fit v = page-fit half h (v .at) (page-at half img (v .page))
 
@@ -45,29 +45,29 @@ module _ (half : ℕ) (h : Head) (img : List ℕ) where
     pub fit-before : all-fit before ≡ true
     pub unfit-last : finds-fit last ≡ false
 
-  -- Page p at its place, of the level named, and then the pages below those of its entries that a walk goes into. An unfit page has
+  -- Page p in its context, of the level named, and then the pages below those of its entries that a walk goes into. An unfit page has
   -- no entries that could be trusted.
-  unfoldable pub visits : (Place → List ℕ → ℕ → Bool) → ℕ → Place → ℕ → List Visit
+  unfoldable pub visits : (Page-context → List ℕ → ℕ → Bool) → ℕ → Page-context → ℕ → List Visit
   visits into zero at p = record { at = at; page = p } ∷ []
   visits into (suc l) at p =
       let s = page-at half img p in
       let below =
-      each-in-turn (number-of s)
-      (λ i. let vs = visits into l (place-below half s at i) (child-at half s i) in cond (into at s i) vs []) in
+      each-in-turn (entry-count s)
+      (λ i. let vs = visits into l (context-below half s at i) (child-at half s i) in cond (into at s i) vs []) in
       record { at = at; page = p } ∷ cond (page-fit half h at s) below []
 
   -- a walk from the root
-  unfoldable pub trail : (Place → List ℕ → ℕ → Bool) → List Visit
-  trail into = up-to-unfit (visits into (h .height - 1) (root-place h) (h .root))
+  unfoldable pub trail : (Page-context → List ℕ → ℕ → Bool) → List Visit
+  trail into = up-to-unfit (visits into (h .height - 1) (root-context h) (h .root))
 
 -- the last entry that starts at t or before; each entry that overlaps [a, b); every entry
-unfoldable pub entry-of : ℕ → ℕ → Place → List ℕ → ℕ → Bool
-entry-of half t at s i = eqb i (place t (entries-of half s))
+unfoldable pub entry-of : ℕ → ℕ → Page-context → List ℕ → ℕ → Bool
+entry-of half t at s i = eqb i (index-of t (entries-of half s))
 
-unfoldable pub entries-over : ℕ → ℕ → Place → List ℕ → ℕ → Bool
+unfoldable pub entries-over : ℕ → ℕ → Page-context → List ℕ → ℕ → Bool
 entries-over a b at s i = overlaps a b (start-at s i) (end-at s (at .hi) i)
 
-unfoldable pub every-entry : Place → List ℕ → ℕ → Bool
+unfoldable pub every-entry : Page-context → List ℕ → ℕ → Bool
 every-entry at s i = true
 
 -- The looks of an instant, of a listing and of an audit at the pages of the tree, the head apart.

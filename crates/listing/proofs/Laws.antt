@@ -1,5 +1,6 @@
 -- `Turns`: one walk after another. `Leaves`: one leaf entry. `Pages`: what the walk from a page on is.
--- `Stands`: nothing is out of bounds on the way. `Loops`: the loop over a page's entries. `Roots`: the walk from the root, and the two passes.
+-- `Stands`: nothing is out of bounds on the path. `Loops`: the loop over a page's entries. `Roots`: the walk from the root, and the two
+-- passes.
 pub mod Turns
 pub mod Leaves
 pub mod Pages

@@ -10,26 +10,26 @@ use Rattle.rule.specs.declared.Pair.{Pair}
 use Rattle.rule.specs.Pairs.{none, combine}
 use Rattle.rule.specs.Time.{overlaps}
 use Rattle.page.specs.declared.Head.{Head}
-use Rattle.page.specs.Layout.{number-of, start-at, pair-at, child-at}
-use Rattle.page.specs.Fit.{end-at, root-place, place-below, page-fit}
+use Rattle.page.specs.Layout.{entry-count, start-at, pair-at, child-at}
+use Rattle.page.specs.Fit.{end-at, root-context, context-below, page-fit}
 use Rattle.image.specs.Images.{page-at}
 use Rattle.image.specs.Listing as image
 use Rattle.image.specs.Listing.{nothing, under, walk, join}
 use Rattle.runs.specs.declared.Run.{Run}
 use Rattle.runs.specs.Open.{stepped-all, output-after-all}
-use Rattle.listing.specs.declared.Task.{Task}
-use Rattle.listing.specs.declared.Spot.{Spot}
-use Rattle.listing.specs.declared.Opened.{Opened}
-use Rattle.listing.specs.declared.Opened.the-variants as opened
-use Rattle.listing.specs.declared.Walked.{Walked}
-use Rattle.listing.specs.declared.Walked.the-variants as walked
-use Rattle.listing.specs.declared.Counted.{Counted}
-use Rattle.listing.specs.declared.Counted.the-variants as counted
+use Rattle.listing.specs.declared.SpanQuery.{SpanQuery}
+use Rattle.listing.specs.declared.Cursor.{Cursor}
+use Rattle.listing.specs.declared.PageCheck.{PageCheck}
+use Rattle.listing.specs.declared.PageCheck.the-variants as opened
+use Rattle.listing.specs.declared.WalkAnswer.{WalkAnswer}
+use Rattle.listing.specs.declared.WalkAnswer.the-variants as walked
+use Rattle.listing.specs.declared.RunCount.{RunCount}
+use Rattle.listing.specs.declared.RunCount.the-variants as counted
 
 -- ---- the answers
 
 -- the open run after a walk, if every page that it met is fit
-unfoldable pub answer : Run → image.Walked → Walked
+unfoldable pub answer : Run → image.Walked → WalkAnswer
 answer run w = cond (w .fit) (walked.Fit (stepped-all run (w .runs))) walked.Unfit
 
 -- the output after a walk that writes, or only counts
@@ -37,7 +37,7 @@ unfoldable pub output : Bool → Run → image.Walked → List ℕ → List ℕ
 output writing run w out = cond writing (output-after-all run (w .runs) out) out
 
 -- What a walk w does from the open run on: its answer, and what it leaves of the output.
-pub record Does (writing : Bool) (run : Run) (w : image.Walked) (out : List ℕ) (r : Walked) (left : List ℕ) : Type 0 where
+pub record Does (writing : Bool) (run : Run) (w : image.Walked) (out : List ℕ) (r : WalkAnswer) (left : List ℕ) : Type 0 where
   pub answers : r ≡ answer run w
   pub writes : left ≡ output writing run w out
 
@@ -48,43 +48,43 @@ pub record Room (writing : Bool) (run : Run) (w : image.Walked) (out : List ℕ)
   pub room : writing ≡ true → 16 * stepped-all run (w .runs) .written ≤ length out
 
 -- the number of runs
-unfoldable pub count : image.Walked → Counted
+unfoldable pub count : image.Walked → RunCount
 count w = cond (w .fit) (counted.Runs (length (join (w .runs)))) counted.Unfit
 
 -- ---- a page
 
-abbrev pub bytes-at : List ℕ → Spot → List ℕ
+abbrev pub bytes-at : List ℕ → Cursor → List ℕ
 bytes-at img on = page-at 12 img (on .page)
 
 -- the walk from a page on
-unfoldable pub page-walk : List ℕ → Task → Spot → image.Walked
+unfoldable pub page-walk : List ℕ → SpanQuery → Cursor → image.Walked
 page-walk img q on =
     under (combine (q .head .kind)) (on .above)
     (walk 12 (q .head) img (q .a) (q .b) (on .at .level) (on .at) (on .page))
 
--- its number of entries, if it is fit
-unfoldable pub opened-at : List ℕ → Task → Spot → Opened
-opened-at img q on =
+-- its count of entries, if it is fit
+unfoldable pub page-check : List ℕ → SpanQuery → Cursor → PageCheck
+page-check img q on =
     let s = bytes-at img on in
-    cond (page-fit 12 (q .head) (on .at) s) (opened.Entries (number-of s)) opened.Unfit
+    cond (page-fit 12 (q .head) (on .at) s) (opened.Entries (entry-count s)) opened.Unfit
 
 -- ---- an entry
 
--- the root's spot: no entry is above it
-abbrev pub root-spot : Head → Spot
-root-spot h = record { at = root-place h; page = h .root; above = none }
+-- the root's cursor: no entry is above it
+abbrev pub root-cursor : Head → Cursor
+root-cursor h = record { at = root-context h; page = h .root; above = none }
 
--- the spot of the page below the i-th entry
-abbrev pub spot-below : Task → List ℕ → Spot → ℕ → Spot
-spot-below q s on i =
+-- the cursor of the page below the i-th entry
+abbrev pub cursor-below : SpanQuery → List ℕ → Cursor → ℕ → Cursor
+cursor-below q s on i =
     record {
-      at = place-below 12 s (on .at) i;
+      at = context-below 12 s (on .at) i;
       page = child-at 12 s i;
       above = combine (q .head .kind) (on .above) (pair-at 12 s i);
     }
 
 -- the i-th entry overlaps the span
-abbrev pub meets : Task → List ℕ → Spot → ℕ → Bool
+abbrev pub meets : SpanQuery → List ℕ → Cursor → ℕ → Bool
 meets q s on i = overlaps (q .a) (q .b) (start-at s i) (end-at s (on .at .hi) i)
 
 -- the walk of one leaf entry
@@ -92,10 +92,10 @@ abbrev pub one-run : ℕ → Pair → image.Walked
 one-run start pair = record { fit = true; runs = record { start = start; pair = pair } ∷ [] }
 
 -- the walk of the i-th entry, where it overlaps the span: a leaf entry's run, or the page below
-unfoldable pub entry-walk : List ℕ → Task → Spot → ℕ → image.Walked
+unfoldable pub entry-walk : List ℕ → SpanQuery → Cursor → ℕ → image.Walked
 entry-walk img q on i =
     let s = bytes-at img on in
-    let below = spot-below q s on i in
+    let below = cursor-below q s on i in
     cond (meets q s on i)
     (cond (eqb (on .at .level) 0) (one-run (max (q .a) (start-at s i)) (below .above)) (page-walk img q below))
     nothing

@@ -1,9 +1,9 @@
 // The entries that a walk meets.
-use crate::Spot;
-use crate::Task;
-use fit::places::end_at;
-use fit::places::place_below;
-use lent::pages::page_at;
+use crate::Cursor;
+use crate::SpanQuery;
+use access::pages::page_at;
+use fit::contexts::context_below;
+use fit::contexts::end_at;
 use page::at::child_at;
 use page::at::pair_at;
 use page::at::start_at;
@@ -13,8 +13,8 @@ use rule::time::overlaps;
 ghost use mathlib.Core.Path.{_≡_};
 ghost use Prim.Native.Nat.{_≤_, max};
 ghost use Rattle.page.specs.Layout.{start-at};
-ghost use Rattle.listing.specs.Sits.{Sits, Inside};
-ghost use Rattle.listing.specs.Walks.{bytes-at, meets, spot-below};
+ghost use Rattle.listing.specs.Cursors.{Valid-cursor, Valid-entry};
+ghost use Rattle.listing.specs.Walks.{bytes-at, meets, cursor-below};
 
 // The later of two instants.
 fn later(a: u32, b: u32) -> u32
@@ -24,9 +24,9 @@ fn later(a: u32, b: u32) -> u32
 }
 
 // Whether the i-th entry of a fit page overlaps the span: only such an entry counts.
-pub fn meets(img: &[u8], q: Task, on: Spot, i: usize) -> bool
-    requires { ⌜ Sits (now img) q on ⌝ }
-    requires { ⌜ Inside (now img) q on i ⌝ }
+pub fn meets(img: &[u8], q: SpanQuery, on: Cursor, i: usize) -> bool
+    requires { ⌜ Valid-cursor (now img) q on ⌝ }
+    requires { ⌜ Valid-entry (now img) q on i ⌝ }
     ensures { λ r. ⌜ r ≡ meets q (bytes-at (now (img .entry)) on) on i ⌝ }
 {
     let s = page_at(img, on.page);
@@ -34,35 +34,35 @@ pub fn meets(img: &[u8], q: Task, on: Spot, i: usize) -> bool
 }
 
 // Where the run of a leaf's i-th entry starts: the first run starts at a.
-pub fn run_start(img: &[u8], q: Task, on: Spot, i: usize) -> u32
-    requires { ⌜ Sits (now img) q on ⌝ }
-    requires { ⌜ Inside (now img) q on i ⌝ }
+pub fn run_start(img: &[u8], q: SpanQuery, on: Cursor, i: usize) -> u32
+    requires { ⌜ Valid-cursor (now img) q on ⌝ }
+    requires { ⌜ Valid-entry (now img) q on i ⌝ }
     ensures { λ r. ⌜ r ≡ max (q .a) (start-at (bytes-at (now (img .entry)) on) i) ⌝ }
 {
     later(q.a, start_at(page_at(img, on.page), i))
 }
 
 // The i-th entry's pair, combined with those above it.
-pub fn total_at(img: &[u8], q: Task, on: Spot, i: usize) -> Pair
-    requires { ⌜ Sits (now img) q on ⌝ }
-    requires { ⌜ Inside (now img) q on i ⌝ }
-    ensures { λ r. ⌜ r ≡ spot-below q (bytes-at (now (img .entry)) on) on i .above ⌝ }
+pub fn total_at(img: &[u8], q: SpanQuery, on: Cursor, i: usize) -> Pair
+    requires { ⌜ Valid-cursor (now img) q on ⌝ }
+    requires { ⌜ Valid-entry (now img) q on i ⌝ }
+    ensures { λ r. ⌜ r ≡ cursor-below q (bytes-at (now (img .entry)) on) on i .above ⌝ }
 {
     let above = on.above;
     combine(q.head.kind, above, pair_at(page_at(img, on.page), i))
 }
 
 // The page below the i-th entry of an inner page.
-pub fn spot_below(img: &[u8], q: Task, on: Spot, i: usize) -> Spot
-    requires { ⌜ Sits (now img) q on ⌝ }
-    requires { ⌜ Inside (now img) q on i ⌝ }
+pub fn cursor_below(img: &[u8], q: SpanQuery, on: Cursor, i: usize) -> Cursor
+    requires { ⌜ Valid-cursor (now img) q on ⌝ }
+    requires { ⌜ Valid-entry (now img) q on i ⌝ }
     requires { ⌜ 1 ≤ on .at .level ⌝ }
-    ensures { λ r. ⌜ r ≡ spot-below q (bytes-at (now (img .entry)) on) on i ⌝ }
+    ensures { λ r. ⌜ r ≡ cursor-below q (bytes-at (now (img .entry)) on) on i ⌝ }
 {
     let s = page_at(img, on.page);
     let at = on.at;
-    Spot {
-        at: place_below(s, at, i),
+    Cursor {
+        at: context_below(s, at, i),
         page: child_at(s, i),
         above: total_at(img, q, on, i),
     }

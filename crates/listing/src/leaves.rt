@@ -1,6 +1,6 @@
 // The leaves that a walk meets: no page below can be unfit, so the open run goes from entry to entry by value.
-use crate::Spot;
-use crate::Task;
+use crate::Cursor;
+use crate::SpanQuery;
 use crate::entries::meets;
 use crate::entries::run_start;
 use crate::entries::total_at;
@@ -9,10 +9,10 @@ use runs::Run;
 use runs::collector::collect;
 use runs::output::emit;
 ghost use mathlib.Core.Path.{_≡_};
-ghost use Rattle.listing.specs.Sits.{Sits, Inside};
-ghost use Rattle.listing.specs.Walks.{one-run, output, page-walk, entry-walk, opened-at, Room, Does};
-ghost use Rattle.listing.specs.declared.Opened.the-variants.{Entries};
-ghost use Rattle.listing.specs.declared.Walked.the-variants.{Fit};
+ghost use Rattle.listing.specs.Cursors.{Valid-cursor, Valid-entry};
+ghost use Rattle.listing.specs.Walks.{one-run, output, page-walk, entry-walk, page-check, Room, Does};
+ghost use Rattle.listing.specs.declared.PageCheck.the-variants.{Entries};
+ghost use Rattle.listing.specs.declared.WalkAnswer.the-variants.{Fit};
 
 // Writes the run that begins at a leaf entry, if the walk writes and one does.
 fn write_new(out: &mut [u8], writing: bool, run: Run, start: u32, pair: Pair)
@@ -35,9 +35,9 @@ fn run_met(out: &mut [u8], writing: bool, run: Run, start: u32, pair: Pair) -> R
 }
 
 // The i-th entry of a fit leaf.
-fn leaf_entry(img: &[u8], out: &mut [u8], q: Task, on: Spot, i: usize, run: Run) -> Run
-    requires { ⌜ Sits (now img) q on ⌝ }
-    requires { ⌜ Inside (now img) q on i ⌝ }
+fn leaf_entry(img: &[u8], out: &mut [u8], q: SpanQuery, on: Cursor, i: usize, run: Run) -> Run
+    requires { ⌜ Valid-cursor (now img) q on ⌝ }
+    requires { ⌜ Valid-entry (now img) q on i ⌝ }
     requires { ⌜ on .at .level ≡ 0 ⌝ }
     requires { ⌜ Room (q .writing) run (entry-walk (now img) q on i) (now out) ⌝ }
     ensures { λ r. ⌜ Does (q .writing) run (entry-walk (now (img .entry)) q on i) (now (out .entry)) (Fit r) (now (out .exit)) ⌝ }
@@ -55,9 +55,9 @@ fn leaf_entry(img: &[u8], out: &mut [u8], q: Task, on: Spot, i: usize, run: Run)
 }
 
 // The n entries of a fit leaf in turn.
-pub fn leaf_page(img: &[u8], out: &mut [u8], q: Task, on: Spot, n: usize, run: Run) -> Run
-    requires { ⌜ Sits (now img) q on ⌝ }
-    requires { ⌜ Entries n ≡ opened-at (now img) q on ⌝ }
+pub fn leaf_page(img: &[u8], out: &mut [u8], q: SpanQuery, on: Cursor, n: usize, run: Run) -> Run
+    requires { ⌜ Valid-cursor (now img) q on ⌝ }
+    requires { ⌜ Entries n ≡ page-check (now img) q on ⌝ }
     requires { ⌜ on .at .level ≡ 0 ⌝ }
     requires { ⌜ Room (q .writing) run (page-walk (now img) q on) (now out) ⌝ }
     ensures { λ r. ⌜ Does (q .writing) run (page-walk (now (img .entry)) q on) (now (out .entry)) (Fit r) (now (out .exit)) ⌝ }

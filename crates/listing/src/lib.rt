@@ -1,6 +1,6 @@
 // The walk of a span listing. Document 01, "Span listing".
 use page::Head;
-use page::Place;
+use page::PageContext;
 use rule::Pair;
 use runs::Run;
 
@@ -11,34 +11,34 @@ pub mod passes;
 pub mod walks;
 
 // What is listed: the span [a, b) of an image with this head; and whether runs are written or only counted.
-pub struct Task {
+pub struct SpanQuery {
     pub head: Head,
     pub a: u32,
     pub b: u32,
     pub writing: bool,
 }
 
-// Where the walk stands: a page, its place, and the pair that the entries above it combine to.
-pub struct Spot {
-    pub at: Place,
+// Where the walk stands: a page, its context, and the pair that the entries above it combine to.
+pub struct Cursor {
+    pub at: PageContext,
     pub page: u32,
     pub above: Pair,
 }
 
-// A page's number of entries, or that it is unfit.
-pub enum Opened {
+// A page's count of entries, or that it is unfit.
+pub enum PageCheck {
     Entries(usize),
     Unfit,
 }
 
 // The open run after a walk, or that a page was unfit.
-pub enum Walked {
+pub enum WalkAnswer {
     Fit(Run),
     Unfit,
 }
 
 // The number of runs, or that a page was unfit.
-pub enum Counted {
+pub enum RunCount {
     Runs(u32),
     Unfit,
 }

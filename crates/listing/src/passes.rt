@@ -1,10 +1,10 @@
 // The two passes: nothing may be written before it is known that every page met is fit and that the runs have room.
-use crate::Counted;
-use crate::Spot;
-use crate::Task;
-use crate::Walked;
+use crate::Cursor;
+use crate::RunCount;
+use crate::SpanQuery;
+use crate::WalkAnswer;
 use crate::walks::walk_page;
-use fit::places::root_place;
+use fit::contexts::root_context;
 use page::Head;
 use rule::Pair;
 use runs::Run;
@@ -13,21 +13,21 @@ ghost use mathlib.Core.Bool.{true};
 ghost use Prim.Native.Nat.{_*_, _≤_};
 ghost use lib.ListN.{length};
 ghost use Rattle.fields.specs.Bytes.{patch};
-ghost use Rattle.lists.specs.Lists.{joined};
+ghost use Rattle.lists.specs.Lists.{concat-map};
 ghost use Rattle.image.specs.Listing.{walk-over, join, run-bytes};
 ghost use Rattle.runs.specs.Open.{no-run};
-ghost use Rattle.lent.specs.Opened.{Opened};
+ghost use Rattle.access.specs.Access.{Open-image};
 ghost use Rattle.listing.specs.Walks.{count, Room, Does};
 
 // The walk from the root, before any run.
-fn walk_root(img: &[u8], out: &mut [u8], q: Task) -> Walked
-    requires { ⌜ Opened (now img) (q .head) ⌝ }
+fn walk_root(img: &[u8], out: &mut [u8], q: SpanQuery) -> WalkAnswer
+    requires { ⌜ Open-image (now img) (q .head) ⌝ }
     requires { ⌜ Room (q .writing) no-run (walk-over 12 (now img) (q .a) (q .b)) (now out) ⌝ }
     ensures { λ r. ⌜ Does (q .writing) no-run (walk-over 12 (now (img .entry)) (q .a) (q .b)) (now (out .entry)) r (now (out .exit)) ⌝ }
 {
     let none = Pair { sum: 0, count: 0 };
-    let root = Spot {
-        at: root_place(q.head),
+    let root = Cursor {
+        at: root_context(q.head),
         page: q.head.root,
         above: none,
     };
@@ -40,31 +40,31 @@ fn walk_root(img: &[u8], out: &mut [u8], q: Task) -> Walked
 }
 
 // The first pass: the number of runs over [a, b), unless a page that the walk meets is unfit.
-pub fn count_runs(img: &[u8], h: Head, a: u32, b: u32) -> Counted
-    requires { ⌜ Opened (now img) h ⌝ }
+pub fn count_runs(img: &[u8], h: Head, a: u32, b: u32) -> RunCount
+    requires { ⌜ Open-image (now img) h ⌝ }
     ensures { λ r. ⌜ r ≡ count (walk-over 12 (now (img .entry)) a b) ⌝ }
 {
     let mut unwritten = [0u8; 1];
-    let q = Task {
+    let q = SpanQuery {
         head: h,
         a: a,
         b: b,
         writing: false,
     };
-    let Walked::Fit(last) = walk_root(img, &mut unwritten, q) else {
-        return Counted::Unfit;
+    let WalkAnswer::Fit(last) = walk_root(img, &mut unwritten, q) else {
+        return RunCount::Unfit;
     };
-    Counted::Runs(last.written)
+    RunCount::Runs(last.written)
 }
 
 // The second pass: the runs over [a, b) are written from the output's first byte on.
 pub fn write_runs(img: &[u8], h: Head, a: u32, b: u32, out: &mut [u8])
-    requires { ⌜ Opened (now img) h ⌝ }
+    requires { ⌜ Open-image (now img) h ⌝ }
     requires { ⌜ walk-over 12 (now img) a b .fit ≡ true ⌝ }
     requires { ⌜ 16 * length (join (walk-over 12 (now img) a b .runs)) ≤ length (now out) ⌝ }
-    ensures { λ _. ⌜ now (out .exit) ≡ patch (now (out .entry)) 0 (joined run-bytes (join (walk-over 12 (now (img .entry)) a b .runs))) ⌝ }
+    ensures { λ _. ⌜ now (out .exit) ≡ patch (now (out .entry)) 0 (concat-map run-bytes (join (walk-over 12 (now (img .entry)) a b .runs))) ⌝ }
 {
-    let q = Task {
+    let q = SpanQuery {
         head: h,
         a: a,
         b: b,

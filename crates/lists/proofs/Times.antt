@@ -7,9 +7,9 @@ use Prim.Native.Nat.{ℕ, zero, suc, _+_, _≤_, _<_}
 use native.Mathlib.Omega.{arith}
 use native.Mathlib.Decide.{ℕ-discrete}
 use lib.ListN.{length}
-use Rattle.lists.specs.Lists.{listed, joined, hit, times, sum, total, all-of}
+use Rattle.lists.specs.Lists.{listed, concat-map, hit, times, sum, total, all-of}
 use Rattle.lists.proofs.Totals.{total-add, total-most, total-zeros, total-ones, all-ones, total-one, hit-same, hit-other}
-use Rattle.lists.proofs.Joined.{joined-more}
+use Rattle.lists.proofs.Concat.{concat-map-more}
 
 pub times-none : (p : ℕ) → times p [] ≡ 0
 unfolding times
@@ -38,11 +38,11 @@ times-is p (q ∷ qs) = ap (λ n. hit p q + n) (times-is p qs)
 
 -- ---- in lists one behind another
 
-pub times-joined : {A : Type 0} (f : A → List ℕ) (g : ℕ → A) (n p : ℕ) → times p (joined f (listed n g)) ≡ total n (λ i. times p (f (g i)))
-unfolding joined listed times total
-times-joined f g zero p = refl
-times-joined f g (suc n) p =
-    omega (arith, ap (times p) (joined-more f g n), times-append p (joined f (listed n g)) (f (g n)), times-joined f g n p)
+pub times-concat-map : {A : Type 0} (f : A → List ℕ) (g : ℕ → A) (n p : ℕ) → times p (concat-map f (listed n g)) ≡ total n (λ i. times p (f (g i)))
+unfolding concat-map listed times total
+times-concat-map f g zero p = refl
+times-concat-map f g (suc n) p =
+    omega (arith, ap (times p) (concat-map-more f g n), times-append p (concat-map f (listed n g)) (f (g n)), times-concat-map f g n p)
 
 -- ---- the counting argument
 

@@ -11,9 +11,9 @@ listed zero f = []
 listed (suc n) f = listed n f ++ (f n ∷ [])
 
 -- f of each element, one list behind another
-unfoldable pub joined : {A : Type 0} → (A → List ℕ) → List A → List ℕ
-joined f [] = []
-joined f (x ∷ xs) = f x ++ joined f xs
+unfoldable pub concat-map : {A : Type 0} → (A → List ℕ) → List A → List ℕ
+concat-map f [] = []
+concat-map f (x ∷ xs) = f x ++ concat-map f xs
 
 -- xs in the place of the i-th element
 unfoldable pub splice : {A : Type 0} → ℕ → List A → List A → List A

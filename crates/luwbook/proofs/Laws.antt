@@ -20,36 +20,36 @@ use Rattle.calls.specs.Calls.{listing}
 use Rattle.print.specs.Written.{Put}
 use Rattle.print.proofs.Laws.Puts.{put-length}
 use Rattle.program.specs.declared.Reading.{Reading}
-use Rattle.program.specs.Going.{Going, at-first, unwritten, goes-on, ended, listed-text}
-use Rattle.program.specs.Shows.{Shows, Goes, Begins, Turns}
+use Rattle.program.specs.State.{Program-state, at-first, unwritten, after-bytes, ended, listed-text}
+use Rattle.program.specs.Simulation.{Simulates, Simulates-step, Begins, Flushes}
 use Rattle.luwbook.specs.declared.Progress.{Progress}
 use Rattle.luwbook.specs.Reached.{Reached, first, next, Printed, by-runs, Stands, Standing, Ran, Takes, Well}
 
 -- before the first byte
 pub begun : {r : Reading} {img : List ℕ} → Begins r → img ≡ at-first 12 64 .image → Standing r img
 begun {r} {img} b e =
-    let shows : Shows [] 0 (at-first 12 64) r img [] = subst⁻¹ (λ x. Shows [] 0 (at-first 12 64) r x []) e (b []) in
+    let shows : Simulates [] 0 (at-first 12 64) r img [] = subst⁻¹ (λ x. Simulates [] 0 (at-first 12 64) r x []) e (b []) in
     record { going = at-first 12 64; reached = first; stands = record { had = []; from = 0; out = []; shows = shows } }
 
 -- ---- what is printed
 
 put-room : {had bs out : List ℕ} {n : ℕ} → Put had 0 bs out n → n ≤ length out
-put-room p = omega (arith, p .place, p .room, put-length p)
+put-room p = omega (arith, p .offset, p .room, put-length p)
 
 put-first : {had bs out : List ℕ} {n : ℕ} → Put had 0 bs out n → take n out ≡ bs
 unfolding part
-put-first {had} {bs} {out} {n} p = ap (λ o. take n o) (p .written) ∙ part-patch-same had 0 bs n (omega (arith, p .place)) (omega arith)
+put-first {had} {bs} {out} {n} p = ap (λ o. take n o) (p .written) ∙ part-patch-same had 0 bs n (omega (arith, p .offset)) (omega arith)
 
 -- nothing takes no place
 pub put-none : {had bs out : List ℕ} {n : ℕ} → Put had 0 bs out n → bs ≡ [] → n ≡ 0
-put-none p e = omega (arith, p .place, ap length e)
+put-none p e = omega (arith, p .offset, ap length e)
 
 -- the output's first bytes may be written
 pub writable : {had bs out : List ℕ} {n : ℕ} → Put had 0 bs out n → Printed bs → (n ≤ length out) × Printed (take n out)
 writable p q = (put-room p, subst⁻¹ Printed (put-first p) q)
 
 -- and so the runs, of the image behind the last line
-pub runs-writable : {g : Going} {img out after : List ℕ} {n : ℕ} (list : List ℕ) → Reached g
+pub runs-writable : {g : Program-state} {img out after : List ℕ} {n : ℕ} (list : List ℕ) → Reached g
     → img ≡ ended 12 64 (unwritten g) .image → length list ≡ 22656
     → Put out 0 (listed-text (listing 12 0 END img list)) after n → (n ≤ length after) × Printed (take n after)
 runs-writable list reached e l p =
@@ -57,19 +57,19 @@ runs-writable list reached e l p =
 
 -- ---- a step of the program, in an output that is empty again
 
-module _ {step : Going → Going} {r f q : Reading} {img out after left : List ℕ} (t : Turns r f) (ran : Goes step f img out q after left) where
-  pub shown : {g : Going} → Stands g r img → Shows out 0 (step (unwritten g)) q after left
+module _ {step : Program-state → Program-state} {r f q : Reading} {img out after left : List ℕ} (t : Flushes r f) (ran : Simulates-step step f img out q after left) where
+  pub shown : {g : Program-state} → Stands g r img → Simulates out 0 (step (unwritten g)) q after left
   shown {g} s = ran out 0 (unwritten g) (t (s .had) (s .from) g img (s .out) out (s .shows))
 
-  pub stood : {g : Going} → Stands g r img → Stands (step (unwritten g)) q after
+  pub stood : {g : Program-state} → Stands g r img → Stands (step (unwritten g)) q after
   stood s = record { had = out; from = 0; out = left; shows = shown s }
 
 -- ---- a piece
 
 -- a piece was run, and its writing went well or not: well, where there was nothing to write
 pub ran-written : {piece : List ℕ} {r q : Reading} {img after : List ℕ} (w : Bool)
-    → ((g : Going) → Stands g r img → Stands (goes-on 12 64 piece (unwritten g)) q after)
-    → ((g : Going) → Stands g r img → goes-on 12 64 piece (unwritten g) .written ≡ [] → w ≡ true)
+    → ((g : Program-state) → Stands g r img → Stands (after-bytes 12 64 piece (unwritten g)) q after)
+    → ((g : Program-state) → Stands g r img → after-bytes 12 64 piece (unwritten g) .written ≡ [] → w ≡ true)
     → Ran piece r img (record { reading = q; more = w; failed = not w }) after
 ran-written true f n = record { either = refl; runs = λ e. f; silent = λ l. n }
 ran-written false f n = record { either = refl; runs = λ e. f; silent = λ l. n }
@@ -122,7 +122,7 @@ module _ (bytes : List ℕ) (r : Reading) (img : List ℕ) {p : Progress} where
   takes-well after (pos (suc k)) t s = record {
     sure = λ m. not-true (p .failed) (sym (t .either) ∙ m);
     standing = λ f. record {
-      going = goes-on 12 64 (take (suc k) bytes) (unwritten (s .going));
+      going = after-bytes 12 64 (take (suc k) bytes) (unwritten (s .going));
       reached = next (s .reached) (take (suc k) bytes);
       stands = t .runs (t .either ∙ ap not f) (s .going) (s .stands);
     };

@@ -12,7 +12,7 @@ use Rattle.luwhenoka.specs.declared.ListingAnswer.{ListingAnswer}
 
 -- the numbers of an instant call's answer
 unfoldable pub instant-answer : Instant → InstantAnswer
-instant-answer r = record { number = r .number; pages = r .pages; sum = r .pair .sum; count = r .pair .count }
+instant-answer r = record { status = r .status; pages = r .pages; sum = r .pair .sum; count = r .pair .count }
 
 -- its pair
 abbrev pub pair-of : InstantAnswer → Pair
@@ -20,13 +20,13 @@ pair-of r = record { sum = r .sum; count = r .count }
 
 -- case by case: no average, one in hundredths, a sum that no fit page can show
 unfoldable pub average-answer : ℕ → Average → AverageAnswer
-average-answer number Nothing = record { number = number; answer = 0; hundredths = pos 0 }
-average-answer number (Hundredths x) = record { number = number; answer = 1; hundredths = x }
-average-answer number Beyond = record { number = number; answer = 2; hundredths = pos 0 }
+average-answer number Nothing = record { status = number; answer = 0; hundredths = pos 0 }
+average-answer number (Hundredths x) = record { status = number; answer = 1; hundredths = x }
+average-answer number Beyond = record { status = number; answer = 2; hundredths = pos 0 }
 
 unfoldable pub averaged-answer : Averaged → AverageAnswer
-averaged-answer r = average-answer (r .number) (r .average)
+averaged-answer r = average-answer (r .status) (r .average)
 
--- What a listing leaves: the number, the number of runs, and the output's bytes.
+-- What a listing leaves: the status, the number of runs, and the output's bytes.
 unfoldable pub listed : ListingAnswer → List ℕ → Listed
-listed r out = record { number = r .number; runs = r .runs; output = out }
+listed r out = record { status = r .status; runs = r .runs; output = out }

@@ -1,5 +1,5 @@
 -- What each call promises, by name: the contracts of the functions that C gets are these; crate `promises` ties the demands to them.
--- Each says of a call which definition its number, its answer and every byte that it was lent are equal to. Assumes nothing.
+-- Each says of a call which definition its status, its answer and every byte that it was lent are equal to. Assumes nothing.
 use Prim.Native.Nat.{ℕ}
 use mathlib.Core.Path.{_≡_}
 use mathlib.Core.List.{List}
@@ -14,11 +14,11 @@ use Rattle.luwhenoka.specs.Answers.{instant-answer, average-answer, aver
 
 -- format of an image returned r and left it as `after`
 abbrev pub Formats : ℕ → ℕ → List ℕ → ℕ → List ℕ → Type 0
-Formats kind window img r after = record { number = r; image = after } ≡ format 12 kind window img
+Formats kind window img r after = record { status = r; image = after } ≡ format 12 kind window img
 
 -- enter or withdraw of v on [s, e), with image and scratch before and after
 abbrev pub Books : Side → ℤ → ℕ → ℕ → List ℕ → List ℕ → ℕ → List ℕ → List ℕ → Type 0
-Books side v s e img scratch r after left = record { number = r; image = after; scratch = left } ≡ book 12 side v s e img scratch
+Books side v s e img scratch r after left = record { status = r; image = after; scratch = left } ≡ book 12 side v s e img scratch
 
 -- instant
 abbrev pub Answers : ℕ → List ℕ → InstantAnswer → Type 0
@@ -38,4 +38,4 @@ Lists a b img out r after = listed r after ≡ listing 12 a b img out
 
 -- audit, with the scratch before and after
 abbrev pub Audits : List ℕ → List ℕ → ℕ → List ℕ → Type 0
-Audits img scratch r after = record { number = r; scratch = after } ≡ audit 12 img scratch
+Audits img scratch r after = record { status = r; scratch = after } ≡ audit 12 img scratch

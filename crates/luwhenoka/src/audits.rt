@@ -1,11 +1,11 @@
 // Is an image sound?
+use access::lengths::length_fits;
 use audit::verdict::sound;
 use calls::refusals::ACCEPTED;
 use calls::refusals::IMAGE_LENGTH;
 use calls::refusals::SCRATCH_SHORT;
 use calls::refusals::UNSOUND;
 use fields::fill::fill;
-use lent::lengths::length_fits;
 use page::layout::PAGE_BYTES;
 ghost use Rattle.luwhenoka.specs.Promises.{Audits};
 

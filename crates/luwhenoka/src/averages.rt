@@ -4,8 +4,8 @@ use crate::BEYOND;
 use crate::IN_HUNDREDTHS;
 use crate::NO_AVERAGE;
 use crate::instants::luw_instant;
+use access::pages::page_at;
 use calls::refusals::ACCEPTED;
-use lent::pages::page_at;
 use page::heads::read_head;
 use rule::Average;
 use rule::Pair;
@@ -23,17 +23,17 @@ fn in_numbers(a: Average) -> AverageAnswer
 {
     match a {
         Average::Nothing => AverageAnswer {
-            number: ACCEPTED,
+            status: ACCEPTED,
             answer: NO_AVERAGE,
             hundredths: 0,
         },
         Average::Hundredths(x) => AverageAnswer {
-            number: ACCEPTED,
+            status: ACCEPTED,
             answer: IN_HUNDREDTHS,
             hundredths: x,
         },
         Average::Beyond => AverageAnswer {
-            number: ACCEPTED,
+            status: ACCEPTED,
             answer: BEYOND,
             hundredths: 0,
         },
@@ -68,11 +68,11 @@ pub extern "C" fn luw_average(img: &[u8], t: u32) -> AverageAnswer
     ensures { λ r. ⌜ Averages t (now (img .entry)) r ⌝ }
 {
     let r = luw_instant(img, t);
-    if r.number == ACCEPTED {
+    if r.status == ACCEPTED {
         return luw_average_of(kind_of(img), r.sum, r.count);
     }
     AverageAnswer {
-        number: r.number,
+        status: r.status,
         answer: NO_AVERAGE,
         hundredths: 0,
     }

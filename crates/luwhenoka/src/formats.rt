@@ -1,9 +1,9 @@
 // A fresh index in an image of any bytes.
+use access::fresh::write_fresh;
+use access::lengths::length_fits;
 use calls::refusals::ACCEPTED;
 use calls::refusals::IMAGE_LENGTH;
 use calls::refusals::KIND_OR_WINDOW;
-use format::fresh::write_fresh;
-use lent::lengths::length_fits;
 use rule::time::kind_ok;
 use rule::time::window_ok;
 ghost use Rattle.luwhenoka.specs.Promises.{Formats};

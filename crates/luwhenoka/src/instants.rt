@@ -1,13 +1,13 @@
 // "An instant's answer combines the pairs on its way from root to leaf."
 use crate::InstantAnswer;
+use access::HeadCheck;
+use access::heads::open_head;
+use access::lengths::length_fits;
 use calls::refusals::ACCEPTED;
 use calls::refusals::IMAGE_LENGTH;
 use calls::refusals::INSTANT_END;
 use calls::refusals::UNSOUND;
-use lent::Opening;
-use lent::heads::open_head;
-use lent::lengths::length_fits;
-use lookup::Looked;
+use lookup::LookupAnswer;
 use lookup::look_up::look_up;
 use rule::Pair;
 use rule::limits::END;
@@ -17,11 +17,11 @@ ghost use Rattle.luwhenoka.specs.Answers.{instant-answer};
 ghost use Rattle.luwhenoka.specs.Promises.{Answers};
 
 // "A refusal returns its number and zeros (instant: the pages read too)."
-fn refused(number: u32, pages: u32) -> InstantAnswer
-    ensures { λ r. ⌜ r ≡ instant-answer (record { number = number; pair = none; pages = pages }) ⌝ }
+fn refused(status: u32, pages: u32) -> InstantAnswer
+    ensures { λ r. ⌜ r ≡ instant-answer (record { status = status; pair = none; pages = pages }) ⌝ }
 {
     InstantAnswer {
-        number: number,
+        status: status,
         pages: pages,
         sum: 0,
         count: 0,
@@ -29,10 +29,10 @@ fn refused(number: u32, pages: u32) -> InstantAnswer
 }
 
 fn accepted(pair: Pair, pages: u32) -> InstantAnswer
-    ensures { λ r. ⌜ r ≡ instant-answer (record { number = 0; pair = pair; pages = pages }) ⌝ }
+    ensures { λ r. ⌜ r ≡ instant-answer (record { status = 0; pair = pair; pages = pages }) ⌝ }
 {
     InstantAnswer {
-        number: ACCEPTED,
+        status: ACCEPTED,
         pages: pages,
         sum: pair.sum,
         count: pair.count,
@@ -50,11 +50,11 @@ pub extern "C" fn luw_instant(img: &[u8], t: u32) -> InstantAnswer
     if t == END {
         return refused(INSTANT_END, 0);
     }
-    let Opening::Fit(h) = open_head(img) else {
+    let HeadCheck::Fit(h) = open_head(img) else {
         return refused(UNSOUND, 0);
     };
     match look_up(img, h, t) {
-        Looked::Answered(pair, pages) => accepted(pair, pages),
-        Looked::Unfit(pages) => refused(UNSOUND, pages),
+        LookupAnswer::Answered(pair, pages) => accepted(pair, pages),
+        LookupAnswer::Unfit(pages) => refused(UNSOUND, pages),
     }
 }

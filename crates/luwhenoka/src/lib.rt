@@ -1,5 +1,5 @@
 // The calls of document 01, as C and Rust get them: numbers, byte slices, and small structs of numbers by value. Each takes
-// anything, and its contract says the number returned, the answer, and every byte of what was lent.
+// anything, and its contract says the status returned, the answer, and every byte of what was lent.
 pub mod audits;
 pub mod averages;
 pub mod bookings;
@@ -7,10 +7,10 @@ pub mod formats;
 pub mod instants;
 pub mod listings;
 
-// Document 01's number, with the pair and the pages read.
+// The status, document 01's number, with the pair and the pages read.
 #[repr(C)]
 pub struct InstantAnswer {
-    pub number: u32,
+    pub status: u32,
     pub pages: u32,
     pub sum: i64,
     pub count: i32,
@@ -23,17 +23,17 @@ pub const IN_HUNDREDTHS: u32 = 1;
 
 pub const BEYOND: u32 = 2;
 
-// Document 01's number; 0 for no average, 1 for one in hundredths, 2 for a sum that no fit page can show.
+// The status, document 01's number; 0 for no average, 1 for one in hundredths, 2 for a sum that no fit page can show.
 #[repr(C)]
 pub struct AverageAnswer {
-    pub number: u32,
+    pub status: u32,
     pub answer: u32,
     pub hundredths: i64,
 }
 
-// Document 01's number, with the number of runs.
+// The status, document 01's number, with the number of runs.
 #[repr(C)]
 pub struct ListingAnswer {
-    pub number: u32,
+    pub status: u32,
     pub runs: u32,
 }

@@ -1,25 +1,25 @@
 // "Runs over [a, b), the first starting at a: joined as long as the pair is equal".
 use crate::ListingAnswer;
+use access::HeadCheck;
+use access::heads::open_head;
+use access::lengths::length_fits;
 use calls::refusals::ACCEPTED;
 use calls::refusals::IMAGE_LENGTH;
 use calls::refusals::OUTPUT_SHORT;
 use calls::refusals::SPAN_EMPTY;
 use calls::refusals::UNSOUND;
-use lent::Opening;
-use lent::heads::open_head;
-use lent::lengths::length_fits;
-use listing::Counted;
+use listing::RunCount;
 use listing::passes::count_runs;
 use listing::passes::write_runs;
 use runs::RUN_BYTES;
 ghost use mathlib.Core.Path.{_≡_};
 ghost use Rattle.luwhenoka.specs.Promises.{Lists};
 
-fn refused(number: u32) -> ListingAnswer
-    ensures { λ r. ⌜ r ≡ record { number = number; runs = 0 } ⌝ }
+fn refused(status: u32) -> ListingAnswer
+    ensures { λ r. ⌜ r ≡ record { status = status; runs = 0 } ⌝ }
 {
     ListingAnswer {
-        number: number,
+        status: status,
         runs: 0,
     }
 }
@@ -36,10 +36,10 @@ pub extern "C" fn luw_listing(img: &[u8], a: u32, b: u32, out: &mut [u8]) -> Lis
     if b <= a {
         return refused(SPAN_EMPTY);
     }
-    let Opening::Fit(h) = open_head(img) else {
+    let HeadCheck::Fit(h) = open_head(img) else {
         return refused(UNSOUND);
     };
-    let Counted::Runs(runs) = count_runs(img, h, a, b) else {
+    let RunCount::Runs(runs) = count_runs(img, h, a, b) else {
         return refused(UNSOUND);
     };
     if out.len() / RUN_BYTES < runs as usize {
@@ -47,7 +47,7 @@ pub extern "C" fn luw_listing(img: &[u8], a: u32, b: u32, out: &mut [u8]) -> Lis
     }
     write_runs(img, h, a, b, out);
     ListingAnswer {
-        number: ACCEPTED,
+        status: ACCEPTED,
         runs: runs,
     }
 }

@@ -2,10 +2,10 @@
 use Prim.Native.Nat.{ℕ}
 use Rattle.calls.specs.Program.{onto-first, cut-at, without-empty-last, lines-of, all-digits, number-read, number-from, instant-read, value-read, value-from, line-with, signed-line, line-from, decimal-in, decimal, integer, two-decimals, average-text, refused-text, unread-text, run-text, runs-text, ran-line, ran-lines, program}
 use Rattle.calls.proofs.Opened.{every-call}
-use Rattle.marks.specs.Marks.{formatted, number, after, pair-of, told, full-listing, root-entries, one-booking, withdrawn, greatest-booking, in-a-row, example}
-use Rattle.marks.specs.Cases.{with-byte, step, small, grown-root, shrunk-again, again, hurt-leaf, unhealed, hurt-root, split-below, given-left, given-right, joined-right}
+use Rattle.marks.specs.Marks.{formatted, status, after, pair-of, status-and-pair, full-listing, root-entries, one-booking, withdrawn, greatest-booking, in-a-row, example}
+use Rattle.marks.specs.Cases.{with-byte, step, small, grown-root, collapsed-again, again, hurt-leaf, unhealed, hurt-root, split-below, redistributed-left, redistributed-right, merged-right}
 
 -- To name this on an `unfolding` line is to open them all.
 unfoldable pub all-definitions : ℕ
-unfolding every-call formatted number after pair-of told full-listing root-entries one-booking withdrawn greatest-booking in-a-row example with-byte step small grown-root shrunk-again again hurt-leaf unhealed hurt-root split-below given-left given-right joined-right onto-first cut-at without-empty-last lines-of all-digits number-read number-from instant-read value-read value-from line-with signed-line line-from decimal-in decimal integer two-decimals average-text refused-text unread-text run-text runs-text ran-line ran-lines program
+unfolding every-call formatted status after pair-of status-and-pair full-listing root-entries one-booking withdrawn greatest-booking in-a-row example with-byte step small grown-root collapsed-again again hurt-leaf unhealed hurt-root split-below redistributed-left redistributed-right merged-right onto-first cut-at without-empty-last lines-of all-digits number-read number-from instant-read value-read value-from line-with signed-line line-from decimal-in decimal integer two-decimals average-text refused-text unread-text run-text runs-text ran-line ran-lines program
 all-definitions = 0

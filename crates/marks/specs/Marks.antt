@@ -12,7 +12,7 @@ use Rattle.rule.specs.Pairs.{pair, none}
 use Rattle.rule.specs.Averages.{average}
 use Rattle.image.specs.Images.{pages-in, page-at}
 use Rattle.image.specs.Listing.{Run, run}
-use Rattle.page.specs.Layout.{number-of}
+use Rattle.page.specs.Layout.{entry-count}
 use Rattle.calls.specs.Changes.{Side, entering, withdrawing}
 use Rattle.calls.specs.Calls.{head, format, book, instant, runs-over}
 
@@ -24,9 +24,9 @@ half = 12
 unfoldable pub formatted : ℕ → ℕ → ℕ → List ℕ
 formatted n kind window = format half kind window (replicate (512 * n) 0) .image
 
--- the number of a booking on an image, with a scratch of one byte a page, and the image that it leaves
-unfoldable pub number : Side → ℤ → ℕ → ℕ → List ℕ → ℕ
-number side v s e img = book half side v s e img (replicate (pages-in half img) 7) .number
+-- the status of a booking on an image, with a scratch of one byte a page, and the image that it leaves
+unfoldable pub status : Side → ℤ → ℕ → ℕ → List ℕ → ℕ
+status side v s e img = book half side v s e img (replicate (pages-in half img) 7) .status
 
 unfoldable pub after : Side → ℤ → ℕ → ℕ → List ℕ → List ℕ
 after side v s e img = book half side v s e img (replicate (pages-in half img) 7) .image
@@ -34,16 +34,16 @@ after side v s e img = book half side v s e img (replicate (pages-in half img) 7
 unfoldable pub pair-of : ℕ → List ℕ → Pair
 pair-of t img = instant half t img .pair
 
--- the number of an instant call with it: a refusal has (0, 0) too
-unfoldable pub told : ℕ → List ℕ → ℕ × Pair
-told t img = (instant half t img .number, pair-of t img)
+-- the status of an instant call with it: a refusal has (0, 0) too
+unfoldable pub status-and-pair : ℕ → List ℕ → ℕ × Pair
+status-and-pair t img = (instant half t img .status, pair-of t img)
 
 unfoldable pub full-listing : List ℕ → List Run
 full-listing img = runs-over half 0 END img
 
 -- how many entries the root has
 unfoldable pub root-entries : List ℕ → ℕ
-root-entries img = number-of (page-at half img (head half img .root))
+root-entries img = entry-count (page-at half img (head half img .root))
 
 -- "Enter 6 on [10, 40)" and "Then withdraw it", on a fresh image of four pages
 unfoldable pub one-booking : List ℕ
@@ -68,34 +68,34 @@ example =
 
 pub record Marks : Type 0 where
   -- * "Fresh: instant 0 gives (0, 0), 1 page read."
-  pub fresh : instant half 0 (formatted 64 1 0) ≡ record { number = 0; pair = none; pages = 1 }
+  pub fresh : instant half 0 (formatted 64 1 0) ≡ record { status = 0; pair = none; pages = 1 }
   -- * "Enter 6 on [10, 40): instant 9 (0, 0); * 10 and 39 (6, 1); * 40 (0, 0)."
-  pub enters : number entering (pos 6) 10 40 (formatted 64 1 0) ≡ 0
-  pub before : told 9 one-booking ≡ (0, none)
-  pub at-start : told 10 one-booking ≡ (0, pair (pos 6) (pos 1))
-  pub at-end : told 39 one-booking ≡ (0, pair (pos 6) (pos 1))
-  pub behind : told 40 one-booking ≡ (0, none)
+  pub enters : status entering (pos 6) 10 40 (formatted 64 1 0) ≡ 0
+  pub before : status-and-pair 9 one-booking ≡ (0, none)
+  pub at-start : status-and-pair 10 one-booking ≡ (0, pair (pos 6) (pos 1))
+  pub at-end : status-and-pair 39 one-booking ≡ (0, pair (pos 6) (pos 1))
+  pub behind : status-and-pair 40 one-booking ≡ (0, none)
   -- * "Then withdraw it: one run, one leaf entry."
-  pub withdraws : number withdrawing (pos 6) 10 40 one-booking ≡ 0
+  pub withdraws : status withdrawing (pos 6) 10 40 one-booking ≡ 0
   pub one-run : full-listing withdrawn ≡ run 0 none ∷ []
   pub one-entry : root-entries withdrawn ≡ 1
   -- * "1,000,000 passes, * 1,000,001 gives 13. * [5, 5) gives 11 even with a value too large. [0, END) needs no cut."
-  pub passes : number entering (pos 1000000) 10 40 (formatted 2 1 0) ≡ 0
-  pub too-large : number entering (pos 1000001) 10 40 (formatted 2 1 0) ≡ 13
-  pub too-small : number entering (negsuc 1000000) 10 40 (formatted 2 1 0) ≡ 13
-  pub empty-span : number entering (pos 1000001) 5 5 (formatted 2 1 0) ≡ 11
+  pub passes : status entering (pos 1000000) 10 40 (formatted 2 1 0) ≡ 0
+  pub too-large : status entering (pos 1000001) 10 40 (formatted 2 1 0) ≡ 13
+  pub too-small : status entering (negsuc 1000000) 10 40 (formatted 2 1 0) ≡ 13
+  pub empty-span : status entering (pos 1000001) 5 5 (formatted 2 1 0) ≡ 11
   pub no-cut : root-entries (after entering (pos 1) 0 END (formatted 2 1 0)) ≡ 1
   pub whole-span : full-listing (after entering (pos 1) 0 END (formatted 2 1 0)) ≡ run 0 (pair (pos 1) (pos 1)) ∷ []
   -- * "Kind 2, w = 20, enter 4 on [35, 45): 64 gives (4, 1), * 65 (0, 0); withdrawing gives 22."
-  pub last-in-window : told 64 greatest-booking ≡ (0, pair (pos 4) (pos 1))
-  pub past-window : told 65 greatest-booking ≡ (0, none)
-  pub no-withdrawal : number withdrawing (pos 4) 35 45 greatest-booking ≡ 22
+  pub last-in-window : status-and-pair 64 greatest-booking ≡ (0, pair (pos 4) (pos 1))
+  pub past-window : status-and-pair 65 greatest-booking ≡ (0, none)
+  pub no-withdrawal : status withdrawing (pos 4) 35 45 greatest-booking ≡ 22
   -- * "Sum −1, count 8 averages −13 hundredths; * count −1 none."
   pub half-away : average 1 (pair (negsuc 0) (pos 8)) ≡ Hundredths (negsuc 12)
   pub no-average : average 1 (pair (negsuc 0) (negsuc 0)) ≡ Nothing
   -- "Value 1 on [10, 15), [20, 25) and so on: 11 leave 23 leaf entries; the twelfth takes two pages: 24 at n = 3, height 2 at n = 4."
   pub eleven : root-entries (in-a-row 11 (formatted 3 1 0)) ≡ 23
-  pub twelfth-lacks : number entering (pos 1) 120 125 (in-a-row 11 (formatted 3 1 0)) ≡ 24
+  pub twelfth-lacks : status entering (pos 1) 120 125 (in-a-row 11 (formatted 3 1 0)) ≡ 24
   pub twelfth-grows : head half (in-a-row 12 (formatted 4 1 0)) .height ≡ 2
   -- "runs 6", for `+ 6 10 40`, `+ 3 20 50`, `+ 5 20 25`
   pub six-runs :

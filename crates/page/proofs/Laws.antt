@@ -1,12 +1,12 @@
--- `Joined` has the laws of the bytes of lists, `Places` those of the entry that has an instant, `Pieces` those of a list's pieces, `Puts`
+-- `Concat` has the laws of the bytes of lists, `Indices` those of the entry that has an instant, `Pieces` those of a list's pieces, `Puts`
 -- those of numbers written one after the other; `Entries`, `Trees`, `Frees` and `Heads` those of an entry and of the three kinds of page;
 -- `Signed` that of a signed result, `Lent` those of a page that is lent.
 pub mod Signed
 pub mod Pieces
-pub mod Joined
+pub mod Concat
 pub mod Puts
 pub mod Entries
-pub mod Places
+pub mod Indices
 pub mod Trees
 pub mod Frees
 pub mod Heads

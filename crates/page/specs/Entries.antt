@@ -21,13 +21,14 @@ no-entry = entry 0 none 0
 abbrev pub at : List Entry → ℕ → Entry
 at es i = getD es i no-entry
 
--- "the last entry starting at t or before": its place, counted from 0
+-- "the last entry starting at t or before": its index, counted from 0
 unfoldable pub last-from : ℕ → ℕ → ℕ → List Entry → ℕ
 last-from t i found [] = found
 last-from t i found (e ∷ es) = last-from t (suc i) (cond (leb (e .start) t) i found) es
 
-unfoldable pub place : ℕ → List Entry → ℕ
-place t es = last-from t 0 0 es
+-- the index of the last entry starting at t or before
+unfoldable pub index-of : ℕ → List Entry → ℕ
+index-of t es = last-from t 0 0 es
 
 -- e as the i-th entry, those from there on behind it
 unfoldable pub inserted : {A : Type 0} → ℕ → A → List A → List A

@@ -1,4 +1,4 @@
--- Document 01, "The page": a page fit at its place, and the head fit. Assumes nothing.
+-- Document 01, "The page": a page fit in its context, and the head fit. Assumes nothing.
 use Prim.Native.Nat.{ℕ, suc, _+_, _*_, _-_}
 use mathlib.Core.Bool.{Bool, true, false, cond, _&&_}
 use mathlib.Core.List.{List}
@@ -9,24 +9,24 @@ use Rattle.rule.specs.Time.{END, most-value, kind-ok, window-ok}
 use Rattle.rule.specs.Bounds.{value-or-none}
 use Rattle.fields.specs.Bytes.{part, all-are, every}
 use Rattle.page.specs.declared.Head.{Head}
-use Rattle.page.specs.declared.Place as declared
-use Rattle.page.specs.Layout.{capacity, page-size, level-of, number-of, start-at, pair-at, child-at, unused-ok, head-of}
+use Rattle.page.specs.declared.PageContext as declared
+use Rattle.page.specs.Layout.{capacity, page-size, level-of, entry-count, start-at, pair-at, child-at, unused-ok, head-of}
 
 -- A page's place in the tree, as the code has it (src/lib.rt).
-abbrev pub Place : Type 0
-Place = declared.Place
+abbrev pub Page-context : Type 0
+Page-context = declared.PageContext
 
 -- "(root: height − 1)", "(root: 0)", "(root: END)"
-unfoldable pub root-place : Head → Place
-root-place h = record { level = h .height - 1; «is_root» = true; lo = 0; hi = END; sums = 0; counts = 0 }
+unfoldable pub root-context : Head → Page-context
+root-context h = record { level = h .height - 1; «is_root» = true; lo = 0; hi = END; sums = 0; counts = 0 }
 
 -- where the i-th entry of a page's bytes ends
 unfoldable pub end-at : List ℕ → ℕ → ℕ → ℕ
-end-at s hi i = cond (ltb (suc i) (number-of s)) (start-at s (suc i)) hi
+end-at s hi i = cond (ltb (suc i) (entry-count s)) (start-at s (suc i)) hi
 
--- the place of the page under the i-th entry
-unfoldable pub place-below : ℕ → List ℕ → Place → ℕ → Place
-place-below half s at i =
+-- the context of the page under the i-th entry
+unfoldable pub context-below : ℕ → List ℕ → Page-context → ℕ → Page-context
+context-below half s at i =
     record {
       level = at .level - 1;
       «is_root» = false;
@@ -37,43 +37,44 @@ place-below half s at i =
     }
 
 -- "it has 12 to 24 entries (root leaf 1 to 24, inner root 2 to 24)"
-unfoldable pub fewest : ℕ → Place → ℕ
+unfoldable pub fewest : ℕ → Page-context → ℕ
 fewest half at = cond (at .«is_root») (cond (eqb (at .level) 0) 1 2) half
 
-unfoldable pub number-ok : ℕ → Place → List ℕ → Bool
-number-ok half at s = leb (fewest half at) (number-of s) && leb (number-of s) (capacity half)
+-- "it has 12 to 24 entries (root leaf 1 to 24, inner root 2 to 24)"
+unfoldable pub entry-count-ok : ℕ → Page-context → List ℕ → Bool
+entry-count-ok half at s = leb (fewest half at) (entry-count s) && leb (entry-count s) (capacity half)
 
 -- "starts rise strictly, the first is the parent entry's start (root: 0), the last lies below that entry's end (root: END)"
-unfoldable pub starts-ok : Place → List ℕ → Bool
+unfoldable pub starts-ok : Page-context → List ℕ → Bool
 starts-ok at s =
     eqb (start-at s 0) (at .lo)
-    && (every (number-of s - 1) (λ i. ltb (start-at s i) (start-at s (suc i)))
-    && ltb (start-at s (number-of s - 1)) (at .hi))
+    && (every (entry-count s - 1) (λ i. ltb (start-at s i) (start-at s (suc i)))
+    && ltb (start-at s (entry-count s - 1)) (at .hi))
 
 -- "an inner entry's child lies in 1 to n−1, a leaf's is 0"
 unfoldable pub child-ok : ℕ → ℕ → ℕ → Bool
 child-ok pages level child = cond (eqb level 0) (eqb child 0) (leb 1 child && ltb child pages)
 
-unfoldable pub children-ok : ℕ → ℕ → Place → List ℕ → Bool
-children-ok half pages at s = every (number-of s) (λ i. child-ok pages (at .level) (child-at half s i))
+unfoldable pub children-ok : ℕ → ℕ → Page-context → List ℕ → Bool
+children-ok half pages at s = every (entry-count s) (λ i. child-ok pages (at .level) (child-at half s i))
 
 -- "for kind 1 the absolute sums of an entry and of those above it on its way add to at most 1,000,000 × changes, absolute
 -- counts to at most changes; kinds 2 and 3 have (0, 0) or a value with 1"
-unfoldable pub pair-ok : Head → Place → Pair → Bool
+unfoldable pub pair-ok : Head → Page-context → Pair → Bool
 pair-ok h at p =
     cond (eqb (h .kind) 1)
     (leb (at .sums + natAbs (p .sum)) (most-value * h .changes) && leb (at .counts + natAbs (p .count)) (h .changes))
     (value-or-none p)
 
-unfoldable pub pairs-ok : ℕ → Head → Place → List ℕ → Bool
-pairs-ok half h at s = every (number-of s) (λ i. pair-ok h at (pair-at half s i))
+unfoldable pub pairs-ok : ℕ → Head → Page-context → List ℕ → Bool
+pairs-ok half h at s = every (entry-count s) (λ i. pair-ok h at (pair-at half s i))
 
 -- "A page is fit at its place if its level is the one expected there", and all of the above.
--- The number of entries stands before everything that uses it.
-unfoldable pub page-fit : ℕ → Head → Place → List ℕ → Bool
+-- The count of entries stands before everything that uses it.
+unfoldable pub page-fit : ℕ → Head → Page-context → List ℕ → Bool
 page-fit half h at s =
     eqb (level-of s) (at .level)
-    && (number-ok half at s
+    && (entry-count-ok half at s
     && (starts-ok at s
     && (unused-ok half s
     && (children-ok half (h .pages) at s

@@ -17,11 +17,11 @@ abbrev pub capacity : ℕ → ℕ
 capacity half = 2 * half
 
 -- "level (u32, leaf 0), number of entries (u32), 24 bytes FF; then two parallel arrays of 24: starts (u32), and entries of 16 bytes"
-abbrev pub start-place : ℕ → ℕ
-start-place i = 32 + 4 * i
+abbrev pub start-offset : ℕ → ℕ
+start-offset i = 32 + 4 * i
 
-abbrev pub entry-place : ℕ → ℕ → ℕ
-entry-place half i = 32 + 4 * capacity half + 16 * i
+abbrev pub entry-offset : ℕ → ℕ → ℕ
+entry-offset half i = 32 + 4 * capacity half + 16 * i
 
 -- "The image is n pages of 512 bytes"
 abbrev pub page-size : ℕ → ℕ
@@ -32,43 +32,44 @@ page-size half = 32 + 20 * capacity half
 unfoldable pub level-of : List ℕ → ℕ
 level-of s = u32-at s 0
 
-unfoldable pub number-of : List ℕ → ℕ
-number-of s = u32-at s 4
+-- "number of entries (u32)": as the page says, not yet compared with the capacity
+unfoldable pub entry-count : List ℕ → ℕ
+entry-count s = u32-at s 4
 
 unfoldable pub start-at : List ℕ → ℕ → ℕ
-start-at s i = u32-at s (start-place i)
+start-at s i = u32-at s (start-offset i)
 
 -- "sum (i64), count (i32), child page (u32, 0 in a leaf)"
 unfoldable pub pair-at : ℕ → List ℕ → ℕ → Pair
-pair-at half s i = record { sum = i64-at s (entry-place half i); count = i32-at s (entry-place half i + 8) }
+pair-at half s i = record { sum = i64-at s (entry-offset half i); count = i32-at s (entry-offset half i + 8) }
 
 unfoldable pub child-at : ℕ → List ℕ → ℕ → ℕ
-child-at half s i = u32-at s (entry-place half i + 12)
+child-at half s i = u32-at s (entry-offset half i + 12)
 
 unfoldable pub entry-at : ℕ → List ℕ → ℕ → Entry
 entry-at half s i = entry (start-at s i) (pair-at half s i) (child-at half s i)
 
--- A page's entries. The number is held against the capacity before it is used: no place past the arrays is read.
+-- A page's entries. The count is held against the capacity before it is used: no slot past the arrays is read.
 unfoldable pub entries-of : ℕ → List ℕ → List Entry
-entries-of half s = listed (min (number-of s) (capacity half)) (λ i. entry-at half s i)
+entries-of half s = listed (min (entry-count s) (capacity half)) (λ i. entry-at half s i)
 
 -- "Places past the number are FF." And the 24 bytes before the arrays.
 unfoldable pub unused-ok : ℕ → List ℕ → Bool
 unused-ok half s =
-    let n = number-of s in
+    let n = entry-count s in
     let past = capacity half - n in
     all-are 255 (part s 8 24)
-    && (all-are 255 (part s (start-place n) (4 * past))
-    && all-are 255 (part s (entry-place half n) (16 * past)))
+    && (all-are 255 (part s (start-offset n) (4 * past))
+    && all-are 255 (part s (entry-offset half n) (16 * past)))
 
 -- Writing a tree page
 
 unfoldable pub entry-bytes : Entry → List ℕ
 entry-bytes e = i64-bytes (e .pair .sum) ++ (i32-bytes (e .pair .count) ++ u32-bytes (e .child))
 
--- a page's bytes with an entry written at the i-th place
+-- a page's bytes with an entry written at the i-th slot
 unfoldable pub with-entry : ℕ → ℕ → Entry → List ℕ → List ℕ
-with-entry half i e s = patch (patch s (start-place i) (u32-bytes (e .start))) (entry-place half i) (entry-bytes e)
+with-entry half i e s = patch (patch s (start-offset i) (u32-bytes (e .start))) (entry-offset half i) (entry-bytes e)
 
 unfoldable pub tree-bytes : ℕ → ℕ → List Entry → List ℕ
 tree-bytes half level es =

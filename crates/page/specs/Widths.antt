@@ -14,7 +14,7 @@ pub record Entry-fits (e : Entry) : Type 0 where
   pub count : SFits w32 (e .pair .count)
   pub child : e .child < 2 ^ 32
 
--- Past the end stands `no-entry`, which fits: so no place is too far.
+-- Past the end stands `no-entry`, which fits: so no slot is too far.
 abbrev pub Entries-fit : List Entry → Type 0
 Entries-fit es = (i : ℕ) → Entry-fits (at es i)
 

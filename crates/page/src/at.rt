@@ -16,7 +16,7 @@ use rule::Pair;
 ghost use mathlib.Core.Path.{_≡_};
 ghost use Prim.Native.Nat.{_<_};
 ghost use lib.ListN.{length};
-ghost use Rattle.page.specs.Layout.{level-of, number-of, next-of, start-at, pair-at, child-at, entry-at};
+ghost use Rattle.page.specs.Layout.{level-of, entry-count, next-of, start-at, pair-at, child-at, entry-at};
 
 // The level of a tree page, or the mark of a free page.
 pub fn level_of(s: &[u8]) -> u32
@@ -26,10 +26,10 @@ pub fn level_of(s: &[u8]) -> u32
     get_u32(s, LEVEL_OFFSET)
 }
 
-// The number of entries that a tree page says it has: not yet compared with 24.
-pub fn number_of(s: &[u8]) -> u32
+// The count of entries that a tree page says it has: not yet compared with 24.
+pub fn entry_count(s: &[u8]) -> u32
     requires { ⌜ length (now s) ≡ 512 ⌝ }
-    ensures { λ r. ⌜ r ≡ number-of (now (s .entry)) ⌝ }
+    ensures { λ r. ⌜ r ≡ entry-count (now (s .entry)) ⌝ }
 {
     get_u32(s, ENTRY_COUNT_OFFSET)
 }

@@ -21,7 +21,7 @@ ghost use Prim.Native.Nat.{_+_, _≤_};
 ghost use lib.ListN.{length};
 ghost use Rattle.fields.specs.Bytes.{patch};
 ghost use Rattle.fields.specs.Numbers.{u32-bytes};
-ghost use Rattle.lists.specs.Lists.{joined};
+ghost use Rattle.lists.specs.Lists.{concat-map};
 ghost use Rattle.page.specs.Layout.{head-of, head-bytes};
 
 // The head's numbers.
@@ -42,10 +42,10 @@ pub fn read_head(s: &[u8]) -> Head
     }
 }
 
-// Writes three numbers, one after the other, from place o on.
+// Writes three numbers, one after the other, from offset o on.
 fn put_three(s: &mut [u8], o: usize, x: u32, y: u32, z: u32)
     requires { ⌜ o + 12 ≤ length (now s) ⌝ }
-    ensures { λ _. ⌜ now (s .exit) ≡ patch (now (s .entry)) o (joined u32-bytes (x ∷ y ∷ z ∷ [])) ⌝ }
+    ensures { λ _. ⌜ now (s .exit) ≡ patch (now (s .entry)) o (concat-map u32-bytes (x ∷ y ∷ z ∷ [])) ⌝ }
 {
     put_u32(s, o, x);
     put_u32(s, o + 4, y);

@@ -6,7 +6,7 @@ pub const HALF: usize = 12;
 
 pub const CAPACITY: usize = 2 * HALF;
 
-// The same, as the number of entries of a page has them.
+// The same, as the count of entries of a page has them.
 pub const FEWEST_ENTRIES: u32 = HALF as u32;
 
 pub const MOST_ENTRIES: u32 = CAPACITY as u32;
@@ -14,7 +14,7 @@ pub const MOST_ENTRIES: u32 = CAPACITY as u32;
 // Entries of a decoded page: one more than a written page has, for the entry that makes it split.
 pub const SLOTS: usize = CAPACITY + 1;
 
-// A tree page: level and number of entries, unused bytes, starts, entries.
+// A tree page: level and count of entries, unused bytes, starts, entries.
 pub const LEVEL_OFFSET: usize = 0;
 
 pub const ENTRY_COUNT_OFFSET: usize = 4;

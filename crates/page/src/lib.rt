@@ -1,7 +1,7 @@
 // A page of the image: the head, a tree page, a free page.
-// Document 01, "The page"; docs/FORMAT.md has the fields' places. A tree page, by its bytes:
+// Document 01, "The page"; docs/FORMAT.md has the fields' offsets. A tree page, by its bytes:
 //     0    4       level (u32, leaf 0)
-//     4    4       number of entries (u32), at most 24
+//     4    4       count of entries (u32), at most 24
 //     8    24      unused, FF
 //     32   24 × 4  starts (u32)
 //     128  24 × 16 entries: sum (i64), count (i32), child (u32, 0 in a leaf)
@@ -37,20 +37,21 @@ pub struct Head {
     pub changes: u32,
 }
 
-// A decoded tree page: its level, its number of entries, and an array for each of an entry's numbers. There is a place more
-// than a written page has, for the entry that makes it split. What stands past the number means nothing.
+// A decoded tree page: its level, its count of entries, and an array for each of an entry's numbers. There is a slot more
+// than a written page has, for the entry that makes it split. What stands past its length means nothing.
 pub struct Page {
     pub level: u32,
-    pub number: usize,
+    pub len: usize,
     pub starts: [u32; SLOTS],
     pub sums: [i64; SLOTS],
     pub counts: [i32; SLOTS],
     pub children: [u32; SLOTS],
 }
 
-// A page's place in the tree: the level expected there, whether it is the root's, the span of the entry that leads to it,
+// A page's context, document 01's 'slot' of a page: the level expected there, whether it is the root's, the span of the entry that leads
+// to it,
 // and what the absolute sums and counts of the entries above it add to.
-pub struct Place {
+pub struct PageContext {
     pub level: u32,
     pub is_root: bool,
     pub lo: u32,

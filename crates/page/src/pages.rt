@@ -10,7 +10,7 @@ ghost use Prim.Native.Nat.{_+_, _*_, _≤_};
 ghost use lib.ListN.{length};
 ghost use Rattle.fields.specs.Bytes.{patch};
 ghost use Rattle.page.specs.Layout.{tree-bytes, free-bytes, head-bytes};
-ghost use Rattle.page.specs.Decoded.{shown};
+ghost use Rattle.page.specs.Decoded.{entry-list};
 
 // Where page p begins.
 pub fn page_offset(p: u32) -> usize
@@ -29,8 +29,8 @@ pub fn write_head_at(img: &mut [u8], h: Head)
 
 // Writes a tree page as page p.
 pub fn write_page_at(img: &mut [u8], p: u32, page: Page)
-    requires { ⌜ (512 * p + 512 ≤ length (now img)) × (page .number ≤ 24) ⌝ }
-    ensures { λ _. ⌜ now (img .exit) ≡ patch (now (img .entry)) (512 * p) (tree-bytes 12 (page .level) (shown page)) ⌝ }
+    requires { ⌜ (512 * p + 512 ≤ length (now img)) × (page .len ≤ 24) ⌝ }
+    ensures { λ _. ⌜ now (img .exit) ≡ patch (now (img .entry)) (512 * p) (tree-bytes 12 (page .level) (entry-list page)) ⌝ }
 {
     let a = page_offset(p);
     let e = a + PAGE_BYTES;

@@ -2,8 +2,8 @@
 use super::Page;
 use super::at::child_at;
 use super::at::count_at;
+use super::at::entry_count;
 use super::at::level_of;
-use super::at::number_of;
 use super::at::start_at;
 use super::at::sum_at;
 use super::layout::CAPACITY;
@@ -12,7 +12,7 @@ ghost use mathlib.Core.Path.{_≡_};
 ghost use lib.ListN.{length};
 ghost use Rattle.page.specs.Decoded.{Read};
 
-// The page as a struct: all 24 places are read, whatever the number is.
+// The page as a struct: all 24 slots are read, whatever the count is.
 pub fn read_page(s: &[u8]) -> Page
     requires { ⌜ length (now s) ≡ 512 ⌝ }
     ensures { λ r. ⌜ Read r (now (s .entry)) ⌝ }
@@ -31,7 +31,7 @@ pub fn read_page(s: &[u8]) -> Page
     }
     Page {
         level: level_of(s),
-        number: number_of(s) as usize,
+        len: entry_count(s) as usize,
         starts,
         sums,
         counts,

@@ -15,7 +15,7 @@ ghost use Prim.Native.Nat.{_≤_, _<_};
 ghost use lib.ListN.{length};
 ghost use Rattle.page.specs.Entries.{entry};
 ghost use Rattle.page.specs.Layout.{with-entry, tree-bytes};
-ghost use Rattle.page.specs.Decoded.{shown};
+ghost use Rattle.page.specs.Decoded.{entry-list};
 
 // Writes the i-th entry of a tree page.
 fn write_entry(s: &mut [u8], i: usize, start: u32, sum: i64, count: i32, child: u32)
@@ -30,13 +30,13 @@ fn write_entry(s: &mut [u8], i: usize, start: u32, sum: i64, count: i32, child: 
 
 // Writes a tree page.
 pub fn write_page(s: &mut [u8], p: Page)
-    requires { ⌜ (length (now s) ≡ 512) × (p .number ≤ 24) ⌝ }
-    ensures { λ _. ⌜ now (s .exit) ≡ tree-bytes 12 (p .level) (shown p) ⌝ }
+    requires { ⌜ (length (now s) ≡ 512) × (p .len ≤ 24) ⌝ }
+    ensures { λ _. ⌜ now (s .exit) ≡ tree-bytes 12 (p .level) (entry-list p) ⌝ }
 {
-    let number = p.number;
-    write_blank(s, p.level, number as u32);
+    let len = p.len;
+    write_blank(s, p.level, len as u32);
     let mut i = 0;
-    while i < number {
+    while i < len {
         write_entry(s, i, p.starts[i], p.sums[i], p.counts[i], p.children[i]);
         i += 1;
     }

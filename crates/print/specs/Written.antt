@@ -7,11 +7,11 @@ use lib.IntN.{ℤ, pos, negsuc}
 use Rattle.fields.specs.Bytes.{patch}
 use Rattle.calls.specs.Program.{decimal}
 
--- bs stand in s from place `at` on, where they had room, nothing else in it has changed, and `next` is the place behind them
+-- bs stand in s from offset `at` on, where they had room, nothing else in it has changed, and `next` is the offset behind them
 pub record Put (s : List ℕ) (at : ℕ) (bs after : List ℕ) (next : ℕ) : Type 0 where
   pub room : at + length bs ≤ length s
   pub written : after ≡ patch s at bs
-  pub place : next ≡ at + length bs
+  pub offset : next ≡ at + length bs
 
 -- "a minus if below zero"
 unfoldable pub sign-text : ℤ → List ℕ

@@ -1,5 +1,5 @@
 // The program's output, printed into a buffer that is lent: numbers, averages, runs and the lines about refused or unread input.
-// Each function takes the place to print at and returns the place behind what it printed.
+// Each function takes the offset to print at and returns the offset behind what it printed.
 // Document 01, "Marks from the test rack".
 
 pub mod averages;

@@ -14,14 +14,14 @@ ghost use Rattle.calls.specs.Program.{decimal, integer, refused-text, unread-te
 ghost use Rattle.print.specs.Written.{Put, runs-line};
 
 // "prints `line K refused N` for a refused line K (from 1)"
-pub fn put_refused(out: &mut [u8], at: usize, k: u64, number: u32) -> usize
+pub fn put_refused(out: &mut [u8], at: usize, k: u64, status: u32) -> usize
     requires { ⌜ at + 55 ≤ length (now out) ⌝ }
-    ensures { λ r. ⌜ Put (now (out .entry)) at (refused-text k number) (now (out .exit)) r ⌝ }
+    ensures { λ r. ⌜ Put (now (out .entry)) at (refused-text k status) (now (out .exit)) r ⌝ }
 {
     let line = put_text(out, at, b"line ");
     let refused = put_decimal(out, line, k);
     let which = put_text(out, refused, b" refused ");
-    let end = put_decimal(out, which, number as u64);
+    let end = put_decimal(out, which, status as u64);
     put_byte(out, end, b'\n')
 }
 

@@ -1,3 +1,3 @@
-pub mod Going
+pub mod State
 pub mod Listed
-pub mod Shows
+pub mod Simulation

@@ -8,7 +8,7 @@ ghost use lib.ListN.{length};
 ghost use Rattle.rule.specs.Time.{END};
 ghost use Rattle.calls.specs.Calls.{listing};
 ghost use Rattle.print.specs.Written.{Put};
-ghost use Rattle.program.specs.Going.{listed-text};
+ghost use Rattle.program.specs.State.{listed-text};
 
 // The listing goes into `list`, which has room for 1,416 runs, as many as 64 pages can have: 59 leaf pages of 24 entries. A run's
 // line has 111 bytes at most, and that of their number 26.

@@ -29,7 +29,7 @@ const RUN_LINE: usize = 111;
 
 pub const ENDING_BYTES: usize = RUNS_LINE + MOST_RUNS * RUN_LINE;
 
-// The program in the middle of its text: the line that is coming, that line's number, and the place behind what is printed.
+// The program in the middle of its text: the line that is coming, that line's number, and the offset behind what is printed.
 pub struct Reading {
     pub fed: Fed,
     pub number: u64,

@@ -10,7 +10,7 @@ ghost use lib.ListN.{length};
 ghost use Rattle.booking.specs.Sides.{side-of};
 ghost use Rattle.calls.specs.Program.{booking, ran-line};
 ghost use Rattle.text.specs.Reading.{line-of};
-ghost use Rattle.program.specs.Shows.{Does};
+ghost use Rattle.program.specs.Simulation.{Does};
 
 // A booking, with a scratch of its own: "`line K refused N` for a refused line K (from 1)".
 fn run_booking(

@@ -9,8 +9,8 @@ use text::feed::parse_fed;
 ghost use mathlib.Core.Path.{_≡_};
 ghost use Prim.Native.Nat.{_+_, _*_, _≤_, _<_, _^_};
 ghost use lib.ListN.{length, replicate};
-ghost use Rattle.program.specs.Going.{at-first, line-run, goes, goes-on, ended};
-ghost use Rattle.program.specs.Shows.{Begins, Goes, Turns, Within};
+ghost use Rattle.program.specs.State.{at-first, line-run, after-byte, after-bytes, ended};
+ghost use Rattle.program.specs.Simulation.{Begins, Simulates-step, Flushes, Advances};
 
 // "(64 pages, kind 1, w = 0)": the image before the first line.
 pub fn begin(img: &mut [u8])
@@ -34,7 +34,7 @@ pub fn at_first() -> Reading
 
 // The same with nothing printed, for an output that is empty again.
 pub fn flushed(r: Reading) -> Reading
-    ensures { λ q. ⌜ Turns r q ⌝ }
+    ensures { λ q. ⌜ Flushes r q ⌝ }
     ensures { λ q. ⌜ (q .at ≡ 0) × (q .number ≡ r .number) ⌝ }
 {
     let fed = r.fed;
@@ -49,8 +49,8 @@ pub fn flushed(r: Reading) -> Reading
 fn end_line(img: &mut [u8], out: &mut [u8], r: Reading) -> Reading
     requires { ⌜ r .at + 55 ≤ length (now out) ⌝ }
     requires { ⌜ r .number + 1 < 2 ^ 64 ⌝ }
-    ensures { λ q. ⌜ Goes (line-run 12 64) r (now (img .entry)) (now (out .entry)) q (now (img .exit)) (now (out .exit)) ⌝ }
-    ensures { λ q. ⌜ Within 1 r q ⌝ }
+    ensures { λ q. ⌜ Simulates-step (line-run 12 64) r (now (img .entry)) (now (out .entry)) q (now (img .exit)) (now (out .exit)) ⌝ }
+    ensures { λ q. ⌜ Advances 1 r q ⌝ }
 {
     let fed = r.fed;
     let next = run_line(img, out, r.at, r.number, parse_fed(fed));
@@ -66,8 +66,8 @@ fn end_line(img: &mut [u8], out: &mut [u8], r: Reading) -> Reading
 fn run_byte(img: &mut [u8], out: &mut [u8], r: Reading, b: u8) -> Reading
     requires { ⌜ r .at + 55 ≤ length (now out) ⌝ }
     requires { ⌜ r .number + 1 < 2 ^ 64 ⌝ }
-    ensures { λ q. ⌜ Goes (goes 12 64 b) r (now (img .entry)) (now (out .entry)) q (now (img .exit)) (now (out .exit)) ⌝ }
-    ensures { λ q. ⌜ Within 1 r q ⌝ }
+    ensures { λ q. ⌜ Simulates-step (after-byte 12 64 b) r (now (img .entry)) (now (out .entry)) q (now (img .exit)) (now (out .exit)) ⌝ }
+    ensures { λ q. ⌜ Advances 1 r q ⌝ }
 {
     if b == b'\n' {
         return end_line(img, out, r);
@@ -85,9 +85,9 @@ fn run_byte(img: &mut [u8], out: &mut [u8], r: Reading, b: u8) -> Reading
 pub fn run_piece(img: &mut [u8], out: &mut [u8], r: Reading, piece: &[u8]) -> Reading
     requires { ⌜ r .at + 55 * length (now piece) ≤ length (now out) ⌝ }
     requires { ⌜ r .number + length (now piece) < 2 ^ 64 ⌝ }
-    ensures { λ q. ⌜ Goes (goes-on 12 64 (now (piece .entry))) r
+    ensures { λ q. ⌜ Simulates-step (after-bytes 12 64 (now (piece .entry))) r
         (now (img .entry)) (now (out .entry)) q (now (img .exit)) (now (out .exit)) ⌝ }
-    ensures { λ q. ⌜ Within (length (now (piece .entry))) r q ⌝ }
+    ensures { λ q. ⌜ Advances (length (now (piece .entry))) r q ⌝ }
 {
     let mut q = r;
     let mut i = 0;
@@ -102,8 +102,8 @@ pub fn run_piece(img: &mut [u8], out: &mut [u8], r: Reading, piece: &[u8]) -> Re
 pub fn run_last(img: &mut [u8], out: &mut [u8], r: Reading) -> Reading
     requires { ⌜ r .at + 55 ≤ length (now out) ⌝ }
     requires { ⌜ r .number + 1 < 2 ^ 64 ⌝ }
-    ensures { λ q. ⌜ Goes (ended 12 64) r (now (img .entry)) (now (out .entry)) q (now (img .exit)) (now (out .exit)) ⌝ }
-    ensures { λ q. ⌜ Within 1 r q ⌝ }
+    ensures { λ q. ⌜ Simulates-step (ended 12 64) r (now (img .entry)) (now (out .entry)) q (now (img .exit)) (now (out .exit)) ⌝ }
+    ensures { λ q. ⌜ Advances 1 r q ⌝ }
 {
     if r.fed.length == 0 {
         return r;

@@ -8,7 +8,7 @@ use Rattle.image.specs.Images.{pages-in}
 use Rattle.calls.specs.Changes.{Side}
 use Rattle.calls.specs.Calls.{Booked, Instant, Averaged, Audited, book, instant, average-at, listing, audit}
 use Rattle.calls.specs.Book.{book-of}
-use Rattle.calls.specs.Demands.{fixed-number}
+use Rattle.calls.specs.Demands.{fixed-status}
 use Rattle.demands.proofs.Agree.{as-the-book}
 use Rattle.demands.proofs.Traces.{reached}
 use Rattle.demands.proofs.All.{twelve}
@@ -19,25 +19,25 @@ use Rattle.luwhenoka.specs.Answers.{pair-of, average-answer, listed}
 use Rattle.promises.specs.AfterLists.{After-lists, Instant-as, Average-as, Listing-as, Audit-as, Booking-as}
 
 pub instant-as : (t : ℕ) (img : List ℕ) (r : InstantAnswer)
-    → record { number = r .number; pair = pair-of r; pages = r .pages } ≡ instant 12 t img
+    → record { status = r .status; pair = pair-of r; pages = r .pages } ≡ instant 12 t img
     → After-lists img (Instant-as t r)
 unfolding After-lists
 instant-as t img r p kind window cs T =
     let b = as-the-book (reached twelve T .kept) in
     record {
-      at-end = λ l. ap (λ (i : Instant). i .number) p ∙ b .instant-end t l;
-      told = λ l. (ap (λ (i : Instant). i .number) p ∙ b .instants t l .0, ap (λ (i : Instant). i .pair) p ∙ b .instants t l .1);
+      at-end = λ l. ap (λ (i : Instant). i .status) p ∙ b .instant-end t l;
+      told = λ l. (ap (λ (i : Instant). i .status) p ∙ b .instants t l .0, ap (λ (i : Instant). i .pair) p ∙ b .instants t l .1);
     }
 
 pub average-as : (t : ℕ) (img : List ℕ) (r : AverageAnswer)
-    → r ≡ average-answer (average-at 12 t img .number) (average-at 12 t img .average)
+    → r ≡ average-answer (average-at 12 t img .status) (average-at 12 t img .average)
     → After-lists img (Average-as t r)
 unfolding After-lists
 average-as t img r p kind window cs T =
     let b = as-the-book (reached twelve T .kept) in
     record {
-      at-end = λ l. p ∙ ap (λ (a : Averaged). average-answer (a .number) (a .average)) (b .average-end t l);
-      told = λ l. p ∙ ap (λ (a : Averaged). average-answer (a .number) (a .average)) (b .averages t l);
+      at-end = λ l. p ∙ ap (λ (a : Averaged). average-answer (a .status) (a .average)) (b .average-end t l);
+      told = λ l. p ∙ ap (λ (a : Averaged). average-answer (a .status) (a .average)) (b .averages t l);
     }
 
 pub listing-as : (a b : ℕ) (img out : List ℕ) (r : ListingAnswer) (after : List ℕ) → listed r after ≡ listing 12 a b img out
@@ -45,19 +45,19 @@ pub listing-as : (a b : ℕ) (img out : List ℕ) (r : ListingAnswer) (after : L
 unfolding After-lists Listing-as
 listing-as a b img out r after p kind window cs T = p ∙ as-the-book (reached twelve T .kept) .listings a b out
 
-pub audit-as : (img scratch : List ℕ) (r : ℕ) (left : List ℕ) → record { number = r; scratch = left } ≡ audit 12 img scratch
+pub audit-as : (img scratch : List ℕ) (r : ℕ) (left : List ℕ) → record { status = r; scratch = left } ≡ audit 12 img scratch
     → After-lists img (Audit-as img scratch r)
 unfolding After-lists Audit-as
 audit-as img scratch r left p kind window cs T =
-    ap (λ (a : Audited). a .number) p ∙ as-the-book (reached twelve T .kept) .audits scratch
+    ap (λ (a : Audited). a .status) p ∙ as-the-book (reached twelve T .kept) .audits scratch
 
 pub booking-as : (side : Side) (v : ℤ) (s e : ℕ) (img scratch : List ℕ) (r : ℕ) (after left : List ℕ)
-    → record { number = r; image = after; scratch = left } ≡ book 12 side v s e img scratch
+    → record { status = r; image = after; scratch = left } ≡ book 12 side v s e img scratch
     → After-lists img (Booking-as side v s e img scratch r)
 unfolding After-lists Booking-as
 booking-as side v s e img scratch r after left p kind window cs T =
     subst⁻¹
     (λ n.
-    (n ≡ fixed-number (pages-in 12 img) side v s e scratch (book-of kind window cs))
-    ⊎ ((fixed-number (pages-in 12 img) side v s e scratch (book-of kind window cs) ≡ 0) × (n ≡ 24)))
-    (ap (λ (b : Booked). b .number) p) (as-the-book (reached twelve T .kept) .bookings side v s e scratch)
+    (n ≡ fixed-status (pages-in 12 img) side v s e scratch (book-of kind window cs))
+    ⊎ ((fixed-status (pages-in 12 img) side v s e scratch (book-of kind window cs) ≡ 0) × (n ≡ 24)))
+    (ap (λ (b : Booked). b .status) p) (as-the-book (reached twelve T .kept) .bookings side v s e scratch)

@@ -10,9 +10,9 @@ use Rattle.luwhenoka.specs.declared.AverageAnswer.{AverageAnswer}
 use Rattle.luwhenoka.specs.Answers.{instant-answer, pair-of, average-answer, averaged-answer}
 use Rattle.luwhenoka.specs.Promises.{Answers, Averages}
 
-pub answer-number : (t : ℕ) (img : List ℕ) {r : InstantAnswer} → Answers t img r → r .number ≡ instant 12 t img .number
+pub answer-status : (t : ℕ) (img : List ℕ) {r : InstantAnswer} → Answers t img r → r .status ≡ instant 12 t img .status
 unfolding instant-answer
-answer-number t img p = ap (λ (a : InstantAnswer). a .number) p
+answer-status t img p = ap (λ (a : InstantAnswer). a .status) p
 
 pub answer-pair : (t : ℕ) (img : List ℕ) {r : InstantAnswer} → Answers t img r → pair-of r ≡ instant 12 t img .pair
 unfolding instant-answer
@@ -22,13 +22,13 @@ pub answer-pages : (t : ℕ) (img : List ℕ) {r : InstantAnswer} → Answers t 
 unfolding instant-answer
 answer-pages t img p = ap (λ (a : InstantAnswer). a .pages) p
 
--- the number of an average's answer
-answer-of : (n : ℕ) (a : Average) → average-answer n a .number ≡ n
+-- the status of an average's answer
+answer-of : (n : ℕ) (a : Average) → average-answer n a .status ≡ n
 unfolding average-answer
 answer-of n Nothing = refl
 answer-of n (Hundredths x) = refl
 answer-of n Beyond = refl
 
-pub average-number : (t : ℕ) (img : List ℕ) {r : AverageAnswer} → Averages t img r → r .number ≡ average-at 12 t img .number
+pub average-status : (t : ℕ) (img : List ℕ) {r : AverageAnswer} → Averages t img r → r .status ≡ average-at 12 t img .status
 unfolding averaged-answer
-average-number t img p = ap (λ (a : AverageAnswer). a .number) p ∙ answer-of (average-at 12 t img .number) (average-at 12 t img .average)
+average-status t img p = ap (λ (a : AverageAnswer). a .status) p ∙ answer-of (average-at 12 t img .status) (average-at 12 t img .average)

@@ -11,15 +11,15 @@ use Rattle.calls.specs.Accepted.{Accepted-change, Every-change}
 use Rattle.demands.proofs.Accepted.{every-change}
 use Rattle.demands.proofs.All.{twelve}
 use Rattle.promises.specs.Changes.{Change-promised, Every-change-promised}
-use Rattle.promises.proofs.Answers.{answer-number, answer-pair}
+use Rattle.promises.proofs.Answers.{answer-status, answer-pair}
 
 changed-so : (side : Side) (v : ℤ) (s e : ℕ) (img after : List ℕ) → Accepted-change 12 side v s e img after
     → Change-promised side v s e img after
 changed-so side v s e img after c =
     record {
       leaves = c;
-      answered = λ t r l a. answer-number t after a ∙ c .answered t l;
-      numbers = λ t r q a b. answer-number t after a ∙ c .numbers t ∙ sym (answer-number t img b);
+      answered = λ t r l a. answer-status t after a ∙ c .answered t l;
+      statuses = λ t r q a b. answer-status t after a ∙ c .statuses t ∙ sym (answer-status t img b);
       outside = λ t r q o a b. answer-pair t after a ∙ c .outside t o ∙ sym (answer-pair t img b);
       inside =
           λ t r q l h a b.
@@ -33,4 +33,4 @@ unfolding Every-change-promised Every-change
 every-change-promised side v s e img scratch after left b p =
     changed-so side v s e img after
     (subst⁻¹ (Accepted-change 12 side v s e img) (ap (λ (x : Booked). x .image) p)
-    (every-change twelve side v s e img scratch b (sym (ap (λ (x : Booked). x .number) p))))
+    (every-change twelve side v s e img scratch b (sym (ap (λ (x : Booked). x .status) p))))

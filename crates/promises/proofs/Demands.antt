@@ -2,7 +2,7 @@
 use Rattle.demands.proofs.All.{demands-at-12}
 use Rattle.promises.specs.Demands.{Demands-met}
 use Rattle.promises.proofs.Refusing.{refusing}
-use Rattle.promises.proofs.Tables.{by-number}
+use Rattle.promises.proofs.Tables.{by-status}
 use Rattle.promises.proofs.Changes.{every-change-promised}
 use Rattle.promises.proofs.Header.{header-runs}
 
@@ -11,7 +11,7 @@ demands-met =
     record {
       demands = demands-at-12;
       refusing = refusing;
-      by-number = by-number;
+      by-status = by-status;
       every-change = every-change-promised;
       header-runs = header-runs;
     }

@@ -16,6 +16,6 @@ header-runs =
           omega (arith, few-runs 12 .answered a b img out);
       enough =
           λ a b img out r after p room e.
-          let same : r .number ≡ listing 12 a b img out .number = ap (λ (q : Listed). q .number) p in
+          let same : r .status ≡ listing 12 a b img out .status = ap (λ (q : Listed). q .status) p in
           few-runs 12 .enough a b img out (omega (arith, room)) (sym same ∙ e);
     }

@@ -19,7 +19,7 @@ use Rattle.luwhenoka.specs.declared.AverageAnswer.{AverageAnswer}
 use Rattle.luwhenoka.specs.Answers.{average-answer, averaged-answer, listed}
 use Rattle.luwhenoka.specs.Promises.{Averages}
 use Rattle.promises.specs.Refusing.{Refusing}
-use Rattle.promises.proofs.Answers.{answer-number, answer-pair, answer-pages, average-number}
+use Rattle.promises.proofs.Answers.{answer-status, answer-pair, answer-pages, average-status}
 
 abbrev d1 : Demand-1 12
 d1 = demand-1 12
@@ -31,22 +31,22 @@ never-beyond n (Hundredths x) d e = absurd (omega arith)
 never-beyond n Beyond d e = d refl
 
 averaged : (t : ℕ) (img : List ℕ) (r : AverageAnswer) → Averages t img r
-    → (r .number ≢ 0 → (r .answer ≡ 0) × (r .hundredths ≡ pos 0)) × (r .answer ≢ 2)
+    → (r .status ≢ 0 → (r .answer ≡ 0) × (r .hundredths ≡ pos 0)) × (r .answer ≢ 2)
 unfolding averaged-answer average-answer
 averaged t img r p = (refused, beyond)
   where
-    number : r .number ≡ average-at 12 t img .number
-    number = average-number t img p
+    number : r .status ≡ average-at 12 t img .status
+    number = average-status t img p
 
-    refused : r .number ≢ 0 → (r .answer ≡ 0) × (r .hundredths ≡ pos 0)
+    refused : r .status ≢ 0 → (r .answer ≡ 0) × (r .hundredths ≡ pos 0)
     refused d =
         let n : average-at 12 t img .average ≡ Nothing = d1 .of-average t img (λ z. d (number ∙ z)) in
-        let q : r ≡ average-answer (average-at 12 t img .number) Nothing = p ∙ ap (average-answer (average-at 12 t img .number)) n in
+        let q : r ≡ average-answer (average-at 12 t img .status) Nothing = p ∙ ap (average-answer (average-at 12 t img .status)) n in
         (ap (λ (a : AverageAnswer). a .answer) q, ap (λ (a : AverageAnswer). a .hundredths) q)
 
     beyond : r .answer ≢ 2
     beyond e =
-        never-beyond (average-at 12 t img .number) (average-at 12 t img .average) (d1 .of-beyond t img)
+        never-beyond (average-at 12 t img .status) (average-at 12 t img .average) (d1 .of-beyond t img)
         (sym (ap (λ (a : AverageAnswer). a .answer) p) ∙ e)
 
 pub refusing : Refusing
@@ -55,10 +55,10 @@ refusing =
     record {
       of-format =
           λ kind window img r after p d.
-          ap (λ (f : Formatted). f .image) p ∙ d1 .of-format kind window img (λ z. d (ap (λ (f : Formatted). f .number) p ∙ z));
+          ap (λ (f : Formatted). f .image) p ∙ d1 .of-format kind window img (λ z. d (ap (λ (f : Formatted). f .status) p ∙ z));
       of-booking =
           λ side v s e img scratch r after left p.
-          let n = ap (λ (b : Booked). b .number) p in (
+          let n = ap (λ (b : Booked). b .status) p in (
             λ d. ap (λ (b : Booked). b .image) p ∙ d1 .of-booking side v s e img scratch (λ z. d (n ∙ z)),
             ap (λ (b : Booked). b .scratch) p
                 ∙ d1 .of-scratch side v s e img scratch .0
@@ -66,7 +66,7 @@ refusing =
           );
       of-instant =
           λ t img r p.
-          let n = answer-number t img p in
+          let n = answer-status t img p in
           let q = answer-pair t img p in
           let g = d1 .of-pages t img in (
             λ d. let z = q ∙ d1 .of-instant t img (λ y. d (n ∙ y)) in (ap (λ (a : Pair). a .sum) z, ap (λ (a : Pair). a .count) z),
@@ -76,11 +76,11 @@ refusing =
       of-average = averaged;
       of-listing =
           λ a b img out r after p d.
-          let k = d1 .of-listing a b img out (λ z. d (ap (λ (l : Listed). l .number) p ∙ z)) in
+          let k = d1 .of-listing a b img out (λ z. d (ap (λ (l : Listed). l .status) p ∙ z)) in
           (ap (λ (l : Listed). l .output) p ∙ k .0, ap (λ (l : Listed). l .runs) p ∙ k .1);
       of-audit =
           λ img scratch r left p.
-          let n = ap (λ (a : Audited). a .number) p in
+          let n = ap (λ (a : Audited). a .status) p in
           ap (λ (a : Audited). a .scratch) p
           ∙ d1 .of-scratch entering (pos 0) 0 0 img scratch .1
           ∙ ap (λ k. cond (keeps-scratch k) scratch (cleared (pages-in 12 img) scratch)) (sym n);

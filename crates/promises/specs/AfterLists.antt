@@ -14,7 +14,7 @@ use Rattle.calls.specs.Refusals.{first, scratch-ok}
 use Rattle.calls.specs.Changes.{Side, Change}
 use Rattle.calls.specs.Book.{Book, book-of, book-pair, listing-of}
 use Rattle.calls.specs.Trace.{Trace}
-use Rattle.calls.specs.Demands.{fixed-number}
+use Rattle.calls.specs.Demands.{fixed-status}
 use Rattle.luwhenoka.specs.declared.InstantAnswer.{InstantAnswer}
 use Rattle.luwhenoka.specs.declared.AverageAnswer.{AverageAnswer}
 use Rattle.luwhenoka.specs.declared.ListingAnswer.{ListingAnswer}
@@ -26,8 +26,8 @@ After-lists img P = (kind window : ℕ) (cs : List Change) → Trace 12 kind win
 
 -- "an instant call returns 12 at END, else 0 and the pair at t that the book then has"
 pub record Instant-as (t : ℕ) (r : InstantAnswer) (B : Book) : Type 0 where
-  pub at-end : END ≤ t → r .number ≡ 12
-  pub told : t < END → (r .number ≡ 0) × (pair-of r ≡ book-pair B t)
+  pub at-end : END ≤ t → r .status ≡ 12
+  pub told : t < END → (r .status ≡ 0) × (pair-of r ≡ book-pair B t)
 
 -- "The average's pair is taken by an instant call."
 pub record Average-as (t : ℕ) (r : AverageAnswer) (B : Book) : Type 0 where
@@ -42,8 +42,8 @@ Listing-as a b out r after B = listed r after ≡ listing-of (book-pair B) a b o
 unfoldable pub Audit-as : List ℕ → List ℕ → ℕ → Book → Type 0
 Audit-as img scratch r B = r ≡ first ((17, not (scratch-ok (pages-in 12 img) scratch)) ∷ [])
 
--- a booking the number that is fixed without the image, but where the pages may be too few
+-- a booking the status that is fixed without the image, but where the pages may be too few
 unfoldable pub Booking-as : Side → ℤ → ℕ → ℕ → List ℕ → List ℕ → ℕ → Book → Type 0
 Booking-as side v s e img scratch r B =
-    let fixed = fixed-number (pages-in 12 img) side v s e scratch B in
+    let fixed = fixed-status (pages-in 12 img) side v s e scratch B in
     (r ≡ fixed) ⊎ ((fixed ≡ 0) × (r ≡ 24))

@@ -4,7 +4,7 @@ use mathlib.Core.Path.{_≡_}
 use mathlib.Core.Logic.{_⊎_}
 use mathlib.Core.List.{List}
 use lib.IntN.{ℤ}
-use Rattle.rule.specs.Time.{END, lengthened}
+use Rattle.rule.specs.Time.{END, effect-end}
 use Rattle.rule.specs.Pairs.{combine}
 use Rattle.fields.specs.Bytes.{Bytes}
 use Rattle.calls.specs.Changes.{Side, effect}
@@ -18,16 +18,16 @@ use Rattle.luwhenoka.specs.Promises.{Books, Answers}
 -- both images answer. r is the later answer, q the earlier.
 pub record Change-promised (side : Side) (v : ℤ) (s e : ℕ) (img after : List ℕ) : Type 0 where
   pub leaves : Accepted-change 12 side v s e img after
-  pub answered : (t : ℕ) (r : InstantAnswer) → t < END → Answers t after r → r .number ≡ 0
-  pub numbers : (t : ℕ) (r q : InstantAnswer) → Answers t after r → Answers t img q → r .number ≡ q .number
+  pub answered : (t : ℕ) (r : InstantAnswer) → t < END → Answers t after r → r .status ≡ 0
+  pub statuses : (t : ℕ) (r q : InstantAnswer) → Answers t after r → Answers t img q → r .status ≡ q .status
   -- "alters no instant's pair outside its span (lengthened by the window)"
   pub outside :
-      (t : ℕ) (r q : InstantAnswer) → (t < s) ⊎ (lengthened e (head 12 img .window) ≤ t)
+      (t : ℕ) (r q : InstantAnswer) → (t < s) ⊎ (effect-end e (head 12 img .window) ≤ t)
       → Answers t after r → Answers t img q
       → pair-of r ≡ pair-of q
   -- "C. Combine the effect into [s, e′)."
   pub inside :
-      (t : ℕ) (r q : InstantAnswer) → s ≤ t → t < lengthened e (head 12 img .window)
+      (t : ℕ) (r q : InstantAnswer) → s ≤ t → t < effect-end e (head 12 img .window)
       → Answers t after r → Answers t img q
       → pair-of r ≡ combine (head 12 img .kind) (pair-of q) (effect side v)
 

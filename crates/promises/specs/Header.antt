@@ -15,4 +15,4 @@ pub record Header-runs : Type 0 where
       → r .runs ≤ 24 * (pages-in 12 img - 1)
   pub enough :
       (a b : ℕ) (img out : List ℕ) (r : ListingAnswer) (after : List ℕ) → Lists a b img out r after
-      → 384 * (pages-in 12 img - 1) ≤ length out → r .number ≢ 15
+      → 384 * (pages-in 12 img - 1) ≤ length out → r .status ≢ 15

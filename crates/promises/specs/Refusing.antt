@@ -24,14 +24,14 @@ pub record Refusing : Type 0 where
       → (r ≢ 0 → after ≡ img) × (left ≡ cond (keeps-scratch r) scratch (cleared (pages-in 12 img) scratch))
   pub of-instant :
       (t : ℕ) (img : List ℕ) (r : InstantAnswer) → Answers t img r
-      → (r .number ≢ 0 → (r .sum ≡ pos 0) × (r .count ≡ pos 0))
-      × (r .number ≡ 0 → r .pages ≡ head 12 img .height)
-      × (r .number ≢ 0 → r .number ≢ 21 → r .pages ≡ 0)
+      → (r .status ≢ 0 → (r .sum ≡ pos 0) × (r .count ≡ pos 0))
+      × (r .status ≡ 0 → r .pages ≡ head 12 img .height)
+      × (r .status ≢ 0 → r .status ≢ 21 → r .pages ≡ 0)
   pub of-average :
       (t : ℕ) (img : List ℕ) (r : AverageAnswer) → Averages t img r
-      → (r .number ≢ 0 → (r .answer ≡ 0) × (r .hundredths ≡ pos 0)) × (r .answer ≢ 2)
+      → (r .status ≢ 0 → (r .answer ≡ 0) × (r .hundredths ≡ pos 0)) × (r .answer ≢ 2)
   pub of-listing :
-      (a b : ℕ) (img out : List ℕ) (r : ListingAnswer) (after : List ℕ) → Lists a b img out r after → r .number ≢ 0
+      (a b : ℕ) (img out : List ℕ) (r : ListingAnswer) (after : List ℕ) → Lists a b img out r after → r .status ≢ 0
       → (after ≡ out) × (r .runs ≡ 0)
   pub of-audit :
       (img scratch : List ℕ) (r : ℕ) (left : List ℕ) → Audits img scratch r left

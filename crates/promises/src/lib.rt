@@ -1,5 +1,5 @@
 // The demands, and each function for C called once, under a contract that says what the demands take of it, in the definitions' own
-// words: the number, the answer and every byte that it was lent are the definition's, and the call is that step of a list of calls on
+// words: the status, the answer and every byte that it was lent are the definition's, and the call is that step of a list of calls on
 // the image that it is handed. The demands hold of every list of such steps; that the functions make them is said here, where a call
 // whose own promise said less would not be proved. Nothing of this is exported, and nothing calls it.
 use luwhenoka::AverageAnswer;
@@ -20,13 +20,13 @@ ghost use Rattle.rule.specs.Averages.{average};
 ghost use Rattle.calls.specs.Changes.{entering, withdrawing};
 ghost use Rattle.calls.specs.Calls as calls;
 ghost use Rattle.calls.specs.Accepted.{Accepted-change};
-ghost use Rattle.calls.specs.Trace.{Step, Trace, made};
+ghost use Rattle.calls.specs.Trace.{Step, Trace, change-made};
 ghost use Rattle.luwhenoka.specs.Answers.{average-answer};
 ghost use Rattle.promises.specs.AfterLists.{After-lists, Instant-as, Average-as, Listing-as, Audit-as, Booking-as};
 
 // A format that returns 0 begins a list, and a refused one keeps the image.
 pub fn format(img: &mut [u8], kind: u32, window: u32) -> u32
-    ensures { λ r. ⌜ record { number = r; image = now (img .exit) } ≡ calls.format 12 kind window (now (img .entry)) ⌝ }
+    ensures { λ r. ⌜ record { status = r; image = now (img .exit) } ≡ calls.format 12 kind window (now (img .entry)) ⌝ }
     ensures { λ r. ⌜ (r ≡ 0 → Trace 12 kind window (now (img .exit)) []) ⌝ }
     ensures { λ r. ⌜ (r ≢ 0 → Step 12 (now (img .entry)) [] (now (img .exit))) ⌝ }
 {
@@ -36,9 +36,9 @@ pub fn format(img: &mut [u8], kind: u32, window: u32) -> u32
 // A booking makes its change if it returns 0, and none if it is refused. What an accepted change leaves is said of images of bytes, and
 // every image that is lent is one.
 pub fn enter(img: &mut [u8], scratch: &mut [u8], v: i64, s: u32, e: u32) -> u32
-    ensures { λ r. ⌜ record { number = r; image = now (img .exit); scratch = now (scratch .exit) }
+    ensures { λ r. ⌜ record { status = r; image = now (img .exit); scratch = now (scratch .exit) }
         ≡ calls.book 12 entering v s e (now (img .entry)) (now (scratch .entry)) ⌝ }
-    ensures { λ r. ⌜ Step 12 (now (img .entry)) (made r (record { side = entering; v = v; s = s; e = e })) (now (img .exit)) ⌝ }
+    ensures { λ r. ⌜ Step 12 (now (img .entry)) (change-made r (record { side = entering; v = v; s = s; e = e })) (now (img .exit)) ⌝ }
     ensures { λ r. ⌜ (r ≡ 0 → Accepted-change 12 entering v s e (now (img .entry)) (now (img .exit))) ⌝ }
     ensures { λ r. ⌜ After-lists (now (img .entry)) (Booking-as entering v s e (now (img .entry)) (now (scratch .entry)) r) ⌝ }
 {
@@ -46,9 +46,9 @@ pub fn enter(img: &mut [u8], scratch: &mut [u8], v: i64, s: u32, e: u32) -> u32
 }
 
 pub fn withdraw(img: &mut [u8], scratch: &mut [u8], v: i64, s: u32, e: u32) -> u32
-    ensures { λ r. ⌜ record { number = r; image = now (img .exit); scratch = now (scratch .exit) }
+    ensures { λ r. ⌜ record { status = r; image = now (img .exit); scratch = now (scratch .exit) }
         ≡ calls.book 12 withdrawing v s e (now (img .entry)) (now (scratch .entry)) ⌝ }
-    ensures { λ r. ⌜ Step 12 (now (img .entry)) (made r (record { side = withdrawing; v = v; s = s; e = e })) (now (img .exit)) ⌝ }
+    ensures { λ r. ⌜ Step 12 (now (img .entry)) (change-made r (record { side = withdrawing; v = v; s = s; e = e })) (now (img .exit)) ⌝ }
     ensures { λ r. ⌜ (r ≡ 0 → Accepted-change 12 withdrawing v s e (now (img .entry)) (now (img .exit))) ⌝ }
     ensures { λ r. ⌜ After-lists (now (img .entry)) (Booking-as withdrawing v s e (now (img .entry)) (now (scratch .entry)) r) ⌝ }
 {
@@ -57,7 +57,7 @@ pub fn withdraw(img: &mut [u8], scratch: &mut [u8], v: i64, s: u32, e: u32) -> u
 
 // Who only reads an image keeps it, and tells after any list of calls what the book does.
 pub fn instant(img: &[u8], t: u32) -> InstantAnswer
-    ensures { λ r. ⌜ record { number = r .number; pair = record { sum = r .sum; count = r .count }; pages = r .pages }
+    ensures { λ r. ⌜ record { status = r .status; pair = record { sum = r .sum; count = r .count }; pages = r .pages }
         ≡ calls.instant 12 t (now (img .entry)) ⌝ }
     ensures { λ r. ⌜ Step 12 (now (img .entry)) [] (now (img .exit)) ⌝ }
     ensures { λ r. ⌜ After-lists (now (img .entry)) (Instant-as t r) ⌝ }
@@ -66,7 +66,7 @@ pub fn instant(img: &[u8], t: u32) -> InstantAnswer
 }
 
 pub fn listing(img: &[u8], a: u32, b: u32, out: &mut [u8]) -> ListingAnswer
-    ensures { λ r. ⌜ record { number = r .number; runs = r .runs; output = now (out .exit) }
+    ensures { λ r. ⌜ record { status = r .status; runs = r .runs; output = now (out .exit) }
         ≡ calls.listing 12 a b (now (img .entry)) (now (out .entry)) ⌝ }
     ensures { λ r. ⌜ Step 12 (now (img .entry)) [] (now (img .exit)) ⌝ }
     ensures { λ r. ⌜ After-lists (now (img .entry)) (Listing-as a b (now (out .entry)) r (now (out .exit))) ⌝ }
@@ -75,7 +75,7 @@ pub fn listing(img: &[u8], a: u32, b: u32, out: &mut [u8]) -> ListingAnswer
 }
 
 pub fn audit(img: &[u8], scratch: &mut [u8]) -> u32
-    ensures { λ r. ⌜ record { number = r; scratch = now (scratch .exit) }
+    ensures { λ r. ⌜ record { status = r; scratch = now (scratch .exit) }
         ≡ calls.audit 12 (now (img .entry)) (now (scratch .entry)) ⌝ }
     ensures { λ r. ⌜ Step 12 (now (img .entry)) [] (now (img .exit)) ⌝ }
     ensures { λ r. ⌜ After-lists (now (img .entry)) (Audit-as (now (img .entry)) (now (scratch .entry)) r) ⌝ }
@@ -84,7 +84,7 @@ pub fn audit(img: &[u8], scratch: &mut [u8]) -> u32
 }
 
 pub fn average_at(img: &[u8], t: u32) -> AverageAnswer
-    ensures { λ r. ⌜ r ≡ average-answer (calls.average-at 12 t (now (img .entry)) .number)
+    ensures { λ r. ⌜ r ≡ average-answer (calls.average-at 12 t (now (img .entry)) .status)
         (calls.average-at 12 t (now (img .entry)) .average) ⌝ }
     ensures { λ r. ⌜ Step 12 (now (img .entry)) [] (now (img .exit)) ⌝ }
     ensures { λ r. ⌜ After-lists (now (img .entry)) (Average-as t r) ⌝ }

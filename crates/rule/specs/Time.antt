@@ -33,8 +33,8 @@ unfoldable pub window-ok : ℕ → Bool
 window-ok w = leb w 1000000000
 
 -- "its effect covers [s, e′), e′ the smaller of e+w and END"
-unfoldable pub lengthened : ℕ → ℕ → ℕ
-lengthened e w = min (e + w) END
+unfoldable pub effect-end : ℕ → ℕ → ℕ
+effect-end e w = min (e + w) END
 
 -- the span [s, e) has the instant t
 unfoldable pub covers : ℕ → ℕ → ℕ → Bool

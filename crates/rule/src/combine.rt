@@ -2,7 +2,7 @@
 use crate::Pair;
 use crate::limits::GREATEST;
 use crate::limits::TOTALS;
-use crate::time::in_range;
+use crate::time::value_ok;
 ghost use mathlib.Core.Path.{_≡_};
 ghost use mathlib.Core.Bool.{cond};
 ghost use lib.Dec.{eqb};
@@ -27,7 +27,7 @@ pub fn is_none(p: Pair) -> bool
 pub fn value_or_none(p: Pair) -> bool
     ensures { λ r. ⌜ r ≡ value-or-none p ⌝ }
 {
-    is_none(p) | (in_range(p.sum) & (p.count == 1))
+    is_none(p) | (value_ok(p.sum) & (p.count == 1))
 }
 
 // The greater of two numbers for kind 2, else the lesser.

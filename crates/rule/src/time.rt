@@ -7,10 +7,10 @@ use crate::limits::MOST_WINDOW;
 use crate::limits::TOTALS;
 use crate::numbers::magnitude;
 ghost use mathlib.Core.Path.{_≡_};
-ghost use Rattle.rule.specs.Time.{value-ok, kind-ok, window-ok, lengthened, overlaps};
+ghost use Rattle.rule.specs.Time.{value-ok, kind-ok, window-ok, effect-end, overlaps};
 
 // Whether a number is a value.
-pub fn in_range(v: i64) -> bool
+pub fn value_ok(v: i64) -> bool
     ensures { λ r. ⌜ r ≡ value-ok v ⌝ }
 {
     magnitude(v) <= MOST_VALUE
@@ -31,8 +31,8 @@ pub fn window_ok(w: u32) -> bool
 }
 
 // Where the effect of a booking up to e ends: the sum may pass 32 bits, so it is taken in 64.
-pub fn lengthened(e: u32, w: u32) -> u32
-    ensures { λ r. ⌜ r ≡ lengthened e w ⌝ }
+pub fn effect_end(e: u32, w: u32) -> u32
+    ensures { λ r. ⌜ r ≡ effect-end e w ⌝ }
 {
     let sum = e as u64 + w as u64;
     if sum < END_WIDE { sum as u32 } else { END }

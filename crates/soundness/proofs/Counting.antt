@@ -18,12 +18,12 @@ use Rattle.soundness.proofs.Sound.{the-head, the-tree, the-chain, Fit-i
 use Rattle.soundness.proofs.Used.{tree-within, chain-within, used-once}
 
 -- what soundness by counting says, by name, and back
-pub record Counted (half : ℕ) (img : List ℕ) : Type 0 where
+pub record Counting-facts (half : ℕ) (img : List ℕ) : Type 0 where
   pub fit : Fit-image half img
   pub count : length (the-tree half img) + the-head half img .chain ≡ the-head half img .mark - 1
   pub ends : chain-ends half img (the-head half img .chain) (the-head half img .free) ≡ true
 
-pub counted-facts : (half : ℕ) (img : List ℕ) → sound-by-counting half img ≡ true → Counted half img
+pub counted-facts : (half : ℕ) (img : List ℕ) → sound-by-counting half img ≡ true → Counting-facts half img
 unfolding sound-by-counting
 counted-facts half img e =
     let k = simp and-eq-true-iff at e in
@@ -33,7 +33,7 @@ counted-facts half img e =
       ends = k .1 .1 .1 .1 .0;
     }
 
-pub facts-counted : (half : ℕ) (img : List ℕ) → Counted half img → sound-by-counting half img ≡ true
+pub facts-counted : (half : ℕ) (img : List ℕ) → Counting-facts half img → sound-by-counting half img ≡ true
 unfolding sound-by-counting
 facts-counted half img f =
     simp and-eq-true-iff
@@ -41,7 +41,7 @@ facts-counted half img f =
 
 module _ {half : ℕ} {img : List ℕ} where
   -- A chain that ends is its list, all free pages and none twice; so with as many pages as lie below the mark, each is there once.
-  pub counted-sound : Counted half img → Sound-facts half img
+  pub counted-sound : Counting-facts half img → Sound-facts half img
   counted-sound f = record { fit = f .fit; once = once; chain-length = chain 0 .long; free = free }
     where
       chain : (p : ℕ) → Chain half img (the-head half img .chain) p (the-chain half img)
@@ -61,7 +61,7 @@ module _ {half : ℕ} {img : List ℕ} where
           (chain-within (f .fit) free) (used-once (f .fit) free (λ p. chain p .most)) (omega (arith, f .count, chain 0 .long)) i (omega arith)
 
   -- Pages that are there once each are as many as lie below the mark; so the chain's list was not cut off, and the chain ends.
-  pub sound-counted : Sound-facts half img → Counted half img
+  pub sound-counted : Sound-facts half img → Counting-facts half img
   sound-counted f = record { fit = f .fit; count = omega (arith, count, f .chain-length); ends = rw (f .chain-length) at ends }
     where
       count : length (the-tree half img) + length (the-chain half img) ≡ the-head half img .mark - 1

@@ -11,7 +11,7 @@ use Rattle.fields.specs.Bytes.{every}
 use Rattle.fields.proofs.Laws.Tests.{every-all, every-of}
 use Rattle.page.specs.declared.Head.{Head}
 use Rattle.page.specs.Layout.{free-ok, never-used-ok, head-of}
-use Rattle.page.specs.Fit.{root-place, head-fit}
+use Rattle.page.specs.Fit.{root-context, head-fit}
 use Rattle.image.specs.Images.{page-at, pages-in, length-ok}
 use Rattle.image.specs.Sound.{tree-fit, tree-pages, chain-pages, each-once, sound}
 use Rattle.lists.specs.Lists.{times}
@@ -45,7 +45,7 @@ head-test half img = head-fit half (pages-in half img) (page-at half img 0)
 
 abbrev pub tree-test : ℕ → List ℕ → Bool
 tree-test half img =
-    tree-fit half (the-head half img) img (the-head half img .height - 1) (root-place (the-head half img)) (the-head half img .root)
+    tree-fit half (the-head half img) img (the-head half img .height - 1) (root-context (the-head half img)) (the-head half img .root)
 
 abbrev pub never-test : ℕ → List ℕ → Bool
 never-test half img = every (pages-in half img - the-head half img .mark) (λ i. never-used-ok (page-at half img (the-head half img .mark + i)))

@@ -11,10 +11,10 @@ use lib.Dec.{eqb, leb, ltb}
 use borrow.Author.Tests.{eqb-true}
 use Rattle.fields.specs.Bytes.{every}
 use Rattle.page.specs.declared.Head.{Head}
-use Rattle.page.specs.Layout.{number-of, child-at, free-ok, next-of}
+use Rattle.page.specs.Layout.{entry-count, child-at, free-ok, next-of}
 use Rattle.lists.specs.Lists.{listed}
 use Rattle.lists.proofs.Listed.{length-listed}
-use Rattle.page.specs.Fit.{Place, root-place, place-below, page-fit}
+use Rattle.page.specs.Fit.{Page-context, root-context, context-below, page-fit}
 use Rattle.image.specs.Images.{page-at, pages-in}
 use Rattle.image.specs.Sound.{tree-fit}
 use Rattle.lists.specs.Lists.{times}
@@ -119,7 +119,7 @@ module _ (half : ℕ) (h : Head) (img : List ℕ) where
   all-each zero t f r = refl
   all-each (suc n) t f r = (λ j. all-each n t f r j && r n j) ∙ sym (all-fit-append half h img (each-in-turn n f) (f n))
 
-  pub tree-looks : (l : ℕ) (at : Place) (q : ℕ) → tree-fit half h img l at q ≡ all-fit half h img (visits half h img every-entry l at q)
+  pub tree-looks : (l : ℕ) (at : Page-context) (q : ℕ) → tree-fit half h img l at q ≡ all-fit half h img (visits half h img every-entry l at q)
   unfolding tree-fit all-fit visits finds-fit every-entry
   tree-looks zero at q = go (page-fit half h at (page-at half img q))
     where
@@ -127,20 +127,20 @@ module _ (half : ℕ) (h : Head) (img : List ℕ) where
       go true = refl
       go false = refl
   tree-looks (suc l) at q =
-      go (λ i. tree-looks l (place-below half (page-at half img q) at i) (child-at half (page-at half img q) i)) (page-fit half h at (page-at half img q))
+      go (λ i. tree-looks l (context-below half (page-at half img q) at i) (child-at half (page-at half img q) i)) (page-fit half h at (page-at half img q))
     where
       s : List ℕ
       s = page-at half img q
 
       looks : ℕ → List Visit
-      looks i = visits half h img every-entry l (place-below half s at i) (child-at half s i)
+      looks i = visits half h img every-entry l (context-below half s at i) (child-at half s i)
 
       tests : ℕ → Bool
-      tests i = tree-fit half h img l (place-below half s at i) (child-at half s i)
+      tests i = tree-fit half h img l (context-below half s at i) (child-at half s i)
 
       go : ((i : ℕ) → tests i ≡ all-fit half h img (looks i)) → (c : Bool)
-          → c && every (number-of s) tests ≡ c && all-fit half h img (cond c (each-in-turn (number-of s) looks) [])
-      go r true = all-each (number-of s) tests looks r
+          → c && every (entry-count s) tests ≡ c && all-fit half h img (cond c (each-in-turn (entry-count s) looks) [])
+      go r true = all-each (entry-count s) tests looks r
       go r false = refl
 
   -- ---- every look is at a page of the image
@@ -160,19 +160,19 @@ module _ (half : ℕ) (h : Head) (img : List ℕ) where
       pages-append [] ws = refl
       pages-append (v ∷ vs) ws = ap (λ z. v .page ∷ z) (pages-append vs ws)
 
-  pub visits-in : (into : Place → List ℕ → ℕ → Bool) (p l : ℕ) (at : Place) (q : ℕ) → at .level ≡ l → 1 ≤ q → q < h .pages
+  pub visits-in : (into : Page-context → List ℕ → ℕ → Bool) (p l : ℕ) (at : Page-context) (q : ℕ) → at .level ≡ l → 1 ≤ q → q < h .pages
       → 1 ≤ times p (pages-of (visits half h img into l at q)) → (1 ≤ p) × (p < h .pages)
-  unfolding visits pages-of times place-below
+  unfolding visits pages-of times context-below
   visits-in into p zero at q e a b m = first-or p q 0 m (λ c. omega arith) (λ z. absurd (omega arith))
   visits-in into p (suc l) at q e a b m =
-      go (λ i. visits-in into p l (place-below half (page-at half img q) at i) (child-at half (page-at half img q) i))
+      go (λ i. visits-in into p l (context-below half (page-at half img q) at i) (child-at half (page-at half img q) i))
       (page-fit half h at (page-at half img q)) refl m
     where
       s : List ℕ
       s = page-at half img q
 
       under : ℕ → List Visit
-      under i = visits half h img into l (place-below half s at i) (child-at half s i)
+      under i = visits half h img into l (context-below half s at i) (child-at half s i)
 
       looks : ℕ → List Visit
       looks i = cond (into at s i) (under i) []
@@ -185,36 +185,36 @@ module _ (half : ℕ) (h : Head) (img : List ℕ) where
       go : ((i : ℕ) → at .level - 1 ≡ l → 1 ≤ child-at half s i → child-at half s i < h .pages
           → 1 ≤ times p (pages-of (under i)) → (1 ≤ p) × (p < h .pages))
           → (c : Bool) → page-fit half h at s ≡ c
-          → 1 ≤ hit p q + times p (pages-of (cond c (each-in-turn (number-of s) looks) [])) → (1 ≤ p) × (p < h .pages)
+          → 1 ≤ hit p q + times p (pages-of (cond c (each-in-turn (entry-count s) looks) [])) → (1 ≤ p) × (p < h .pages)
       go down true f m =
           let k : PageFit half h at s = page-fit-is half h at s .0 f in
-          first-or p q (times p (pages-of (each-in-turn (number-of s) looks))) m (λ c. omega arith)
+          first-or p q (times p (pages-of (each-in-turn (entry-count s) looks))) m (λ c. omega arith)
           (λ z.
-          total-some (number-of s) (λ i. times p (pages-of (looks i)))
+          total-some (entry-count s) (λ i. times p (pages-of (looks i)))
           (λ i w.
           let c = k .children i w .inner (omega arith) in
           one i (into at s i) (down i (omega arith) (c .0) (c .1)))
-          (omega (arith, pages-times (number-of s) looks p)))
+          (omega (arith, pages-times (entry-count s) looks p)))
       go down false f m = first-or p q 0 m (λ c. omega arith) (λ z. absurd (omega arith))
 
 -- ---- from the root of an image whose head is fit
 
 -- all that a walk would look at if it went on after an unfit page
-abbrev pub all-visits : ℕ → List ℕ → (Place → List ℕ → ℕ → Bool) → List Visit
+abbrev pub all-visits : ℕ → List ℕ → (Page-context → List ℕ → ℕ → Bool) → List Visit
 all-visits half img into =
-    visits half (the-head half img) img into (the-head half img .height - 1) (root-place (the-head half img)) (the-head half img .root)
+    visits half (the-head half img) img into (the-head half img .height - 1) (root-context (the-head half img)) (the-head half img .root)
 
 module _ (half : ℕ) (img : List ℕ) (fits : head-test half img ≡ true) where
   facts : Ranges (pages-in half img) (the-head half img)
   facts = fit-ranges half (pages-in half img) (page-at half img 0) fits
 
-  module _ (into : Place → List ℕ → ℕ → Bool) where
+  module _ (into : Page-context → List ℕ → ℕ → Bool) where
     placed : (p : ℕ)
         → Placed (times p (found-fit half (the-head half img) img (all-visits half img into))) p (page-at half img p) (suc (the-head half img .height - 1))
-        (root-place (the-head half img) .lo) (root-place (the-head half img) .hi) (the-head half img .pages)
+        (root-context (the-head half img) .lo) (root-context (the-head half img) .hi) (the-head half img .pages)
     placed p =
-        visits-placed half (the-head half img) img p into (the-head half img .height - 1) (root-place (the-head half img)) (the-head half img .root)
-        (unfold root-place in refl) (facts .root-least) (omega (arith, facts .pages-is, facts .root-below))
+        visits-placed half (the-head half img) img p into (the-head half img .height - 1) (root-context (the-head half img)) (the-head half img .root)
+        (unfold root-context in refl) (facts .root-least) (omega (arith, facts .pages-is, facts .root-below))
 
     pub found-short : length (found-fit half (the-head half img) img (all-visits half img into)) < pages-in half img
     found-short =
@@ -222,7 +222,7 @@ module _ (half : ℕ) (img : List ℕ) (fits : head-test half img ≡ true) wher
           arith,
           facts .root-below,
           short-of-once (pages-in half img - 1) (found-fit half (the-head half img) img (all-visits half img into))
-              (λ p k. omega (arith, placed p .number k, facts .pages-is)) (λ p. placed p .held .most),
+              (λ p k. omega (arith, placed p .inside k, facts .pages-is)) (λ p. placed p .held .most),
         )
 
     -- no page is found fit at two looks
@@ -234,8 +234,8 @@ module _ (half : ℕ) (img : List ℕ) (fits : head-test half img ≡ true) wher
     unfolding trail
     trail-in p m =
         let k : (1 ≤ p) × (p < the-head half img .pages) =
-        visits-in half (the-head half img) img into p (the-head half img .height - 1) (root-place (the-head half img)) (the-head half img .root)
-        (unfold root-place in refl) (facts .root-least) (omega (arith, facts .pages-is, facts .root-below))
+        visits-in half (the-head half img) img into p (the-head half img .height - 1) (root-context (the-head half img)) (the-head half img .root)
+        (unfold root-context in refl) (facts .root-least) (omega (arith, facts .pages-is, facts .root-below))
         (omega (arith, up-to-pages half (the-head half img) img p (all-visits half img into))) in
         omega (arith, k, facts .pages-is)
 
@@ -327,7 +327,7 @@ module _ (half : ℕ) (img : List ℕ) where
   pub audit-fits : tree-test half img ≡ all-fit half (the-head half img) img (audit-trail half img)
   unfolding audit-trail trail
   audit-fits =
-      tree-looks half (the-head half img) img (the-head half img .height - 1) (root-place (the-head half img)) (the-head half img .root)
+      tree-looks half (the-head half img) img (the-head half img .height - 1) (root-context (the-head half img)) (the-head half img .root)
       ∙ sym (all-fit-up-to half (the-head half img) img (all-visits half img every-entry))
 
   pub audit-tree : tree-test half img ≡ true → pages-of (audit-trail half img) ≡ the-tree half img
@@ -338,4 +338,4 @@ module _ (half : ℕ) (img : List ℕ) where
       let cut : all-fit half h img (up-to-unfit half h img vs) ≡ true = sym audit-fits ∙ t in
       ap pages-of (up-to-all half h img vs cut)
       ∙ sym (all-found half h img vs (sym (all-fit-up-to half h img vs) ∙ cut))
-      ∙ tree-found half h img (h .height - 1) (root-place h) (h .root) t
+      ∙ tree-found half h img (h .height - 1) (root-context h) (h .root) t

@@ -6,7 +6,7 @@ use Prim.Native.Nat.{ℕ, suc, _+_, _-_, _≤_, _<_}
 use native.Mathlib.Omega.{arith}
 use native.Mathlib.Decide.{decLe}
 use Rattle.page.specs.Layout.{level-of, free-ok}
-use Rattle.page.specs.Fit.{root-place}
+use Rattle.page.specs.Fit.{root-context}
 use Rattle.image.specs.Images.{page-at, pages-in}
 use Rattle.lists.specs.Lists.{times}
 use Rattle.lists.proofs.Times.{Within}
@@ -17,11 +17,11 @@ use Rattle.soundness.proofs.Sound.{the-head, the-tree, the-chain, Fit-i
 
 module _ {half : ℕ} {img : List ℕ} (f : Fit-image half img) where
   placed : (p : ℕ)
-      → Placed (times p (the-tree half img)) p (page-at half img p) (suc (the-head half img .height - 1)) (root-place (the-head half img) .lo)
-      (root-place (the-head half img) .hi) (the-head half img .pages)
+      → Placed (times p (the-tree half img)) p (page-at half img p) (suc (the-head half img .height - 1)) (root-context (the-head half img) .lo)
+      (root-context (the-head half img) .hi) (the-head half img .pages)
   placed p =
-      tree-placed half (the-head half img) img p (the-head half img .height - 1) (root-place (the-head half img)) (the-head half img .root)
-      (unfold root-place in refl) (f .head .root-least) (omega arith) (f .tree)
+      tree-placed half (the-head half img) img p (the-head half img .height - 1) (root-context (the-head half img)) (the-head half img .root)
+      (unfold root-context in refl) (f .head .root-least) (omega arith) (f .tree)
 
   -- a page of the tree
   pub tree-once : (p : ℕ) → times p (the-tree half img) ≤ 1
@@ -32,7 +32,7 @@ module _ {half : ℕ} {img : List ℕ} (f : Fit-image half img) where
 
   pub tree-within : Within (the-head half img .mark - 1) (the-tree half img)
   tree-within p h =
-      let n : (1 ≤ p) × (p < the-head half img .pages) = placed p .number h in
+      let n : (1 ≤ p) × (p < the-head half img .pages) = placed p .inside h in
       omega (arith, used-below half img (f .whole) (the-head half img .mark) p (f .never) (omega arith) (omega (arith, tree-level p h)))
 
   -- a free page

@@ -9,7 +9,7 @@ use lib.ListN.{length}
 use lib.Dec.{eqb, leb, ltb}
 use Rattle.fields.specs.Bytes.{every}
 use Rattle.page.specs.Layout.{next-of, free-ok, never-used-ok, head-of}
-use Rattle.page.specs.Fit.{root-place, head-fit}
+use Rattle.page.specs.Fit.{root-context, head-fit}
 use Rattle.image.specs.Images.{page-at, pages-in, length-ok}
 use Rattle.image.specs.Sound.{tree-fit, tree-pages}
 
@@ -30,7 +30,7 @@ sound-by-counting half img =
     let h = head-of (page-at half img 0) in
     length-ok half img
     && (head-fit half n (page-at half img 0)
-    && (tree-fit half h img (h .height - 1) (root-place h) (h .root)
+    && (tree-fit half h img (h .height - 1) (root-context h) (h .root)
     && (eqb (length (tree-pages half img (h .height - 1) (h .root)) + h .chain) (h .mark - 1)
     && (chain-ends half img (h .chain) (h .free)
     && every (n - h .mark) (λ i. never-used-ok (page-at half img (h .mark + i)))))))

@@ -5,12 +5,12 @@ use mathlib.Core.List.{List, [], _∷_, _++_}
 use lib.Dec.{leb, ltb}
 use Rattle.rule.specs.declared.Pair.{Pair}
 use Rattle.rule.specs.Time.{END}
-use Rattle.page.specs.Entries.{at, place}
+use Rattle.page.specs.Entries.{at, index-of}
 use Rattle.image.specs.Images.{Image}
-use Rattle.steps.specs.Supply.{entries, spares, pages-taken, counted}
+use Rattle.steps.specs.Supply.{entries, spares, pages-taken, count-change}
 use Rattle.steps.specs.Cut.{cut}
-use Rattle.steps.specs.Spread.{spread}
-use Rattle.steps.specs.Heal.{heal, heal-page, short, neighbour}
+use Rattle.steps.specs.Combine.{combine-span}
+use Rattle.steps.specs.Heal.{heal, heal-page, short, sibling}
 
 -- "A. Cut at s. B. Cut at e′."
 unfoldable pub cuts : ℕ → ℕ → ℕ → Image → Image
@@ -23,46 +23,47 @@ lacks-pages half s e X =
 
 -- "The way to t, in the image as the step finds it: the root, then each time the child of the last entry starting at t or
 -- before, down to a leaf."
-unfoldable pub way-from : ℕ → ℕ → ℕ → Image → List ℕ
-way-from t zero p X = p ∷ []
-way-from t (suc l) p X = p ∷ way-from t l (at (entries X p) (place t (entries X p)) .child) X
+unfoldable pub path-from : ℕ → ℕ → ℕ → Image → List ℕ
+path-from t zero p X = p ∷ []
+path-from t (suc l) p X = p ∷ path-from t l (at (entries X p) (index-of t (entries X p)) .child) X
 
--- "END is no instant": no page is on the way to it.
-unfoldable pub way : ℕ → Image → List ℕ
-way t X = cond (leb END t) [] (way-from t (X .head .height - 1) (X .head .root) X)
+-- "END is no instant": no page is on the path to it.
+unfoldable pub path : ℕ → Image → List ℕ
+path t X = cond (leb END t) [] (path-from t (X .head .height - 1) (X .head .root) X)
 
 module _ (half : ℕ) (_⊕_ : Pair → Pair → Pair) where
   -- "C. Combine the effect into [s, e′). D. Heal at s. E. Heal at e′. Then changes rises by 1."
   unfoldable pub change : ℕ → ℕ → Pair → Image → Image
-  change s e effect X = counted (heal half _⊕_ e (heal half _⊕_ s (spread _⊕_ s e effect (cuts half s e X))))
+  change s e effect X = count-change (heal half _⊕_ e (heal half _⊕_ s (combine-span _⊕_ s e effect (cuts half s e X))))
 
   -- "Each step may write only the head, pages on the way to its instant (C: to s and e′), the neighbour each turns to, and pages
-  -- taken or given back." A page given back is on the way or is the neighbour of one that is.
+  -- taken or given back." A page given back is on the path or is the sibling of one that is.
 
   unfoldable pub cut-names : ℕ → Image → List ℕ
-  cut-names t X = way t X ++ spares (pages-taken X (cut half t X)) X
+  cut-names t X = path t X ++ spares (pages-taken X (cut half t X)) X
 
-  unfoldable pub spread-names : ℕ → ℕ → Image → List ℕ
-  spread-names s e X = way s X ++ way e X
+  -- C: the paths to s and to e′
+  unfoldable pub combine-names : ℕ → ℕ → Image → List ℕ
+  combine-names s e X = path s X ++ path e X
 
-  -- the neighbours that the pages on the way turn to, below page p of the level named
-  unfoldable pub turned-to : ℕ → ℕ → ℕ → Image → List ℕ
-  turned-to t zero p X = []
-  turned-to t (suc l) p X =
-      let i = place t (entries X p) in
+  -- the siblings that the pages on the path are rebalanced with, below page p of the level named
+  unfoldable pub siblings-used : ℕ → ℕ → ℕ → Image → List ℕ
+  siblings-used t zero p X = []
+  siblings-used t (suc l) p X =
+      let i = index-of t (entries X p) in
       let q = at (entries X p) i .child in
-      let n = at (entries X p) (neighbour i) .child in
-      turned-to t l q X ++ cond (short half q (heal-page half _⊕_ t l q X)) (n ∷ []) []
+      let n = at (entries X p) (sibling i) .child in
+      siblings-used t l q X ++ cond (short half q (heal-page half _⊕_ t l q X)) (n ∷ []) []
 
-  -- no page is on the way to END, so none turns
+  -- no page is on the path to END, so none is rebalanced
   unfoldable pub heal-names : ℕ → Image → List ℕ
-  heal-names t X = way t X ++ cond (leb END t) [] (turned-to t (X .head .height - 1) (X .head .root) X)
+  heal-names t X = path t X ++ cond (leb END t) [] (siblings-used t (X .head .height - 1) (X .head .root) X)
 
   -- the head, and what each of the five names in the image as it finds it
   unfoldable pub change-names : ℕ → ℕ → Pair → Image → List ℕ
   change-names s e effect X =
       let A = cut half s X in
       let B = cut half e A in
-      let C = spread _⊕_ s e effect B in
+      let C = combine-span _⊕_ s e effect B in
       let D = heal half _⊕_ s C in
-      0 ∷ (cut-names s X ++ (cut-names e A ++ (spread-names s e B ++ (heal-names s C ++ heal-names e D))))
+      0 ∷ (cut-names s X ++ (cut-names e A ++ (combine-names s e B ++ (heal-names s C ++ heal-names e D))))

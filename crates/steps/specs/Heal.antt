@@ -7,7 +7,7 @@ use lib.Dec.{eqb, ltb}
 use Rattle.rule.specs.declared.Pair.{Pair}
 use Rattle.rule.specs.Pairs.{none, same-pair}
 use Rattle.page.specs.declared.Entry.{Entry}
-use Rattle.page.specs.Entries.{entry, at, place, push}
+use Rattle.page.specs.Entries.{entry, at, index-of, push}
 use Rattle.lists.specs.Lists.{splice}
 use Rattle.image.specs.Images.{Image, tree}
 use Rattle.steps.specs.Supply.{entries, put, given-back, with-root}
@@ -20,11 +20,11 @@ heals t es i = ltb 0 i && (eqb (at es i .start) t && same-pair (at es i .pair) (
 unfoldable pub short : ℕ → ℕ → Image → Bool
 short half p X = ltb (length (entries X p)) half
 
--- "turns to its left neighbour under the same parent, else the right": the neighbour's place, for the page under the i-th entry
-unfoldable pub neighbour : ℕ → ℕ
-neighbour i = cond (eqb i 0) 1 (i - 1)
+-- "turns to its left neighbour under the same parent, else the right": the sibling's index, for the page under the i-th entry
+unfoldable pub sibling : ℕ → ℕ
+sibling i = cond (eqb i 0) 1 (i - 1)
 
--- the place of the left one of the two
+-- the index of the left one of the two
 unfoldable pub left-of : ℕ → ℕ
 left-of i = i - 1
 
@@ -35,17 +35,17 @@ module _ (_⊕_ : Pair → Pair → Pair) where
 
   -- "Each of the two parent pairs is first combined into its page's entries and set to (0, 0)": all entries of the two pages
   -- under the l-th entry of page p and the next
-  unfoldable pub both : ℕ → ℕ → Image → List Entry
-  both p l X = pushed X (at (entries X p) l) ++ pushed X (at (entries X p) (suc l))
+  unfoldable pub joint : ℕ → ℕ → Image → List Entry
+  joint p l X = pushed X (at (entries X p) l) ++ pushed X (at (entries X p) (suc l))
 
   -- "A neighbour with 13 or more gives its nearest entry, and the right page's parent start follows": the left page has k of all
-  unfoldable pub give : ℕ → ℕ → ℕ → ℕ → Image → Image
-  give level p l k X =
+  unfoldable pub redistribute : ℕ → ℕ → ℕ → ℕ → Image → Image
+  redistribute level p l k X =
       let es = entries X p in
       let a = at es l in
       let b = at es (suc l) in
-      let left = take k (both p l X) in
-      let right = drop k (both p l X) in
+      let left = take k (joint p l X) in
+      let right = drop k (joint p l X) in
       put p (tree (suc level)
       (splice l (entry (a .start) none (a .child) ∷ [])
       (splice (suc l) (entry (at right 0 .start) none (b .child) ∷ []) es)))
@@ -58,39 +58,40 @@ module _ (_⊕_ : Pair → Pair → Pair) where
       let a = at es l in
       let b = at es (suc l) in
       put p (tree (suc level) (splice l (entry (a .start) none (a .child) ∷ []) (splice (suc l) [] es)))
-      (given-back (b .child) (put (a .child) (tree level (both p l X)) X))
+      (given-back (b .child) (put (a .child) (tree level (joint p l X)) X))
 
   -- "An inner root with one entry combines its pair into its child's entries, is given back, and the child becomes root."
-  unfoldable pub lowered : Image → Image
-  lowered X =
+  unfoldable pub collapse-root : Image → Image
+  collapse-root X =
       let h = X .head in
       let e = at (entries X (h .root)) 0 in
       with-root (h .height - 1) (e .child)
       (given-back (h .root) (put (e .child) (tree (h .height - 2) (pushed X e)) X))
 
-  unfoldable pub shrunk : Image → Image
-  shrunk X = cond (ltb 1 (X .head .height) && eqb (length (entries X (X .head .root))) 1) (lowered X) X
+  -- a root of one entry collapses, another one stays
+  unfoldable pub collapse-if-single : Image → Image
+  collapse-if-single X = cond (ltb 1 (X .head .height) && eqb (length (entries X (X .head .root))) 1) (collapse-root X) X
 
 module _ (half : ℕ) (_⊕_ : Pair → Pair → Pair) where
-  -- The page under the i-th entry of page p turns to its neighbour, which has n entries: a left neighbour that gives keeps all but
+  -- The page under the i-th entry of page p is rebalanced with its sibling, which has n entries: a left sibling that gives keeps all but
   -- its last, and a right one makes the left page one longer.
-  unfoldable pub turn : ℕ → ℕ → ℕ → Image → Image
-  turn level p i X =
-      let n = length (entries X (at (entries X p) (neighbour i) .child)) in
+  unfoldable pub rebalance : ℕ → ℕ → ℕ → Image → Image
+  rebalance level p i X =
+      let n = length (entries X (at (entries X p) (sibling i) .child)) in
       let k = cond (eqb i 0) half (n - 1) in
-      cond (ltb half n) (give _⊕_ level p (left-of i) k X) (merge _⊕_ level p (left-of i) X)
+      cond (ltb half n) (redistribute _⊕_ level p (left-of i) k X) (merge _⊕_ level p (left-of i) X)
 
-  -- page p of the level named: the leaf entry goes, and on the way back each page that is left short turns
+  -- page p of the level named: the leaf entry goes, and on the way back each page that is left short is rebalanced
   unfoldable pub heal-page : ℕ → ℕ → ℕ → Image → Image
   heal-page t zero p X =
       let es = entries X p in
-      let i = place t es in
+      let i = index-of t es in
       cond (heals t es i) (put p (tree zero (splice i [] es)) X) X
   heal-page t (suc l) p X =
-      let i = place t (entries X p) in
+      let i = index-of t (entries X p) in
       let q = at (entries X p) i .child in
       let Y = heal-page t l q X in
-      cond (short half q Y) (turn l p i Y) Y
+      cond (short half q Y) (rebalance l p i Y) Y
 
   unfoldable pub heal : ℕ → Image → Image
-  heal t X = shrunk _⊕_ (heal-page t (X .head .height - 1) (X .head .root) X)
+  heal t X = collapse-if-single _⊕_ (heal-page t (X .head .height - 1) (X .head .root) X)

@@ -1,6 +1,6 @@
 pub mod Supply
 pub mod Cut
-pub mod Spread
+pub mod Combine
 pub mod Heal
 pub mod Change
 pub mod Cases

@@ -57,7 +57,7 @@ unfoldable pub spares : ℕ → Image → List ℕ
 spares zero X = []
 spares (suc k) X = spare X ∷ spares k (taken X)
 
--- how many pages were taken on the way from X to Y: those that left the chain, and those that the high mark passed
+-- how many pages were taken on the path from X to Y: those that left the chain, and those that the high mark passed
 unfoldable pub pages-taken : Image → Image → ℕ
 pages-taken X Y = (X .head .chain - Y .head .chain) + (Y .head .mark - X .head .mark)
 
@@ -82,8 +82,8 @@ with-root height p X =
     }
 
 -- "Then changes rises by 1."
-unfoldable pub counted : Image → Image
-counted X =
+unfoldable pub count-change : Image → Image
+count-change X =
     let h = X .head in
     record {
       head =

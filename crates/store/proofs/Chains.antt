@@ -3,17 +3,17 @@
 use Prim.Native.Nat.{ℕ}
 use mathlib.Core.List.{List}
 use Rattle.image.specs.Images.{Image}
-use Rattle.store.specs.Holding.{Holds, Some, Each}
+use Rattle.store.specs.Encoding.{Encodes, Pre, Post}
 
-module _ {Start : Image → Type 0} {before mid : List ℕ} {to : Image → Image} (reach : Each before Start (λ X. Holds mid (to X)))
-    {Ready : Image → Type 0} (ready : (X : Image) → Holds before X → Start X → Ready (to X)) where
+module _ {Start : Image → Type 0} {before mid : List ℕ} {to : Image → Image} (reach : Post before Start (λ X. Encodes mid (to X)))
+    {Ready : Image → Type 0} (ready : (X : Image) → Encodes before X → Start X → Ready (to X)) where
   -- the next step can be made
-  pub some-then : Some before Start → Some mid Ready
+  pub some-then : Pre before Start → Pre mid Ready
   some-then s =
       let X : Image = s .image in
       record { image = to X; holds = reach X (s .holds) (s .ready); ready = ready X (s .holds) (s .ready) }
 
   -- and was
-  pub then : {after : List ℕ} {step : Image → Image} → Each mid Ready (λ X. Holds after (step X))
-      → Each before Start (λ X. Holds after (step (to X)))
+  pub then : {after : List ℕ} {step : Image → Image} → Post mid Ready (λ X. Encodes after (step X))
+      → Post before Start (λ X. Encodes after (step (to X)))
   then g X h s = g (to X) (reach X h s) (ready X h s)

@@ -8,20 +8,20 @@ use lib.Dec.{leb}
 use lib.ListN.{length}
 use Rattle.page.specs.declared.Entry.{Entry}
 use Rattle.page.specs.declared.Page.{Page}
-use Rattle.page.specs.Decoded.{shown}
-use Rattle.page.specs.Entries.{at, last-from, place}
-use Rattle.page.specs.Layout.{number-of, start-at, entry-at, entries-of}
+use Rattle.page.specs.Decoded.{entry-list}
+use Rattle.page.specs.Entries.{at, last-from, index-of}
+use Rattle.page.specs.Layout.{entry-count, start-at, entry-at, entries-of}
 use Rattle.page.proofs.Laws.Trees.{at-entries-of}
 use Rattle.image.specs.Images.{Image, page-at}
-use Rattle.lent.proofs.Laws.{page-length}
-use Rattle.lookup.specs.Levels.{Searched}
-use Rattle.edit.proofs.Edits.{shows-number}
+use Rattle.access.proofs.Laws.{page-length}
+use Rattle.lookup.specs.Levels.{Page-searchable}
+use Rattle.edit.proofs.Edits.{has-len}
 use Rattle.steps.specs.Supply.{entries}
-use Rattle.store.specs.Holding.{Holds, Loaded}
-use Rattle.store.specs.Ready.{Tree-page, Has-entry, Searchable, found-in}
-use Rattle.store.proofs.Holding.{Tree-read, tree-read, holds-length}
+use Rattle.store.specs.Encoding.{Encodes, Loaded}
+use Rattle.store.specs.Preconditions.{Tree-page, Has-entry, Searchable, found-in}
+use Rattle.store.proofs.Encoding.{Tree-read, tree-read, holds-length}
 
--- ---- the place of an instant is an entry's
+-- ---- the index of an instant is an entry's
 
 picked : (b : Bool) (i k n : ℕ) → i < n → k < n → cond b i k < n
 picked true i k n l m = l
@@ -33,25 +33,25 @@ last-inside t i found n [] h k = h
 last-inside t i found n (e ∷ es) h k =
     last-inside t (suc i) (cond (leb (e .start) t) i found) n es (picked (leb (e .start) t) i found n (omega arith) h) (omega arith)
 
-pub place-inside : (t : ℕ) (es : List Entry) → 1 ≤ length es → place t es < length es
-unfolding place
-place-inside t es some = last-inside t 0 0 (length es) es some (omega arith)
+pub slot-inside : (t : ℕ) (es : List Entry) → 1 ≤ length es → index-of t es < length es
+unfolding index-of
+slot-inside t es some = last-inside t 0 0 (length es) es some (omega arith)
 
 -- a page that can be searched has the entry that is found
-pub searchable-entry : {l p t : ℕ} {X : Image} → Searchable l p t X → Has-entry l p (place t (entries X p)) X
-searchable-entry {p = p} {t} {X} s = record { treed = s .treed; inside = place-inside t (entries X p) (s .some) }
+pub searchable-entry : {l p t : ℕ} {X : Image} → Searchable l p t X → Has-entry l p (index-of t (entries X p)) X
+searchable-entry {p = p} {t} {X} s = record { tree-page = s .tree-page; inside = slot-inside t (entries X p) (s .some) }
 
 -- ---- a decoded page
 
-pub loaded-number : {l : ℕ} {es : List Entry} {r : Page} → Loaded l es r → r .number ≡ length es
-loaded-number s = shows-number (s .shows)
+pub loaded-len : {l : ℕ} {es : List Entry} {r : Page} → Loaded l es r → r .len ≡ length es
+loaded-len s = has-len (s .shows)
 
-pub loaded-at : {l : ℕ} {es : List Entry} {r : Page} {e : Entry} (i : ℕ) → Loaded l es r → e ≡ at (shown r) i → e ≡ at es i
+pub loaded-at : {l : ℕ} {es : List Entry} {r : Page} {e : Entry} (i : ℕ) → Loaded l es r → e ≡ at (entry-list r) i → e ≡ at es i
 loaded-at i s e = e ∙ ap (λ es. at es i) (s .shows .entries)
 
 -- ---- the page's bytes, lent as s
 
-module _ {img : List ℕ} {X : Image} {l p : ℕ} (h : Holds img X) (t : Tree-page l p X) where
+module _ {img : List ℕ} {X : Image} {l p : ℕ} (h : Encodes img X) (t : Tree-page l p X) where
   pub lent-within : 512 * p + 512 ≤ length img
   lent-within = omega (arith, holds-length h, t .within .below)
 
@@ -63,52 +63,52 @@ module _ {img : List ℕ} {X : Image} {l p : ℕ} (h : Holds img X) (t : Tree-pa
     unfolding page-at
     lent-read = subst⁻¹ (λ b. Tree-read b l (entries X p)) same (tree-read h t)
 
-    pub lent-count : {n : ℕ} → n ≡ number-of s → (n ≡ length (entries X p)) × (n ≤ 24)
-    lent-count e = let r = lent-read in (e ∙ r .number, omega (arith, r .number, r .few))
+    pub lent-count : {n : ℕ} → n ≡ entry-count s → (n ≡ length (entries X p)) × (n ≤ 24)
+    lent-count e = let r = lent-read in (e ∙ r .len, omega (arith, r .len, r .few))
 
     pub lent-entry : (i : ℕ) → i < length (entries X p) → entry-at 12 s i ≡ at (entries X p) i
     lent-entry i n =
         let r = lent-read in
-        sym (at-entries-of 12 s i (omega (arith, r .number)) (omega (arith, r .few))) ∙ ap (λ es. at es i) (r .entries)
+        sym (at-entries-of 12 s i (omega (arith, r .len)) (omega (arith, r .few))) ∙ ap (λ es. at es i) (r .entries)
 
-    pub lent-place : {i : ℕ} (instant : ℕ) → i ≡ place instant (entries-of 12 s) → i ≡ place instant (entries X p)
-    lent-place instant e = e ∙ ap (place instant) (lent-read .entries)
+    pub lent-slot : {i : ℕ} (instant : ℕ) → i ≡ index-of instant (entries-of 12 s) → i ≡ index-of instant (entries X p)
+    lent-slot instant e = e ∙ ap (index-of instant) (lent-read .entries)
 
-module _ {img : List ℕ} {X : Image} {l p t : ℕ} (h : Holds img X) (k : Searchable l p t X) {s : List ℕ} (same : s ≡ page-at 12 img p) where
+module _ {img : List ℕ} {X : Image} {l p t : ℕ} (h : Encodes img X) (k : Searchable l p t X) {s : List ℕ} (same : s ≡ page-at 12 img p) where
   start-is : (i : ℕ) → i < length (entries X p) → start-at s i ≡ at (entries X p) i .start
   unfolding entry-at
-  start-is i n = ap (λ (e : Entry). e .start) (lent-entry h (k .treed) same i n)
+  start-is i n = ap (λ (e : Entry). e .start) (lent-entry h (k .tree-page) same i n)
 
-  pub lent-searched : {n : ℕ} → n ≡ number-of s → Searched s n t
+  pub lent-searched : {n : ℕ} → n ≡ entry-count s → Page-searchable s n t
   lent-searched {n} e =
-      let r = lent-read h (k .treed) same in
+      let r = lent-read h (k .tree-page) same in
       record {
         compared =
             record {
-              size = lent-size h (k .treed) same;
-              number = e;
-              some = omega (arith, r .number, k .some);
-              most = omega (arith, r .number, r .few);
+              size = lent-size h (k .tree-page) same;
+              len = e;
+              some = omega (arith, r .len, k .some);
+              most = omega (arith, r .len, r .few);
             };
         rising =
             λ i m.
-            let j : suc i < length (entries X p) = omega (arith, r .number) in
+            let j : suc i < length (entries X p) = omega (arith, r .len) in
             omega (arith, start-is i (omega arith), start-is (suc i) j, k .rising i j);
         first = omega (arith, start-is 0 (k .some), k .first);
       }
 
-  pub lent-found : {n i : ℕ} {e : Entry} → n ≡ number-of s → i ≡ place t (entries-of 12 s) → e ≡ entry-at 12 s i
+  pub lent-found : {n i : ℕ} {e : Entry} → n ≡ entry-count s → i ≡ index-of t (entries-of 12 s) → e ≡ entry-at 12 s i
       → record { count = n; index = i; entry = e } ≡ found-in t (entries X p)
   unfolding found-in
   lent-found {n} {i} {e} a b c =
-      let r = lent-read h (k .treed) same in
+      let r = lent-read h (k .tree-page) same in
       let es : List Entry = entries X p in
-      let here : i ≡ place t es = lent-place h (k .treed) same t b in
-      let found : e ≡ at es (place t es) =
-      c ∙ ap (entry-at 12 s) here ∙ lent-entry h (k .treed) same (place t es) (place-inside t es (k .some)) in
-      let count : n ≡ length es = a ∙ r .number in
+      let here : i ≡ index-of t es = lent-slot h (k .tree-page) same t b in
+      let found : e ≡ at es (index-of t es) =
+      c ∙ ap (entry-at 12 s) here ∙ lent-entry h (k .tree-page) same (index-of t es) (slot-inside t es (k .some)) in
+      let count : n ≡ length es = a ∙ r .len in
       λ j. record { count = count j; index = here j; entry = found j }
 
-  pub lent-inside : {i : ℕ} → i ≡ place t (entries-of 12 s) → i < 24
+  pub lent-inside : {i : ℕ} → i ≡ index-of t (entries-of 12 s) → i < 24
   lent-inside {i} b =
-      omega (arith, lent-place h (k .treed) same t b, place-inside t (entries X p) (k .some), lent-read h (k .treed) same .few)
+      omega (arith, lent-slot h (k .tree-page) same t b, slot-inside t (entries X p) (k .some), lent-read h (k .tree-page) same .few)

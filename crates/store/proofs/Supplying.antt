@@ -9,9 +9,9 @@ use lib.Dec.{eqb}
 use borrow.Author.Tests.{eq-eqb, ne-eqb}
 use Rattle.page.specs.declared.Head.{Head}
 use Rattle.image.specs.Images.{Image, Cell, free, next-in}
-use Rattle.steps.specs.Supply.{put, with-supply, spare, taken, given-back, with-root, counted}
-use Rattle.store.specs.Holding.{Holds, Some, Each, Any, with-head}
-use Rattle.store.specs.Ready.{In-image, Free, Takable}
+use Rattle.steps.specs.Supply.{put, with-supply, spare, taken, given-back, with-root, count-change}
+use Rattle.store.specs.Encoding.{Encodes, Pre, Post, Any, with-head}
+use Rattle.store.specs.Preconditions.{In-image, Free, Takable}
 
 -- ---- a head that was read
 
@@ -22,16 +22,16 @@ by-head {X} P e t = subst (λ k. P (with-head k X)) e t
 -- some image with the head that was read
 pub record Headed (img : List ℕ) (h : Head) (Ready : Image → Type 0) : Type 0 where
   pub image : Image
-  pub holds : Holds img (with-head h image)
+  pub holds : Encodes img (with-head h image)
   pub ready : Ready (with-head h image)
 
-pub some-headed : {img : List ℕ} {h : Head} {Ready : Image → Type 0} → Some img Ready → Each img Any (λ X. h ≡ X .head) → Headed img h Ready
+pub some-headed : {img : List ℕ} {h : Head} {Ready : Image → Type 0} → Pre img Ready → Post img Any (λ X. h ≡ X .head) → Headed img h Ready
 some-headed {img} {h} {Ready} s e =
     let X : Image = s .image in
     let q : X .head ≡ h = sym (e X (s .holds) tt) in
     record {
       image = X;
-      holds = subst (λ k. Holds img (with-head k X)) q (s .holds);
+      holds = subst (λ k. Encodes img (with-head k X)) q (s .holds);
       ready = subst (λ k. Ready (with-head k X)) q
           (s .ready);
     }
@@ -119,6 +119,6 @@ with-changes changes h =
       changes = changes;
     }
 
-pub counted-is : (X : Image) → with-head (with-changes (X .head .changes + 1) (X .head)) X ≡ counted X
-unfolding counted
+pub counted-is : (X : Image) → with-head (with-changes (X .head .changes + 1) (X .head)) X ≡ count-change X
+unfolding count-change
 counted-is X = ap (λ k. with-head (with-changes k (X .head)) X) (add-one (X .head .changes))

@@ -13,13 +13,13 @@ use denote.Array.{each}
 use denote.Struct.Declared.{row}
 use Rattle.page.specs.declared.Page.{Page}
 use Rattle.page.specs.Entries.{no-entry}
-use Rattle.page.specs.Decoded.{shown-at, shown}
+use Rattle.page.specs.Decoded.{slot-at, entry-list}
 use Rattle.page.specs.Widths.{Entry-fits, Entries-fit}
 use Rattle.page.proofs.Page.{the-type}
 use Rattle.page.proofs.Laws.Entries.{no-entry-fits}
 use Rattle.lists.proofs.Listed.{listed-each}
 
--- what an array's type says of each element, and what holds of what stands past the end, holds at every place
+-- what an array's type says of each element, and what holds of what stands past the end, holds in every slot
 module _ {A B : Type 0} (to : A → B) (own : B → List Val → Fml) (P : A → Type 0)
     (tells : (x : A) (vs : List Val) → shadow (own (to x) vs) → P x) (d : A) (none : P d) where
   each-at : (xs : List A) (us : List Val) → shadow (each B own (map to xs) us) → (i : ℕ) → P (getD xs i d)
@@ -30,9 +30,9 @@ module _ {A B : Type 0} (to : A → B) (own : B → List Val → Fml) (P : A →
   each-at (x ∷ xs) (u ∷ us) s (suc i) = each-at xs us (s .1) i
 
 module _ (p : Page) (vs : List Val) (g : Is (row the-type) p vs) where
-  place-fits : (i : ℕ) → Entry-fits (shown-at p i)
-  unfolding shown-at
-  place-fits i =
+  slot-fits : (i : ℕ) → Entry-fits (slot-at p i)
+  unfolding slot-at
+  slot-fits i =
       let arrays = g .1 .1 .1 .1 in
       record {
         start = each-at (λ x. x) _ (λ x. x < 2 ^ 32) (λ x us s. s .1) 0 (lit< tt) (p .starts) (arrays .0 .0) (arrays .0 .1 .1) i;
@@ -44,6 +44,6 @@ module _ (p : Page) (vs : List Val) (g : Is (row the-type) p vs) where
             (arrays .1 .1 .1 .0 .1 .1) i;
       }
 
-  pub shown-fits : Entries-fit (shown p)
-  unfolding shown
-  shown-fits = listed-each Entry-fits (p .number) (λ i. shown-at p i) no-entry no-entry-fits place-fits
+  pub shown-fits : Entries-fit (entry-list p)
+  unfolding entry-list
+  shown-fits = listed-each Entry-fits (p .len) (λ i. slot-at p i) no-entry no-entry-fits slot-fits

@@ -1,2 +1,2 @@
-pub mod Holding
-pub mod Ready
+pub mod Encoding
+pub mod Preconditions

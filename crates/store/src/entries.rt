@@ -1,41 +1,41 @@
 // The entries of a tree page, read from its bytes one at a time: no page is decoded for a number or two.
 use super::Found;
-use lent::pages::page_at;
+use access::pages::page_at;
 use lookup::find::find;
 use page::Entry;
 use page::at::entry_at;
-use page::at::number_of;
+use page::at::entry_count;
 ghost use mathlib.Core.Path.{_≡_};
 ghost use Prim.Native.Nat.{_≤_};
 ghost use lib.ListN.{length};
 ghost use Rattle.page.specs.Entries.{at};
 ghost use Rattle.steps.specs.Supply.{entries};
-ghost use Rattle.store.specs.Holding.{Some-level, Each-level};
-ghost use Rattle.store.specs.Ready.{Tree-page, Has-entry, Searchable, found-in};
+ghost use Rattle.store.specs.Encoding.{Pre-level, Post-level};
+ghost use Rattle.store.specs.Preconditions.{Tree-page, Has-entry, Searchable, found-in};
 
 // How many entries page p has.
-pub fn entry_count(img: &[u8], p: u32) -> usize
-    requires { ⌜ Some-level (now img) (λ l. Tree-page l p) ⌝ }
-    ensures { λ r. ⌜ Each-level (now (img .entry)) (λ l. Tree-page l p) (λ l X. (r ≡ length (entries X p)) × (r ≤ 24)) ⌝ }
+pub fn entry_count_in(img: &[u8], p: u32) -> usize
+    requires { ⌜ Pre-level (now img) (λ l. Tree-page l p) ⌝ }
+    ensures { λ r. ⌜ Post-level (now (img .entry)) (λ l. Tree-page l p) (λ l X. (r ≡ length (entries X p)) × (r ≤ 24)) ⌝ }
 {
-    number_of(page_at(img, p)) as usize
+    entry_count(page_at(img, p)) as usize
 }
 
 // The i-th entry of page p.
 pub fn entry_of(img: &[u8], p: u32, i: usize) -> Entry
-    requires { ⌜ Some-level (now img) (λ l. Has-entry l p i) ⌝ }
-    ensures { λ r. ⌜ Each-level (now (img .entry)) (λ l. Has-entry l p i) (λ l X. r ≡ at (entries X p) i) ⌝ }
+    requires { ⌜ Pre-level (now img) (λ l. Has-entry l p i) ⌝ }
+    ensures { λ r. ⌜ Post-level (now (img .entry)) (λ l. Has-entry l p i) (λ l X. r ≡ at (entries X p) i) ⌝ }
 {
     entry_at(page_at(img, p), i)
 }
 
 // The last entry of page p starting at t or before.
 pub fn find_entry(img: &[u8], p: u32, t: u32) -> Found
-    requires { ⌜ Some-level (now img) (λ l. Searchable l p t) ⌝ }
-    ensures { λ r. ⌜ Each-level (now (img .entry)) (λ l. Searchable l p t) (λ l X. r ≡ found-in t (entries X p)) ⌝ }
+    requires { ⌜ Pre-level (now img) (λ l. Searchable l p t) ⌝ }
+    ensures { λ r. ⌜ Post-level (now (img .entry)) (λ l. Searchable l p t) (λ l X. r ≡ found-in t (entries X p)) ⌝ }
 {
     let s = page_at(img, p);
-    let n = number_of(s) as usize;
+    let n = entry_count(s) as usize;
     let i = find(s, n, t);
     Found {
         count: n,

@@ -1,6 +1,6 @@
 // The bytes of an image and the small changes that the steps are made of: a page is loaded and saved, its entries are read one at a time,
 // the head is read and set, a page is taken and given back, the root is set, a change is counted.
-// Each contract is over every image that the bytes hold (specs/Holding.antt) and that is ready (specs/Ready.antt).
+// Each contract is over every image that the bytes encode (specs/Encoding.antt) and that is ready (specs/Preconditions.antt).
 use page::Entry;
 
 pub mod entries;

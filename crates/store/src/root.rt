@@ -7,9 +7,9 @@ use rule::Pair;
 ghost use mathlib.Core.Path.{_≡_};
 ghost use Rattle.rule.specs.Pairs.{none};
 ghost use Rattle.page.specs.Entries.{entry};
-ghost use Rattle.steps.specs.Supply.{with-root, counted};
-ghost use Rattle.store.specs.Holding.{Holds, Some, Each, Any};
-ghost use Rattle.store.specs.Ready.{Countable};
+ghost use Rattle.steps.specs.Supply.{with-root, count-change};
+ghost use Rattle.store.specs.Encoding.{Encodes, Pre, Post, Any};
+ghost use Rattle.store.specs.Preconditions.{Countable};
 
 // The root as an entry.
 pub fn root_entry(h: Head) -> Entry
@@ -24,8 +24,8 @@ pub fn root_entry(h: Head) -> Entry
 
 // The root is page p now, at that height.
 pub fn set_root(img: &mut [u8], height: u32, p: u32)
-    requires { ⌜ Some (now img) Any ⌝ }
-    ensures { λ _. ⌜ Each (now (img .entry)) Any (λ X. Holds (now (img .exit)) (with-root height p X)) ⌝ }
+    requires { ⌜ Pre (now img) Any ⌝ }
+    ensures { λ _. ⌜ Post (now (img .entry)) Any (λ X. Encodes (now (img .exit)) (with-root height p X)) ⌝ }
 {
     let mut h = head_of(img);
     h.height = height;
@@ -35,8 +35,8 @@ pub fn set_root(img: &mut [u8], height: u32, p: u32)
 
 // "Then changes rises by 1."
 pub fn count_change(img: &mut [u8])
-    requires { ⌜ Some (now img) Countable ⌝ }
-    ensures { λ _. ⌜ Each (now (img .entry)) Countable (λ X. Holds (now (img .exit)) (counted X)) ⌝ }
+    requires { ⌜ Pre (now img) Countable ⌝ }
+    ensures { λ _. ⌜ Post (now (img .entry)) Countable (λ X. Encodes (now (img .exit)) (count-change X)) ⌝ }
 {
     let mut h = head_of(img);
     h.changes = h.changes + 1;

@@ -5,13 +5,13 @@ use super::pages::next_free;
 use super::pages::set_free;
 ghost use mathlib.Core.Path.{_≡_};
 ghost use Rattle.steps.specs.Supply.{spare, taken, given-back};
-ghost use Rattle.store.specs.Holding.{Holds, Some, Each};
-ghost use Rattle.store.specs.Ready.{Takable, Givable};
+ghost use Rattle.store.specs.Encoding.{Encodes, Pre, Post};
+ghost use Rattle.store.specs.Preconditions.{Takable, Givable};
 
 // Takes a page. Its bytes stay: whoever takes it writes it.
 pub fn take(img: &mut [u8]) -> u32
-    requires { ⌜ Some (now img) Takable ⌝ }
-    ensures { λ r. ⌜ Each (now (img .entry)) Takable (λ X. (r ≡ spare X) × Holds (now (img .exit)) (taken X)) ⌝ }
+    requires { ⌜ Pre (now img) Takable ⌝ }
+    ensures { λ r. ⌜ Post (now (img .entry)) Takable (λ X. (r ≡ spare X) × Encodes (now (img .exit)) (taken X)) ⌝ }
 {
     let mut h = head_of(img);
     if h.chain == 0 {
@@ -29,8 +29,8 @@ pub fn take(img: &mut [u8]) -> u32
 
 // Gives page p back: it is the chain's first now, and leads to the one that was.
 pub fn give_back(img: &mut [u8], p: u32)
-    requires { ⌜ Some (now img) (Givable p) ⌝ }
-    ensures { λ _. ⌜ Each (now (img .entry)) (Givable p) (λ X. Holds (now (img .exit)) (given-back p X)) ⌝ }
+    requires { ⌜ Pre (now img) (Givable p) ⌝ }
+    ensures { λ _. ⌜ Post (now (img .entry)) (Givable p) (λ X. Encodes (now (img .exit)) (given-back p X)) ⌝ }
 {
     let mut h = head_of(img);
     let first = h.free;

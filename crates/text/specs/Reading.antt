@@ -16,10 +16,10 @@ unfoldable pub ahead : ℕ → List ℕ → ℕ
 ahead c [] = 0
 ahead c (x ∷ xs) = cond (eqb x c) 0 (suc (ahead c xs))
 
--- the place of the first byte b of s at `from` or behind it, or the end
-pub record Found (s : List ℕ) (b from place : ℕ) : Type 0 where
-  pub there : place ≡ from + ahead b (drop from s)
-  pub within : place ≤ length s
+-- the offset of the first byte b of s at `from` or behind it, or the end
+pub record Found (s : List ℕ) (b from offset : ℕ) : Type 0 where
+  pub there : offset ≡ from + ahead b (drop from s)
+  pub within : offset ≤ length s
 
 -- "`+ v s e` or `- v s e`", or "any other form"
 unfoldable pub line-of : Parsed → Line

@@ -5,18 +5,18 @@ use mathlib.Core.Bool.{cond}
 use Rattle.rule.specs.declared.Pair.{Pair}
 use Rattle.rule.specs.Pairs.{Lawful}
 use Rattle.rule.specs.Time.{END, covers}
-use Rattle.tree.specs.Tree.{Kid, pair-at}
+use Rattle.tree.specs.Tree.{Subtree, pair-at}
 use Rattle.tree.specs.Cut.{State, cut}
-use Rattle.tree.specs.Spread.{spread}
+use Rattle.tree.specs.Combine.{combine-span}
 use Rattle.tree.specs.Heal.{heal}
 use Rattle.tree.specs.Change.{cuts, change}
 use Rattle.tree.specs.Shape.{Asked, Formed}
 use Rattle.tree.proofs.Shapes.{Cuttable, Pairless, Joinable, Parts, parts-cuttable, parts-pairless, formed-map}
 use Rattle.tree.proofs.Cut.{cut-formed, cut-pairs}
-use Rattle.tree.proofs.Spread.{spread-formed, spread-pairs}
+use Rattle.tree.proofs.Combine.{combine-formed, combine-pairs}
 use Rattle.tree.proofs.Heal.{heal-formed, heal-pairs}
 
-module _ {half : ℕ} (two : 2 ≤ half) {B : Asked (Kid 0)} (cutting : Cuttable B) (any : Pairless B) (joins : Joinable B) {_⊕_ : Pair → Pair → Pair} (lawful : Lawful _⊕_)
+module _ {half : ℕ} (two : 2 ≤ half) {B : Asked (Subtree 0)} (cutting : Cuttable B) (any : Pairless B) (joins : Joinable B) {_⊕_ : Pair → Pair → Pair} (lawful : Lawful _⊕_)
     (s e : ℕ) (Y : State) (F : Formed half B (Y .tree)) where
   infixl 60 _⊕_
   cuts-formed : Formed half (Parts e (Parts s B)) (cuts half s e Y .tree)
@@ -29,15 +29,15 @@ module _ {half : ℕ} (two : 2 ≤ half) {B : Asked (Kid 0)} (cutting : Cuttable
 
   module _ (effect : Pair) where
     abbrev combined : State
-    combined = spread _⊕_ s e effect (cuts half s e Y)
+    combined = combine-span _⊕_ s e effect (cuts half s e Y)
 
     combined-formed : Formed half B (combined .tree)
-    combined-formed = formed-map (λ a b y q. q .0 .0) (spread-formed _⊕_ s e effect (cuts half s e Y) cuts-formed (parts-pairless e (parts-pairless s any)))
+    combined-formed = formed-map (λ a b y q. q .0 .0) (combine-formed _⊕_ s e effect (cuts half s e Y) cuts-formed (parts-pairless e (parts-pairless s any)))
 
     pub change-pairs : (u : ℕ) → u < END → pair-at _⊕_ (change half _⊕_ s e effect Y .tree) u ≡ cond (covers s e u) (pair-at _⊕_ (Y .tree) u ⊕ effect) (pair-at _⊕_ (Y .tree) u)
     unfolding change
     change-pairs u high =
         heal-pairs two any joins lawful e (heal half _⊕_ s combined) (heal-formed two any joins lawful s combined combined-formed) u
         ∙ (heal-pairs two any joins lawful s combined combined-formed u
-        ∙ (spread-pairs _⊕_ s e effect (cuts half s e Y) cuts-formed lawful (λ a b y q. (q .0 .1, q .1)) u high
+        ∙ (combine-pairs _⊕_ s e effect (cuts half s e Y) cuts-formed lawful (λ a b y q. (q .0 .1, q .1)) u high
         ∙ ap (λ p. cond (covers s e u) (p ⊕ effect) p) (cuts-pairs u)))

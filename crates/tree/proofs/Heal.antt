@@ -16,66 +16,66 @@ use Rattle.rule.proofs.Tests.{both}
 use Rattle.rule.proofs.Laws.{same-pair-is}
 use Rattle.page.specs.declared.Entry.{Entry}
 use Rattle.page.specs.Layout.{capacity}
-use Rattle.page.specs.Entries.{at, place}
+use Rattle.page.specs.Entries.{at, index-of}
 use Rattle.lists.specs.Lists.{splice}
 use Rattle.steps.specs.Heal.{heals}
-use Rattle.tree.specs.Tree.{Ent, Kid, Ents, no-ent, bare, Tree, pair-in, pair-at}
+use Rattle.tree.specs.Tree.{Node, Subtree, Nodes, no-node, flat, Tree, pair-in, pair-at}
 use Rattle.tree.specs.Supply.{Supply}
 use Rattle.tree.specs.Cut.{State}
-use Rattle.tree.specs.Heal.{Healing, turn, heal-ents, shrunk, heal}
+use Rattle.tree.specs.Heal.{Healing, rebalance, heal-nodes, collapse-if-single, heal}
 use Rattle.tree.specs.Shape.{Asked, Seg, done, more, Filled, Shaped, Formed, root-least}
 use Rattle.tree.proofs.Seg.{seg-some, seg-append, least-two}
 use Rattle.tree.proofs.Find.{Found, found, find, Beside, first, next, beside}
 use Rattle.tree.proofs.Splice.{splice-at, splice-next}
-use Rattle.tree.proofs.Same.{Same, with-kid, same-refl, same-trans, same-within, same-one, same-leaf, same-pair-in, pair-in-one}
+use Rattle.tree.proofs.Same.{Same, with-subtree, same-refl, same-trans, same-within, same-one, same-leaf, same-pair-in, pair-in-one}
 use Rattle.tree.proofs.Shapes.{Pairless, Joinable}
 use Rattle.tree.proofs.Push.{pushed-length, pushed-spans, pushed-pair}
-use Rattle.tree.proofs.Turn.{Heals, turn-heals}
+use Rattle.tree.proofs.Rebalance.{Heals, rebalance-heals}
 
--- the step of `heal-ents` at the entry at i, whose page is healed by H: first the entries, then whether it turns
+-- the step of `heal-nodes` at the entry at i, whose page is healed by H: first the entries, then whether it is rebalanced
 module _ (half : ℕ) (_⊕_ : Pair → Pair → Pair) (l : ℕ) (i : ℕ) where
-  abbrev turned : Healing (Kid l) → Ents (suc l) → Healing (Kid (suc l))
-  turned r fs = cond (ltb (length (r .ents)) half) (turn half _⊕_ l i fs (r .supply)) (record { ents = fs; supply = r .supply })
+  abbrev rebalanced : Healing (Subtree l) → Nodes (suc l) → Healing (Subtree (suc l))
+  rebalanced r fs = cond (ltb (length (r .nodes)) half) (rebalance half _⊕_ l i fs (r .supply)) (record { nodes = fs; supply = r .supply })
 
-  abbrev healed : (Ents l → Healing (Kid l)) → Ents (suc l) → Healing (Kid (suc l))
+  abbrev healed : (Nodes l → Healing (Subtree l)) → Nodes (suc l) → Healing (Subtree (suc l))
   healed H es =
-      let x = getD es i (no-ent (suc l)) in
-      turned (H (x .kid)) (splice i (with-kid (x .entry) (H (x .kid) .ents) ∷ []) es)
+      let x = getD es i (no-node (suc l)) in
+      rebalanced (H (x .subtree)) (splice i (with-subtree (x .entry) (H (x .subtree) .nodes) ∷ []) es)
 
-healed-at : (half : ℕ) (_⊕_ : Pair → Pair → Pair) (l : ℕ) (H : Ents l → Healing (Kid l)) (xs : Ents (suc l)) (x : Ent (Kid (suc l))) (ys : Ents (suc l))
-    → healed half _⊕_ l (length xs) H (xs ++ x ∷ ys) ≡ turned half _⊕_ l (length xs) (H (x .kid)) (xs ++ with-kid (x .entry) (H (x .kid) .ents) ∷ ys)
+healed-at : (half : ℕ) (_⊕_ : Pair → Pair → Pair) (l : ℕ) (H : Nodes l → Healing (Subtree l)) (xs : Nodes (suc l)) (x : Node (Subtree (suc l))) (ys : Nodes (suc l))
+    → healed half _⊕_ l (length xs) H (xs ++ x ∷ ys) ≡ rebalanced half _⊕_ l (length xs) (H (x .subtree)) (xs ++ with-subtree (x .entry) (H (x .subtree) .nodes) ∷ ys)
 healed-at half _⊕_ l H xs x ys =
-    ap (λ z. turned half _⊕_ l (length xs) (H (z .kid)) (splice (length xs) (with-kid (z .entry) (H (z .kid) .ents) ∷ []) (xs ++ x ∷ ys))) (getD-append-seam xs x ys (no-ent (suc l)))
-    ∙ ap (turned half _⊕_ l (length xs) (H (x .kid))) (splice-at xs x ys (with-kid (x .entry) (H (x .kid) .ents) ∷ []))
+    ap (λ z. rebalanced half _⊕_ l (length xs) (H (z .subtree)) (splice (length xs) (with-subtree (z .entry) (H (z .subtree) .nodes) ∷ []) (xs ++ x ∷ ys))) (getD-append-seam xs x ys (no-node (suc l)))
+    ∙ ap (rebalanced half _⊕_ l (length xs) (H (x .subtree))) (splice-at xs x ys (with-subtree (x .entry) (H (x .subtree) .nodes) ∷ []))
 
-module _ (half : ℕ) (pos : 0 < half) {B : Asked (Kid 0)} (any : Pairless B) {_⊕_ : Pair → Pair → Pair} (lawful : Lawful _⊕_) (l : ℕ) where
+module _ (half : ℕ) (pos : 0 < half) {B : Asked (Subtree 0)} (any : Pairless B) {_⊕_ : Pair → Pair → Pair} (lawful : Lawful _⊕_) (l : ℕ) where
   -- the page of the entry that has t is healed by H, and turns if that leaves it short
-  page-heals : {lo hi : ℕ} {es : Ents (suc l)} (t : ℕ) (H : Ents l → Healing (Kid l))
-      → ((a b : ℕ) (ks : Ents l) → half ≤ length ks → a ≤ t → a < b → Seg (Shaped half B l) a b ks → Heals half B _⊕_ l a b ks (H ks .ents))
+  page-heals : {lo hi : ℕ} {es : Nodes (suc l)} (t : ℕ) (H : Nodes l → Healing (Subtree l))
+      → ((a b : ℕ) (ks : Nodes l) → half ≤ length ks → a ≤ t → a < b → Seg (Shaped half B l) a b ks → Heals half B _⊕_ l a b ks (H ks .nodes))
       → 2 ≤ length es → lo ≤ t → lo < hi → Seg (Shaped half B (suc l)) lo hi es
-      → Heals half B _⊕_ (suc l) lo hi es (healed half _⊕_ l (place t (bare es)) H es .ents)
+      → Heals half B _⊕_ (suc l) lo hi es (healed half _⊕_ l (index-of t (flat es)) H es .nodes)
   unfolding Shaped
   page-heals {lo} {hi} t H each two low lt s = go (find t s lt low) two
     where
-      go : {es : Ents (suc l)} {i : ℕ} → Found (Shaped half B (suc l)) t lo hi es i → 2 ≤ length es → Heals half B _⊕_ (suc l) lo hi es (healed half _⊕_ l i H es .ents)
+      go : {es : Nodes (suc l)} {i : ℕ} → Found (Shaped half B (suc l)) t lo hi es i → 2 ≤ length es → Heals half B _⊕_ (suc l) lo hi es (healed half _⊕_ l i H es .nodes)
       go (found {a = a} {b = b} {xs = xs} {x = x} {ys = ys} before e lt q behind le after) two =
-          let h = each a b (x .kid) (q .0 .least) le lt (q .1) in
-          subst⁻¹ (λ z. Heals half B _⊕_ (suc l) lo hi (xs ++ x ∷ ys) (z .ents)) (healed-at half _⊕_ l H xs x ys)
-          (short h (same-within xs ys (same-one _⊕_ l (x .entry) e lt (q .1) (h .spans) (h .same))) (ltb (length (H (x .kid) .ents)) half) refl)
+          let h = each a b (x .subtree) (q .0 .least) le lt (q .1) in
+          subst⁻¹ (λ z. Heals half B _⊕_ (suc l) lo hi (xs ++ x ∷ ys) (z .nodes)) (healed-at half _⊕_ l H xs x ys)
+          (short h (same-within xs ys (same-one _⊕_ l (x .entry) e lt (q .1) (h .spans) (h .same))) (ltb (length (H (x .subtree) .nodes)) half) refl)
         where
-          y : Ent (Kid (suc l))
-          y = with-kid (x .entry) (H (x .kid) .ents)
+          y : Node (Subtree (suc l))
+          y = with-subtree (x .entry) (H (x .subtree) .nodes)
 
-          short : Heals half B _⊕_ l a b (x .kid) (H (x .kid) .ents) → Same _⊕_ (suc l) (xs ++ x ∷ ys) (xs ++ y ∷ ys)
-              → (z : Bool) → ltb (length (H (x .kid) .ents)) half ≡ z
-              → Heals half B _⊕_ (suc l) lo hi (xs ++ x ∷ ys) (cond z (turn half _⊕_ l (length xs) (xs ++ y ∷ ys) (H (x .kid) .supply)) (record { ents = xs ++ y ∷ ys; supply = H (x .kid) .supply }) .ents)
+          short : Heals half B _⊕_ l a b (x .subtree) (H (x .subtree) .nodes) → Same _⊕_ (suc l) (xs ++ x ∷ ys) (xs ++ y ∷ ys)
+              → (z : Bool) → ltb (length (H (x .subtree) .nodes)) half ≡ z
+              → Heals half B _⊕_ (suc l) lo hi (xs ++ x ∷ ys) (cond z (rebalance half _⊕_ l (length xs) (xs ++ y ∷ ys) (H (x .subtree) .supply)) (record { nodes = xs ++ y ∷ ys; supply = H (x .subtree) .supply }) .nodes)
           short h same true p =
-              let less : length (H (x .kid) .ents) < half = ltb-true (length (H (x .kid) .ents)) half p in
+              let less : length (H (x .subtree) .nodes) < half = ltb-true (length (H (x .subtree) .nodes)) half p in
               let n : length (xs ++ x ∷ ys) ≡ length (xs ++ y ∷ ys) = simp length-append in
-              let w = turn-heals half pos any lawful l y (H (x .kid) .supply) (beside y ys before) e lt (h .spans) (omega (arith, q .0, h)) behind (omega arith) in
+              let w = rebalance-heals half pos any lawful l y (H (x .subtree) .supply) (beside y ys before) e lt (h .spans) (omega (arith, q .0, h)) behind (omega arith) in
               record { spans = w .spans; same = same-trans same (w .same); least = omega (arith, w); most = omega (arith, w) }
           short h same false p =
-              let fill : Filled half (H (x .kid) .ents) = record { least = ltb-false (length (H (x .kid) .ents)) half p; most = omega (arith, q .0, h) } in
+              let fill : Filled half (H (x .subtree) .nodes) = record { least = ltb-false (length (H (x .subtree) .nodes)) half p; most = omega (arith, q .0, h) } in
               record {
                 spans = seg-append before (more e lt (fill, h .spans) behind);
                 same = same;
@@ -91,36 +91,36 @@ heals-same t es i h =
     both (ltb 0 i) (eqb (at es i .start) t && same-pair (at es i .pair) (at es (i - 1) .pair)) (λ z. z, λ z. z)
     (both (eqb (at es i .start) t) (same-pair (at es i .pair) (at es (i - 1) .pair)) (λ z. z, λ z. z) (same-pair-is (at es i .pair) (at es (i - 1) .pair))) .0 h .1 .1
 
-bare-first : {A : Type 0} (pre : List (Ent A)) (y : Ent A) (ys : List (Ent A)) → at (bare (pre ++ y ∷ ys)) (length pre) ≡ y .entry
-bare-first [] y ys = refl
-bare-first (z ∷ pre) y ys = bare-first pre y ys
+flat-first : {A : Type 0} (pre : List (Node A)) (y : Node A) (ys : List (Node A)) → at (flat (pre ++ y ∷ ys)) (length pre) ≡ y .entry
+flat-first [] y ys = refl
+flat-first (z ∷ pre) y ys = flat-first pre y ys
 
-bare-next : {A : Type 0} (pre : List (Ent A)) (y x : Ent A) (ys : List (Ent A)) → at (bare (pre ++ y ∷ x ∷ ys)) (suc (length pre)) ≡ x .entry
-bare-next [] y x ys = refl
-bare-next (z ∷ pre) y x ys = bare-next pre y x ys
+flat-next : {A : Type 0} (pre : List (Node A)) (y x : Node A) (ys : List (Node A)) → at (flat (pre ++ y ∷ x ∷ ys)) (suc (length pre)) ≡ x .entry
+flat-next [] y x ys = refl
+flat-next (z ∷ pre) y x ys = flat-next pre y x ys
 
-module _ (half : ℕ) (B : Asked (Kid 0)) (joins : Joinable B) (_⊕_ : Pair → Pair → Pair) (t : ℕ) where
-  abbrev gone : ℕ → Ents 0 → Ents 0
-  gone i es = cond (heals t (bare es) i) (splice i [] es) es
+module _ (half : ℕ) (B : Asked (Subtree 0)) (joins : Joinable B) (_⊕_ : Pair → Pair → Pair) (t : ℕ) where
+  abbrev gone : ℕ → Nodes 0 → Nodes 0
+  gone i es = cond (heals t (flat es) i) (splice i [] es) es
 
-  heals-refl : {lo hi : ℕ} {es : Ents 0} → Seg (Shaped half B 0) lo hi es → Heals half B _⊕_ 0 lo hi es es
+  heals-refl : {lo hi : ℕ} {es : Nodes 0} → Seg (Shaped half B 0) lo hi es → Heals half B _⊕_ 0 lo hi es es
   heals-refl {es = es} s = record { spans = s; same = same-refl es; least = omega arith; most = omega arith }
 
-  leaf-gone : {lo a b hi i : ℕ} {es ys : Ents 0} (x : Ent (Kid 0)) → Beside (Shaped half B 0) x ys lo a es i → x .entry .start ≡ a → a < b
+  leaf-gone : {lo a b hi i : ℕ} {es ys : Nodes 0} (x : Node (Subtree 0)) → Beside (Shaped half B 0) x ys lo a es i → x .entry .start ≡ a → a < b
       → Shaped half B 0 a b x → Seg (Shaped half B 0) b hi ys → Heals half B _⊕_ 0 lo hi es (gone i es)
   unfolding Shaped heals
   leaf-gone x first e lt q behind = heals-refl (more e lt q behind)
-  leaf-gone {lo} {a} {b} {hi} {ys = ys} x (next {mid = m} {pre = pre} {y = y} before f lt′ p) e lt q behind = go (heals t (bare es) (suc (length pre))) refl
+  leaf-gone {lo} {a} {b} {hi} {ys = ys} x (next {mid = m} {pre = pre} {y = y} before f lt′ p) e lt q behind = go (heals t (flat es) (suc (length pre))) refl
     where
-      es : Ents 0
+      es : Nodes 0
       es = pre ++ y ∷ x ∷ ys
 
-      go : (z : Bool) → heals t (bare es) (suc (length pre)) ≡ z → Heals half B _⊕_ 0 lo hi es (cond z (splice (suc (length pre)) [] es) es)
+      go : (z : Bool) → heals t (flat es) (suc (length pre)) ≡ z → Heals half B _⊕_ 0 lo hi es (cond z (splice (suc (length pre)) [] es) es)
       go true h =
           let pairs : x .entry .pair ≡ y .entry .pair =
-          ap (λ w. w .pair) (sym (bare-next pre y x ys))
-          ∙ (heals-same t (bare es) (suc (length pre)) h
-          ∙ ap (λ w. w .pair) (ap (at (bare es)) (omega arith) ∙ bare-first pre y (x ∷ ys))) in
+          ap (λ w. w .pair) (sym (flat-next pre y x ys))
+          ∙ (heals-same t (flat es) (suc (length pre)) h
+          ∙ ap (λ w. w .pair) (ap (at (flat es)) (omega arith) ∙ flat-first pre y (x ∷ ys))) in
           let whole : m < b = omega arith in
           subst⁻¹ (Heals half B _⊕_ 0 lo hi es) (splice-next pre y x ys [])
           (record {
@@ -131,10 +131,10 @@ module _ (half : ℕ) (B : Asked (Kid 0)) (joins : Joinable B) (_⊕_ : Pair →
           })
       go false h = heals-refl (seg-append before (more f lt′ p (more e lt q behind)))
 
-  leaf-heals : {lo hi : ℕ} {es : Ents 0} → lo ≤ t → lo < hi → Seg (Shaped half B 0) lo hi es → Heals half B _⊕_ 0 lo hi es (gone (place t (bare es)) es)
+  leaf-heals : {lo hi : ℕ} {es : Nodes 0} → lo ≤ t → lo < hi → Seg (Shaped half B 0) lo hi es → Heals half B _⊕_ 0 lo hi es (gone (index-of t (flat es)) es)
   leaf-heals {lo} {hi} low lt s = go (find t s lt low)
     where
-      go : {es : Ents 0} {i : ℕ} → Found (Shaped half B 0) t lo hi es i → Heals half B _⊕_ 0 lo hi es (gone i es)
+      go : {es : Nodes 0} {i : ℕ} → Found (Shaped half B 0) t lo hi es i → Heals half B _⊕_ 0 lo hi es (gone i es)
       go (found {x = x} {ys = ys} before e lt q behind le after) = leaf-gone x (beside x ys before) e lt q behind
 
 -- ---- by the level
@@ -142,29 +142,29 @@ module _ (half : ℕ) (B : Asked (Kid 0)) (joins : Joinable B) (_⊕_ : Pair →
 not-one : (n : ℕ) → eqb (suc (suc n)) 1 ≡ false
 not-one n = eqb·suc-suc (suc n) 0 ∙ eqb·suc-zero n
 
-module _ {half : ℕ} (two : 2 ≤ half) {B : Asked (Kid 0)} (any : Pairless B) (joins : Joinable B) {_⊕_ : Pair → Pair → Pair} (lawful : Lawful _⊕_) (t : ℕ) where
-  ents-heal : (l : ℕ) {lo hi : ℕ} (es : Ents l) (S : Supply) → root-least l ≤ length es → lo ≤ t → lo < hi → Seg (Shaped half B l) lo hi es
-      → Heals half B _⊕_ l lo hi es (heal-ents half _⊕_ t l es S .ents)
-  unfolding heal-ents root-least
-  ents-heal zero es S n low lt s = leaf-heals half B joins _⊕_ t low lt s
-  ents-heal (suc l) es S n low lt s =
-      page-heals half (omega arith) any lawful l t (λ ks. heal-ents half _⊕_ t l ks S)
-      (λ a b ks f low lt s. ents-heal l ks S (omega (arith, least-two l)) low lt s) n low lt s
+module _ {half : ℕ} (two : 2 ≤ half) {B : Asked (Subtree 0)} (any : Pairless B) (joins : Joinable B) {_⊕_ : Pair → Pair → Pair} (lawful : Lawful _⊕_) (t : ℕ) where
+  nodes-heal : (l : ℕ) {lo hi : ℕ} (es : Nodes l) (S : Supply) → root-least l ≤ length es → lo ≤ t → lo < hi → Seg (Shaped half B l) lo hi es
+      → Heals half B _⊕_ l lo hi es (heal-nodes half _⊕_ t l es S .nodes)
+  unfolding heal-nodes root-least
+  nodes-heal zero es S n low lt s = leaf-heals half B joins _⊕_ t low lt s
+  nodes-heal (suc l) es S n low lt s =
+      page-heals half (omega arith) any lawful l t (λ ks. heal-nodes half _⊕_ t l ks S)
+      (λ a b ks f low lt s. nodes-heal l ks S (omega (arith, least-two l)) low lt s) n low lt s
 
   -- a root of level l with the entries es became U
-  record Shrunk (l lo hi : ℕ) (es : Ents l) (U : Tree) : Type 0 where
-    least : root-least (U .level) ≤ length (U .ents)
-    most : length (U .ents) ≤ capacity half
-    spans : Seg (Shaped half B (U .level)) lo hi (U .ents)
+  record Shrunk (l lo hi : ℕ) (es : Nodes l) (U : Tree) : Type 0 where
+    least : root-least (U .level) ≤ length (U .nodes)
+    most : length (U .nodes) ≤ capacity half
+    spans : Seg (Shaped half B (U .level)) lo hi (U .nodes)
     pairs : (u : ℕ) → lo ≤ u → pair-at _⊕_ U u ≡ pair-in _⊕_ l u es
     level : (U .level ≡ l) ⊎ (suc (U .level) ≡ l)
 
-  root-shrinks : (l root : ℕ) {lo hi : ℕ} {es : Ents l} (S : Supply) → length es ≤ capacity half → lo < hi → Seg (Shaped half B l) lo hi es
-      → Shrunk l lo hi es (shrunk half _⊕_ l root es S .tree)
-  unfolding shrunk root-least Shaped
-  root-shrinks zero root S most lt s = record { least = seg-some s lt; most = most; spans = s; pairs = λ u low. refl; level = inl refl }
-  root-shrinks (suc l) root S most lt done = absurd (omega arith)
-  root-shrinks (suc l) root S most lt (more {x} e lt′ q done) =
+  root-collapses : (l root : ℕ) {lo hi : ℕ} {es : Nodes l} (S : Supply) → length es ≤ capacity half → lo < hi → Seg (Shaped half B l) lo hi es
+      → Shrunk l lo hi es (collapse-if-single half _⊕_ l root es S .tree)
+  unfolding collapse-if-single root-least Shaped
+  root-collapses zero root S most lt s = record { least = seg-some s lt; most = most; spans = s; pairs = λ u low. refl; level = inl refl }
+  root-collapses (suc l) root S most lt done = absurd (omega arith)
+  root-collapses (suc l) root S most lt (more {x} e lt′ q done) =
       let n = pushed-length _⊕_ l x in
       record {
         least = omega (arith, least-two l, q .0);
@@ -173,16 +173,16 @@ module _ {half : ℕ} (two : 2 ≤ half) {B : Asked (Kid 0)} (any : Pairless B) 
         pairs = λ u low. pushed-pair _⊕_ l x u lawful (q .1) lt low ∙ sym (pair-in-one _⊕_ l x u);
         level = inr refl;
       }
-  root-shrinks (suc l) root S most lt (more {x} e lt′ q (more {x = y} {es = es} f lt″ p r)) =
+  root-collapses (suc l) root S most lt (more {x} e lt′ q (more {x = y} {es = es} f lt″ p r)) =
       rw (not-one (length es))
       (record { least = omega arith; most = most; spans = more e lt′ q (more f lt″ p r); pairs = λ u low. refl; level = inl refl })
 
-  heal-tree : (Y : State) → Formed half B (Y .tree) → Shrunk (Y .tree .level) 0 END (Y .tree .ents) (heal half _⊕_ t Y .tree)
+  heal-tree : (Y : State) → Formed half B (Y .tree) → Shrunk (Y .tree .level) 0 END (Y .tree .nodes) (heal half _⊕_ t Y .tree)
   unfolding heal
   heal-tree Y F =
       let T = Y .tree in
-      let h = ents-heal (T .level) (T .ents) (Y .supply) (F .least) (omega arith) (omega arith) (F .spans) in
-      let w = root-shrinks (T .level) (T .root) (heal-ents half _⊕_ t (T .level) (T .ents) (Y .supply) .supply) (omega (arith, h, F)) (omega arith) (h .spans) in
+      let h = nodes-heal (T .level) (T .nodes) (Y .supply) (F .least) (omega arith) (omega arith) (F .spans) in
+      let w = root-collapses (T .level) (T .root) (heal-nodes half _⊕_ t (T .level) (T .nodes) (Y .supply) .supply) (omega (arith, h, F)) (omega arith) (h .spans) in
       record {
         least = w .least;
         most = w .most;

@@ -6,9 +6,9 @@ pub mod Splice
 pub mod Same
 pub mod Shapes
 pub mod Cut
-pub mod Spread
+pub mod Combine
 pub mod Push
-pub mod Turn
+pub mod Rebalance
 pub mod Heal
 pub mod Change
 pub mod Conservation

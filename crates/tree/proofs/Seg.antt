@@ -10,8 +10,8 @@ use lib.ListN.{length, take, drop}
 use borrow.Author.Tests.{leb-true, leb-false, le-leb, lt-leb}
 use Rattle.lists.specs.Lists.{All, all-none, all-more}
 use Rattle.page.specs.Entries.{at}
-use Rattle.steps.specs.Spread.{start-of}
-use Rattle.tree.specs.Tree.{Ent, bare}
+use Rattle.steps.specs.Combine.{next-start}
+use Rattle.tree.specs.Tree.{Node, flat}
 use Rattle.tree.specs.Shape.{Asked, Seg, done, more, root-least}
 
 pub le-or-lt : (a b : ℕ) → (a ≤ b) ⊎ (b < a)
@@ -22,7 +22,7 @@ le-or-lt a b = go (leb a b) refl
     go false e = inr (leb-false a b e)
 
 -- the first k and the rest
-pub record Parted {A : Type 0} (Q : Asked A) (lo hi k : ℕ) (es : List (Ent A)) : Type 0 where
+pub record Parted {A : Type 0} (Q : Asked A) (lo hi k : ℕ) (es : List (Node A)) : Type 0 where
   pub mid : ℕ
   pub front : Seg Q lo mid (take k es)
   pub back : Seg Q mid hi (drop k es)
@@ -35,35 +35,35 @@ pub from-no : {A : Type 0} {a t : ℕ} (x y : A) → t < a → cond (leb a t) x 
 from-no {a} {t} x y h = rw (lt-leb a t h)
 
 module _ {A : Type 0} {Q : Asked A} where
-  pub seg-le : {lo hi : ℕ} {es : List (Ent A)} → Seg Q lo hi es → lo ≤ hi
+  pub seg-le : {lo hi : ℕ} {es : List (Node A)} → Seg Q lo hi es → lo ≤ hi
   seg-le done = omega arith
   seg-le (more e lt q r) = omega (arith, seg-le r)
 
-  pub seg-lt : {lo hi : ℕ} {es : List (Ent A)} → Seg Q lo hi es → 0 < length es → lo < hi
+  pub seg-lt : {lo hi : ℕ} {es : List (Node A)} → Seg Q lo hi es → 0 < length es → lo < hi
   seg-lt done n = omega arith
   seg-lt (more e lt q r) n = omega (arith, seg-le r)
 
-  pub seg-some : {lo hi : ℕ} {es : List (Ent A)} → Seg Q lo hi es → lo < hi → 0 < length es
+  pub seg-some : {lo hi : ℕ} {es : List (Node A)} → Seg Q lo hi es → lo < hi → 0 < length es
   seg-some done lt = omega arith
   seg-some (more e lt q r) h = omega arith
 
-  pub seg-one : {lo hi : ℕ} {x : Ent A} → x .entry .start ≡ lo → lo < hi → Q lo hi x → Seg Q lo hi (x ∷ [])
+  pub seg-one : {lo hi : ℕ} {x : Node A} → x .entry .start ≡ lo → lo < hi → Q lo hi x → Seg Q lo hi (x ∷ [])
   seg-one e lt q = more e lt q done
 
-  pub seg-append : {lo mid hi : ℕ} {xs ys : List (Ent A)} → Seg Q lo mid xs → Seg Q mid hi ys → Seg Q lo hi (xs ++ ys)
+  pub seg-append : {lo mid hi : ℕ} {xs ys : List (Node A)} → Seg Q lo mid xs → Seg Q mid hi ys → Seg Q lo hi (xs ++ ys)
   seg-append done t = t
   seg-append (more e lt q r) t = more e lt q (seg-append r t)
 
-  pub seg-head : {lo hi : ℕ} {es : List (Ent A)} → Seg Q lo hi es → lo < hi → at (bare es) 0 .start ≡ lo
+  pub seg-head : {lo hi : ℕ} {es : List (Node A)} → Seg Q lo hi es → lo < hi → at (flat es) 0 .start ≡ lo
   seg-head done lt = absurd (omega arith)
   seg-head (more e lt q r) h = e
 
-  pub seg-start : {lo hi : ℕ} {es : List (Ent A)} → Seg Q lo hi es → start-of hi (bare es) ≡ lo
-  unfolding start-of
+  pub seg-start : {lo hi : ℕ} {es : List (Node A)} → Seg Q lo hi es → next-start hi (flat es) ≡ lo
+  unfolding next-start
   seg-start done = refl
   seg-start (more e lt q r) = e
 
-  pub seg-part : {lo hi : ℕ} {es : List (Ent A)} (k : ℕ) → Seg Q lo hi es → Parted Q lo hi k es
+  pub seg-part : {lo hi : ℕ} {es : List (Node A)} (k : ℕ) → Seg Q lo hi es → Parted Q lo hi k es
   seg-part {lo} zero s = record { mid = lo; front = done; back = s }
   seg-part {lo} (suc k) done = record { mid = lo; front = done; back = done }
   seg-part (suc k) (more e lt q r) =
@@ -71,15 +71,15 @@ module _ {A : Type 0} {Q : Asked A} where
       record { mid = p .mid; front = more e lt q (p .front); back = p .back }
 
 -- within the same bounds, by what holds of each entry within them
-pub seg-map : {A : Type 0} {Q R : Asked A} {lo hi : ℕ} {es : List (Ent A)}
-    → ((a b : ℕ) (x : Ent A) → lo ≤ a → b ≤ hi → Q a b x → R a b x) → Seg Q lo hi es → Seg R lo hi es
+pub seg-map : {A : Type 0} {Q R : Asked A} {lo hi : ℕ} {es : List (Node A)}
+    → ((a b : ℕ) (x : Node A) → lo ≤ a → b ≤ hi → Q a b x → R a b x) → Seg Q lo hi es → Seg R lo hi es
 seg-map f done = done
 seg-map {lo} {hi} f (more {mid} {x} e lt q r) =
     more e lt (f lo mid x (omega arith) (omega (arith, seg-le r)) q) (seg-map (λ a b y l h. f a b y (omega arith) h) r)
 
 -- what holds of each entry within its bounds
-pub seg-all : {A : Type 0} {Q : Asked A} {R : Ent A → Type 0} {lo hi : ℕ} {es : List (Ent A)}
-    → ((a b : ℕ) (x : Ent A) → Q a b x → R x) → Seg Q lo hi es → All R es
+pub seg-all : {A : Type 0} {Q : Asked A} {R : Node A → Type 0} {lo hi : ℕ} {es : List (Node A)}
+    → ((a b : ℕ) (x : Node A) → Q a b x → R x) → Seg Q lo hi es → All R es
 seg-all f done = all-none
 seg-all f (more {lo} {mid} {x = x} e lt q r) = all-more (f lo mid x q) (seg-all f r)
 

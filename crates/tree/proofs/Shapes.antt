@@ -9,33 +9,33 @@ use Rattle.rule.specs.declared.Pair.{Pair}
 use Rattle.page.specs.declared.Entry.{Entry}
 use Rattle.page.specs.Layout.{capacity}
 use Rattle.page.specs.Entries.{entry, at}
-use Rattle.tree.specs.Tree.{Ent, Kid, Ents, bare, Tree}
+use Rattle.tree.specs.Tree.{Node, Subtree, Nodes, flat, Tree}
 use Rattle.tree.specs.Shape.{Asked, Seg, more, Filled, Shaped, Apart, Leaf, Formed}
 use Rattle.tree.proofs.Seg.{seg-map, seg-part, seg-lt, seg-one, seg-head}
-use Rattle.tree.proofs.Same.{Same, with-kid, same-two}
+use Rattle.tree.proofs.Same.{Same, with-subtree, same-two}
 
 -- a leaf entry from t on, and with another pair
-abbrev pub from : ℕ → Ent (Kid 0) → Ent (Kid 0)
-from t x = record { entry = entry t (x .entry .pair) (x .entry .child); kid = tt }
+abbrev pub from : ℕ → Node (Subtree 0) → Node (Subtree 0)
+from t x = record { entry = entry t (x .entry .pair) (x .entry .child); subtree = tt }
 
-abbrev pub with-pair : {A : Type 0} → Pair → Ent A → Ent A
-with-pair p x = record { entry = entry (x .entry .start) p (x .entry .child); kid = x .kid }
+abbrev pub with-pair : {A : Type 0} → Pair → Node A → Node A
+with-pair p x = record { entry = entry (x .entry .start) p (x .entry .child); subtree = x .subtree }
 
 -- kept of an entry by its two parts
-pub record Cuttable (B : Asked (Kid 0)) : Type 0 where
-  pub before : (t lo hi : ℕ) (x : Ent (Kid 0)) → lo < t → t < hi → B lo hi x → B lo t x
-  pub after : (t lo hi : ℕ) (x : Ent (Kid 0)) → lo < t → t < hi → B lo hi x → B t hi (from t x)
+pub record Cuttable (B : Asked (Subtree 0)) : Type 0 where
+  pub before : (t lo hi : ℕ) (x : Node (Subtree 0)) → lo < t → t < hi → B lo hi x → B lo t x
+  pub after : (t lo hi : ℕ) (x : Node (Subtree 0)) → lo < t → t < hi → B lo hi x → B t hi (from t x)
 
 -- kept under any pair
-pub record Pairless (B : Asked (Kid 0)) : Type 0 where
-  pub any-pair : (lo hi : ℕ) (x : Ent (Kid 0)) (p : Pair) → B lo hi x → B lo hi (with-pair p x)
+pub record Pairless (B : Asked (Subtree 0)) : Type 0 where
+  pub any-pair : (lo hi : ℕ) (x : Node (Subtree 0)) (p : Pair) → B lo hi x → B lo hi (with-pair p x)
 
 -- kept of two with equal pairs by the first, once it has the span of both
-pub record Joinable (B : Asked (Kid 0)) : Type 0 where
-  pub joined : (lo mid hi : ℕ) (x y : Ent (Kid 0)) → lo < mid → mid < hi → y .entry .pair ≡ x .entry .pair → B lo mid x → B mid hi y → B lo hi x
+pub record Joinable (B : Asked (Subtree 0)) : Type 0 where
+  pub joined : (lo mid hi : ℕ) (x y : Node (Subtree 0)) → lo < mid → mid < hi → y .entry .pair ≡ x .entry .pair → B lo mid x → B mid hi y → B lo hi x
 
 -- and where t is cut besides
-abbrev pub Parts : ℕ → Asked (Kid 0) → Asked (Kid 0)
+abbrev pub Parts : ℕ → Asked (Subtree 0) → Asked (Subtree 0)
 Parts t B lo hi x = B lo hi x × Apart t lo hi
 
 pub leaf-cuttable : Cuttable Leaf
@@ -47,7 +47,7 @@ leaf-pairless = record { any-pair = λ lo hi x p b. b }
 pub leaf-joinable : Joinable Leaf
 leaf-joinable = record { joined = λ lo mid hi x y l h e b c. b }
 
-module _ {B : Asked (Kid 0)} (s : ℕ) where
+module _ {B : Asked (Subtree 0)} (s : ℕ) where
   pub parts-cuttable : Cuttable B → Cuttable (Parts s B)
   parts-cuttable cuts =
       record {
@@ -59,15 +59,15 @@ module _ {B : Asked (Kid 0)} (s : ℕ) where
   parts-pairless any = record { any-pair = λ lo hi x p b. (any .any-pair lo hi x p (b .0), b .1) }
 
 -- by what holds of each leaf entry within the bounds
-pub shaped-map : (half : ℕ) {B C : Asked (Kid 0)} (l lo hi : ℕ) (x : Ent (Kid l))
-    → ((a b : ℕ) (y : Ent (Kid 0)) → lo ≤ a → b ≤ hi → B a b y → C a b y) → Shaped half B l lo hi x → Shaped half C l lo hi x
+pub shaped-map : (half : ℕ) {B C : Asked (Subtree 0)} (l lo hi : ℕ) (x : Node (Subtree l))
+    → ((a b : ℕ) (y : Node (Subtree 0)) → lo ≤ a → b ≤ hi → B a b y → C a b y) → Shaped half B l lo hi x → Shaped half C l lo hi x
 unfolding Shaped
 shaped-map half zero lo hi x f s = f lo hi x (omega arith) (omega arith) s
 shaped-map half (suc l) lo hi x f s =
     (s .0, seg-map (λ a b y low high q. shaped-map half l a b y (λ c d z p r. f c d z (omega arith) (omega arith)) q) (s .1))
 
-pub formed-map : {half : ℕ} {B C : Asked (Kid 0)} {T : Tree}
-    → ((a b : ℕ) (y : Ent (Kid 0)) → B a b y → C a b y) → Formed half B T → Formed half C T
+pub formed-map : {half : ℕ} {B C : Asked (Subtree 0)} {T : Tree}
+    → ((a b : ℕ) (y : Node (Subtree 0)) → B a b y → C a b y) → Formed half B T → Formed half C T
 formed-map {half} {T = T} f F =
     record {
       least = F .least;
@@ -75,18 +75,18 @@ formed-map {half} {T = T} f F =
       spans = seg-map (λ a b x low high q. shaped-map half (T .level) a b x (λ c d y p r. f c d y) q) (F .spans);
     }
 
--- ---- one page parted in two, by a cut or by a neighbour that gives
+-- ---- one page parted in two, by a cut or by a sibling that gives
 
-module _ (half : ℕ) (B : Asked (Kid 0)) (_⊕_ : Pair → Pair → Pair) (l : ℕ) where
+module _ (half : ℕ) (B : Asked (Subtree 0)) (_⊕_ : Pair → Pair → Pair) (l : ℕ) where
   -- an entry that has these entries below became these
-  pub record Became (lo hi : ℕ) (e : Entry) (es : Ents l) (zs : Ents (suc l)) : Type 0 where
+  pub record Became (lo hi : ℕ) (e : Entry) (es : Nodes l) (zs : Nodes (suc l)) : Type 0 where
     pub spans : Seg (Shaped half B (suc l)) lo hi zs
-    pub same : Same _⊕_ (suc l) (with-kid e es ∷ []) zs
+    pub same : Same _⊕_ (suc l) (with-subtree e es ∷ []) zs
 
-  pub parted : {lo hi : ℕ} {es : Ents l} (k : ℕ) (e f : Entry) → e .start ≡ lo → f .start ≡ at (bare (drop k es)) 0 .start → f .pair ≡ e .pair
+  pub parted : {lo hi : ℕ} {es : Nodes l} (k : ℕ) (e f : Entry) → e .start ≡ lo → f .start ≡ at (flat (drop k es)) 0 .start → f .pair ≡ e .pair
       → 0 < half → half ≤ k → half + k ≤ length es → length es ≤ capacity half + half
       → Seg (Shaped half B l) lo hi es
-      → Became lo hi e es (with-kid e (take k es) ∷ with-kid f (drop k es) ∷ [])
+      → Became lo hi e es (with-subtree e (take k es) ∷ with-subtree f (drop k es) ∷ [])
   unfolding Shaped
   parted {lo} {hi} {es} k e f at-lo at-mid pairs pos low high most s =
       let p = seg-part k s in
@@ -100,6 +100,6 @@ module _ (half : ℕ) (B : Asked (Kid 0)) (_⊕_ : Pair → Pair → Pair) (l : 
       record {
         spans = more at-lo lt (left, p .front) (seg-one start lt′ (right, p .back));
         same =
-            subst (λ z. Same _⊕_ (suc l) (with-kid e z ∷ []) (with-kid e (take k es) ∷ with-kid f (drop k es) ∷ [])) (take-append-drop k es)
+            subst (λ z. Same _⊕_ (suc l) (with-subtree e z ∷ []) (with-subtree e (take k es) ∷ with-subtree f (drop k es) ∷ [])) (take-append-drop k es)
             (same-two _⊕_ l e f at-lo start pairs lt lt′ (p .front) (p .back));
       }

@@ -6,46 +6,46 @@ use lib.ListN.{length, take, drop, getD}
 use lib.Dec.{eqb, leb}
 use Rattle.rule.specs.Pairs.{none}
 use Rattle.rule.specs.Time.{END}
-use Rattle.page.specs.Entries.{entry, at, place}
+use Rattle.page.specs.Entries.{entry, at, index-of}
 use Rattle.lists.specs.Lists.{splice}
 use Rattle.page.specs.Layout.{capacity}
-use Rattle.tree.specs.Tree.{Ent, Kid, no-ent, bare, Tree}
+use Rattle.tree.specs.Tree.{Node, Subtree, no-node, flat, Tree}
 use Rattle.tree.specs.Supply.{Supply, next-page, without-next}
 
 pub record Cutting (A : Type 0) : Type 0 where
-  pub became : List (Ent A)
+  pub became : List (Node A)
   pub supply : Supply
 
-unfoldable pub cut-leaf : ℕ → Ent (Kid 0) → List (Ent (Kid 0))
+unfoldable pub cut-leaf : ℕ → Node (Subtree 0) → List (Node (Subtree 0))
 cut-leaf t x =
     cond (eqb (x .entry .start) t) (x ∷ [])
-    (x ∷ record { entry = entry t (x .entry .pair) (x .entry .child); kid = tt } ∷ [])
+    (x ∷ record { entry = entry t (x .entry .pair) (x .entry .child); subtree = tt } ∷ [])
 
 -- the page under x has the entries es
-unfoldable pub kept : {A : Type 0} → Ent (List (Ent A)) → List (Ent A) → Supply → Cutting (List (Ent A))
-kept x es S = record { became = record { entry = x .entry; kid = es } ∷ []; supply = S }
+unfoldable pub not-split : {A : Type 0} → Node (List (Node A)) → List (Node A) → Supply → Cutting (List (Node A))
+not-split x es S = record { became = record { entry = x .entry; subtree = es } ∷ []; supply = S }
 
-unfoldable pub split : {A : Type 0} → ℕ → Ent (List (Ent A)) → List (Ent A) → Supply → Cutting (List (Ent A))
+unfoldable pub split : {A : Type 0} → ℕ → Node (List (Node A)) → List (Node A) → Supply → Cutting (List (Node A))
 split half x es S =
     let right = drop half es in
     record {
       became =
-          record { entry = x .entry; kid = take half es }
-          ∷ record { entry = entry (at (bare right) 0 .start) (x .entry .pair) (next-page S); kid = right }
+          record { entry = x .entry; subtree = take half es }
+          ∷ record { entry = entry (at (flat right) 0 .start) (x .entry .pair) (next-page S); subtree = right }
           ∷ [];
       supply = without-next S;
     }
 
-unfoldable pub settled : {A : Type 0} → ℕ → Ent (List (Ent A)) → List (Ent A) → Supply → Cutting (List (Ent A))
-settled half x es S = cond (leb (length es) (capacity half)) (kept x es S) (split half x es S)
+unfoldable pub split-if-full : {A : Type 0} → ℕ → Node (List (Node A)) → List (Node A) → Supply → Cutting (List (Node A))
+split-if-full half x es S = cond (leb (length es) (capacity half)) (not-split x es S) (split half x es S)
 
-unfoldable pub cut-ent : ℕ → ℕ → (l : ℕ) → Ent (Kid l) → Supply → Cutting (Kid l)
-cut-ent half t zero x S = record { became = cut-leaf t x; supply = S }
-cut-ent half t (suc l) x S =
-    let i = place t (bare (x .kid)) in
-    let r = cut-ent half t l (getD (x .kid) i (no-ent l)) S in
-    let es = splice i (r .became) (x .kid) in
-    cond (eqb (length (r .became)) 1) (kept x es (r .supply)) (settled half x es (r .supply))
+unfoldable pub cut-node : ℕ → ℕ → (l : ℕ) → Node (Subtree l) → Supply → Cutting (Subtree l)
+cut-node half t zero x S = record { became = cut-leaf t x; supply = S }
+cut-node half t (suc l) x S =
+    let i = index-of t (flat (x .subtree)) in
+    let r = cut-node half t l (getD (x .subtree) i (no-node l)) S in
+    let es = splice i (r .became) (x .subtree) in
+    cond (eqb (length (r .became)) 1) (not-split x es (r .supply)) (split-if-full half x es (r .supply))
 
 -- a tree with its supply
 pub record State : Type 0 where
@@ -53,18 +53,18 @@ pub record State : Type 0 where
   pub supply : Supply
 
 -- the root as an entry
-unfoldable pub root-ent : (T : Tree) → Ent (Kid (suc (T .level)))
-root-ent T = record { entry = entry 0 none (T .root); kid = T .ents }
+unfoldable pub root-node : (T : Tree) → Node (Subtree (suc (T .level)))
+root-node T = record { entry = entry 0 none (T .root); subtree = T .nodes }
 
 -- one entry is the root again, two stand in a new one
-unfoldable pub grown : (l : ℕ) → List (Ent (Kid (suc l))) → Supply → State
-grown l [] S = record { tree = record { level = l; root = 0; ents = [] }; supply = S }
-grown l (x ∷ []) S = record { tree = record { level = l; root = x .entry .child; ents = x .kid }; supply = S }
-grown l (x ∷ y ∷ zs) S =
-    record { tree = record { level = suc l; root = next-page S; ents = x ∷ y ∷ zs }; supply = without-next S }
+unfoldable pub grow-if-split : (l : ℕ) → List (Node (Subtree (suc l))) → Supply → State
+grow-if-split l [] S = record { tree = record { level = l; root = 0; nodes = [] }; supply = S }
+grow-if-split l (x ∷ []) S = record { tree = record { level = l; root = x .entry .child; nodes = x .subtree }; supply = S }
+grow-if-split l (x ∷ y ∷ zs) S =
+    record { tree = record { level = suc l; root = next-page S; nodes = x ∷ y ∷ zs }; supply = without-next S }
 
 unfoldable pub cut : ℕ → ℕ → State → State
 cut half t Y =
     let T = Y .tree in
-    let r = cut-ent half t (suc (T .level)) (root-ent T) (Y .supply) in
-    cond (leb END t) Y (grown (T .level) (r .became) (r .supply))
+    let r = cut-node half t (suc (T .level)) (root-node T) (Y .supply) in
+    cond (leb END t) Y (grow-if-split (T .level) (r .became) (r .supply))

@@ -1,9 +1,9 @@
 pub mod Tree
 pub mod Supply
 pub mod Cut
-pub mod Spread
+pub mod Combine
 pub mod Heal
 pub mod Change
 pub mod Shape
-pub mod Held
+pub mod Conserved
 pub mod Counts

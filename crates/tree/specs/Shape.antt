@@ -6,16 +6,16 @@ use mathlib.Core.List.{List, [], _∷_}
 use lib.ListN.{length}
 use Rattle.rule.specs.Time.{END}
 use Rattle.page.specs.Layout.{capacity}
-use Rattle.tree.specs.Tree.{Ent, Kid, Tree}
+use Rattle.tree.specs.Tree.{Node, Subtree, Tree}
 
 -- What may be asked of an entry from its start to its end.
 abbrev pub Asked : Type 0 → Type 1
-Asked A = ℕ → ℕ → Ent A → Type 0
+Asked A = ℕ → ℕ → Node A → Type 0
 
 -- Entries that follow each other from lo to hi with no gap, each of which is Q from its start to its end.
-pub data Seg {A : Type 0} (Q : Asked A) : ℕ → ℕ → List (Ent A) → Type 0 where
+pub data Seg {A : Type 0} (Q : Asked A) : ℕ → ℕ → List (Node A) → Type 0 where
   done : {hi : ℕ} → Seg Q hi hi []
-  more : {lo mid hi : ℕ} {x : Ent A} {es : List (Ent A)}
+  more : {lo mid hi : ℕ} {x : Node A} {es : List (Node A)}
       → x .entry .start ≡ lo → lo < mid → Q lo mid x → Seg Q mid hi es → Seg Q lo hi (x ∷ es)
 
 -- how many entries a page other than the root has
@@ -24,12 +24,12 @@ pub record Filled (half : ℕ) {A : Type 0} (es : List A) : Type 0 where
   pub most : length es ≤ capacity half
 
 -- An entry of a page of level l from lo to hi: a leaf's is B, an inner one leads to a filled page over the same span.
-unfoldable pub Shaped : ℕ → Asked (Kid 0) → (l : ℕ) → ℕ → ℕ → Ent (Kid l) → Type 0
+unfoldable pub Shaped : ℕ → Asked (Subtree 0) → (l : ℕ) → ℕ → ℕ → Node (Subtree l) → Type 0
 Shaped half B zero lo hi x = B lo hi x
-Shaped half B (suc l) lo hi x = Filled half (x .kid) × Seg (λ a b y. Shaped half B l a b y) lo hi (x .kid)
+Shaped half B (suc l) lo hi x = Filled half (x .subtree) × Seg (λ a b y. Shaped half B l a b y) lo hi (x .subtree)
 
 -- What is asked of a leaf entry by itself: its child is 0.
-abbrev pub Leaf : Asked (Kid 0)
+abbrev pub Leaf : Asked (Subtree 0)
 Leaf lo hi x = x .entry .child ≡ 0
 
 -- what is asked of it besides, where t is cut: it ends at t or before, or starts there or later
@@ -42,7 +42,7 @@ root-least zero = 1
 root-least (suc l) = 2
 
 -- A tree as every sound image has it, over a leaf predicate B.
-pub record Formed (half : ℕ) (B : Asked (Kid 0)) (T : Tree) : Type 0 where
-  pub least : root-least (T .level) ≤ length (T .ents)
-  pub most : length (T .ents) ≤ capacity half
-  pub spans : Seg (λ lo hi x. Shaped half B (T .level) lo hi x) 0 END (T .ents)
+pub record Formed (half : ℕ) (B : Asked (Subtree 0)) (T : Tree) : Type 0 where
+  pub least : root-least (T .level) ≤ length (T .nodes)
+  pub most : length (T .nodes) ≤ capacity half
+  pub spans : Seg (λ lo hi x. Shaped half B (T .level) lo hi x) 0 END (T .nodes)

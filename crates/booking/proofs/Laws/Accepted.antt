@@ -9,7 +9,7 @@ use lib.Dec.{eqb}
 use lib.IntN.{ℤ}
 use borrow.Author.Tests.{eqb-false}
 use Rattle.rule.specs.declared.Pair.{Pair}
-use Rattle.rule.specs.Time.{lengthened}
+use Rattle.rule.specs.Time.{effect-end}
 use Rattle.rule.specs.Pairs.{combine}
 use Rattle.page.specs.declared.Head.{Head}
 use Rattle.page.specs.Fit.{most-changes}
@@ -21,13 +21,13 @@ use Rattle.calls.specs.Refusals.{first}
 use Rattle.calls.specs.Changes.{Side, withdraws, effect}
 use Rattle.calls.specs.Calls.{head, changed}
 use Rattle.calls.proofs.Changes.{effective}
-use Rattle.store.specs.Holding.{Holds, Some, Each}
-use Rattle.state.proofs.From.Good.{sound-good}
+use Rattle.store.specs.Encoding.{Encodes, Pre, Post}
+use Rattle.invariant.proofs.From.Invariant.{sound-invariant}
 use Rattle.change.specs.Changeable.{Changeable}
-use Rattle.needs.proofs.Held.{sound-holds}
-use Rattle.ready.proofs.Changes.{changeable}
-use Rattle.booking.specs.declared.Judged.the-variants.{Accepted, Refused}
-use Rattle.booking.specs.Rows.{judged, Accepts}
+use Rattle.page_need.proofs.Held.{sound-holds}
+use Rattle.preconditions.proofs.Changes.{changeable}
+use Rattle.booking.specs.declared.StateCheck.the-variants.{Accepted, Refused}
+use Rattle.booking.specs.Rows.{state-check, Accepts}
 
 -- the four tests are passed
 pub record Passed (unsound other full lacking : Bool) : Type 0 where
@@ -52,9 +52,9 @@ of-not false e = absurd (true≢false e)
 
 module _ {side : Side} {v : ℤ} {s e : ℕ} {img : List ℕ} {h : Head} (a : Accepts side v s e img h) where
   facts : Passed (not (sound 12 img)) (withdraws side && not (eqb (head 12 img .kind) 1)) (eqb (head 12 img .changes) most-changes)
-      (lacks-pages 12 s (lengthened e (head 12 img .window)) (image-of 12 img))
+      (lacks-pages 12 s (effect-end e (head 12 img .window)) (image-of 12 img))
       × (h ≡ head 12 img)
-  unfolding judged
+  unfolding state-check
   facts = passed _ _ _ _ (a .judged-so)
 
   pub accepted-head : h ≡ head 12 img
@@ -68,12 +68,12 @@ module _ {side : Side} {v : ℤ} {s e : ℕ} {img : List ℕ} {h : Head} (a : Ac
 
   -- where the effect ends
   abbrev end : ℕ
-  end = lengthened e (head 12 img .window)
+  end = effect-end e (head 12 img .window)
 
   ready : Changeable (head 12 img .kind) s end (effect side v) X
   unfolding image-of head
   ready =
-      let g = sound-good 12 img (omega arith) accepted-sound in
+      let g = sound-invariant 12 img (omega arith) accepted-sound in
       let f = facts .0 in
       let n : head 12 img .changes ≢ most-changes = eqb-false (head 12 img .changes) most-changes (f .few) in
       changeable s end (effect side v) g (effective (head 12 img .kind) side v (a .fits) (f .sided))
@@ -88,12 +88,12 @@ module _ {side : Side} {v : ℤ} {s e : ℕ} {img : List ℕ} {h : Head} (a : Ac
         subst⁻¹ (λ j. Changeable j s to p X) same-kind
         (subst⁻¹ (λ t. Changeable (head 12 img .kind) s t p X) same-end (subst⁻¹ (λ q. Changeable (head 12 img .kind) s end q X) same-effect ready))
 
-    holds : Holds img X
+    holds : Encodes img X
     holds = sound-holds img bytes accepted-sound
 
-    pub accepted-some : Some img (Changeable k s to p)
+    pub accepted-some : Pre img (Changeable k s to p)
     accepted-some = record { image = X; holds = holds; ready = ready-so }
 
-    pub accepted-changed : {after : List ℕ} → Each img (Changeable k s to p) (λ Z. Holds after (change 12 (combine k) s to p Z)) → after ≡ changed 12 side v s e img
+    pub accepted-changed : {after : List ℕ} → Post img (Changeable k s to p) (λ Z. Encodes after (change 12 (combine k) s to p Z)) → after ≡ changed 12 side v s e img
     unfolding changed
     accepted-changed g = g X holds ready-so .bytes ∙ (λ j. image-bytes 12 (change 12 (combine (same-kind j)) s (same-end j) (same-effect j) X))

@@ -14,9 +14,9 @@ use Rattle.page.specs.declared.Head.{Head}
 use Rattle.image.specs.Images.{pages-in, length-ok}
 use Rattle.calls.specs.Refusals.{Row, first, borrowed, scratch-ok, cleared, scratch-after}
 use Rattle.calls.specs.Changes.{Side}
-use Rattle.calls.specs.Calls.{Booked, head, book-early, book-number, changed, book}
-use Rattle.booking.specs.declared.Judged.the-variants.{Accepted, Refused}
-use Rattle.booking.specs.Rows.{late-rows, judged, Accepts}
+use Rattle.calls.specs.Calls.{Booked, head, book-input-rows, book-status, changed, book}
+use Rattle.booking.specs.declared.StateCheck.the-variants.{Accepted, Refused}
+use Rattle.booking.specs.Rows.{book-state-rows, state-check, Accepts}
 
 -- ---- rows
 
@@ -46,14 +46,14 @@ clear true true true true e = record { whole-is = refl; room-is = refl; span-is 
 made : List Row → List Row → List ℕ → List ℕ → List ℕ → List ℕ → Booked
 made early late done img clean scratch =
     let number = first (early ++ late) in
-    record { number = number; image = cond (eqb number 0) done img; scratch = cond (eqb (first early) 0) clean scratch }
+    record { status = number; image = cond (eqb number 0) done img; scratch = cond (eqb (first early) 0) clean scratch }
 
 module _ (side : Side) (v : ℤ) (s e : ℕ) (img scratch : List ℕ) where
   abbrev early : List Row
-  early = book-early 12 v s e img scratch
+  early = book-input-rows 12 v s e img scratch
 
   abbrev late : List Row
-  late = late-rows 12 side s e img
+  late = book-state-rows 12 side s e img
 
   abbrev clean : List ℕ
   clean = cleared (pages-in 12 img) scratch
@@ -62,21 +62,21 @@ module _ (side : Side) (v : ℤ) (s e : ℕ) (img scratch : List ℕ) where
   done = changed 12 side v s e img
 
   book-is : made early late done img clean scratch ≡ book 12 side v s e img scratch
-  unfolding made book book-number scratch-after
+  unfolding made book book-status scratch-after
   book-is = refl
 
-  pub book-early-out : {n : ℕ} → n ≡ first early → n ≢ 0 → record { number = n; image = img; scratch = scratch } ≡ book 12 side v s e img scratch
+  pub book-early-out : {n : ℕ} → n ≡ first early → n ≢ 0 → record { status = n; image = img; scratch = scratch } ≡ book 12 side v s e img scratch
   unfolding made
   book-early-out {n} e d =
       let f : first early ≢ 0 = λ z. d (e ∙ z) in
       let number : n ≡ first (early ++ late) = e ∙ sym (first-early early late f) in
-      (λ j. record { number = number j; image = cond (sym (ne-eqb n 0 d) j) done img; scratch = scratch })
-      ∙ (λ j. record { number = first (early ++ late); image = cond (eqb (number j) 0) done img; scratch = cond (sym (ne-eqb (first early) 0 f) j) clean scratch })
+      (λ j. record { status = number j; image = cond (sym (ne-eqb n 0 d) j) done img; scratch = scratch })
+      ∙ (λ j. record { status = first (early ++ late); image = cond (eqb (number j) 0) done img; scratch = cond (sym (ne-eqb (first early) 0 f) j) clean scratch })
       ∙ book-is
 
   module _ (z : first early ≡ 0) where
     tests : Clear (length-ok 12 img) (scratch-ok (pages-in 12 img) scratch) (span-ok s e) (value-ok v)
-    unfolding book-early
+    unfolding book-input-rows
     tests = clear _ _ _ _ z
 
     pub early-whole : length-ok 12 img ≡ true
@@ -93,18 +93,18 @@ module _ (side : Side) (v : ℤ) (s e : ℕ) (img scratch : List ℕ) where
     pub early-fits : value-ok v ≡ true
     early-fits = tests .fits-is
 
-    late-number : first (early ++ late) ≡ first late
-    unfolding book-early first
-    late-number =
+    late-status : first (early ++ late) ≡ first late
+    unfolding book-input-rows first
+    late-status =
         λ j. first ((16, not (tests .whole-is j)) ∷ (17, not (tests .room-is j)) ∷ (11, not (tests .span-is j)) ∷ (13, not (tests .fits-is j)) ∷ late)
 
     by-late : {n : ℕ} {after left : List ℕ} → n ≡ first late → after ≡ cond (eqb n 0) done img → left ≡ clean
-        → record { number = n; image = after; scratch = left } ≡ book 12 side v s e img scratch
+        → record { status = n; image = after; scratch = left } ≡ book 12 side v s e img scratch
     unfolding made
     by-late {n} a b c =
-        let number : n ≡ first (early ++ late) = a ∙ sym late-number in
-        (λ j. record { number = n; image = b j; scratch = c j })
-        ∙ (λ j. record { number = number j; image = cond (eqb (number j) 0) done img; scratch = cond (eqb (sym z j) 0) clean scratch })
+        let number : n ≡ first (early ++ late) = a ∙ sym late-status in
+        (λ j. record { status = n; image = b j; scratch = c j })
+        ∙ (λ j. record { status = number j; image = cond (eqb (number j) 0) done img; scratch = cond (eqb (sym z j) 0) clean scratch })
         ∙ book-is
 
     -- what a judgement says of the later rows
@@ -122,16 +122,16 @@ module _ (side : Side) (v : ℤ) (s e : ℕ) (img scratch : List ℕ) where
         go true f e = eqb-true n 0 f
         go false f e = absurd (let y : _≡_ {A = ℕ} 0 1 = cc in omega arith)
 
-    pub book-late-out : {row : ℕ} {left : List ℕ} → Refused row ≡ judged side s e img → left ≡ clean → record { number = row; image = img; scratch = left } ≡ book 12 side v s e img scratch
-    unfolding judged
+    pub book-late-out : {row : ℕ} {left : List ℕ} → Refused row ≡ state-check side s e img → left ≡ clean → record { status = row; image = img; scratch = left } ≡ book 12 side v s e img scratch
+    unfolding state-check
     book-late-out j c =
         let r = refused-row (first late) (head 12 img) j in
         by-late (r .0) (sym (ap (λ b. cond b done img) (ap (λ n. eqb n 0) (r .0) ∙ r .1))) c
 
-    pub book-done : {h : Head} {after left : List ℕ} → Accepted h ≡ judged side s e img → after ≡ done → left ≡ clean
-        → record { number = 0; image = after; scratch = left } ≡ book 12 side v s e img scratch
-    unfolding judged
+    pub book-done : {h : Head} {after left : List ℕ} → Accepted h ≡ state-check side s e img → after ≡ done → left ≡ clean
+        → record { status = 0; image = after; scratch = left } ≡ book 12 side v s e img scratch
+    unfolding state-check
     book-done j a c = by-late (sym (accepted-row (first late) (head 12 img) j)) a c
 
-    pub accepts : {h : Head} → Accepted h ≡ judged side s e img → Accepts side v s e img h
+    pub accepts : {h : Head} → Accepted h ≡ state-check side s e img → Accepts side v s e img h
     accepts j = record { span = early-span; fits = early-fits; judged-so = j }

@@ -10,7 +10,7 @@ use borrow.Author.Tests.{le-leb}
 use Rattle.rule.specs.Time.{END, span-ok, value-ok}
 use Rattle.image.specs.Images.{pages-in, length-ok}
 use Rattle.calls.specs.Refusals.{first, scratch-ok, borrowed}
-use Rattle.calls.specs.Calls.{book-early}
+use Rattle.calls.specs.Calls.{book-input-rows}
 
 module _ (v : ℤ) (s e : ℕ) (img scratch : List ℕ) where
   -- the four tests
@@ -21,8 +21,8 @@ module _ (v : ℤ) (s e : ℕ) (img scratch : List ℕ) where
     pub fits-is : value-ok v ≡ fits
 
   pub rows-are : {whole room span fits : Bool} → Tests whole room span fits
-      → first ((16, not whole) ∷ (17, not room) ∷ (11, not span) ∷ (13, not fits) ∷ []) ≡ first (book-early 12 v s e img scratch)
-  unfolding book-early scratch-ok borrowed
+      → first ((16, not whole) ∷ (17, not room) ∷ (11, not span) ∷ (13, not fits) ∷ []) ≡ first (book-input-rows 12 v s e img scratch)
+  unfolding book-input-rows scratch-ok borrowed
   rows-are t =
       λ j. first ((16, not (sym (t .whole-is) j)) ∷ (17, not (sym (t .room-is) j)) ∷ (11, not (sym (t .span-is) j)) ∷ (13, not (sym (t .fits-is) j)) ∷ [])
 

@@ -4,7 +4,7 @@ use mathlib.Core.Path.{_≡_, refl, sym, ap, _∙_}
 use mathlib.Core.Bool.{Bool, true, false, cond, not, _&&_}
 use mathlib.Core.List.{List, [], _∷_}
 use lib.Dec.{eqb}
-use Rattle.rule.specs.Time.{lengthened}
+use Rattle.rule.specs.Time.{effect-end}
 use Rattle.page.specs.declared.Head.{Head}
 use Rattle.page.specs.Fit.{most-changes}
 use Rattle.image.specs.Images.{image-of}
@@ -13,13 +13,13 @@ use Rattle.steps.specs.Change.{lacks-pages}
 use Rattle.calls.specs.Refusals.{first}
 use Rattle.calls.specs.Changes.{withdraws}
 use Rattle.calls.specs.Calls.{head}
-use Rattle.booking.specs.declared.Judged.{Judged}
-use Rattle.booking.specs.declared.Judged.the-variants.{Accepted, Refused}
+use Rattle.booking.specs.declared.StateCheck.{StateCheck}
+use Rattle.booking.specs.declared.StateCheck.the-variants.{Accepted, Refused}
 use Rattle.booking.specs.Sides.{side-of}
-use Rattle.booking.specs.Rows.{judged}
+use Rattle.booking.specs.Rows.{state-check}
 
 -- a judgement by the outcomes of its four tests
-judgement : (unsound other full lacking : Bool) → Head → Judged
+judgement : (unsound other full lacking : Bool) → Head → StateCheck
 judgement unsound other full lacking h =
     let number = first ((21, unsound) ∷ (22, other) ∷ (23, full) ∷ (24, lacking) ∷ []) in
     cond (eqb number 0) (Accepted h) (Refused number)
@@ -34,18 +34,18 @@ module _ (b : Bool) (s e : ℕ) (img : List ℕ) where
   h = head 12 img
 
   by-tests : (unsound other full lacking : Bool) → not (sound 12 img) ≡ unsound → (b && not (eqb (h .kind) 1)) ≡ other → eqb (h .changes) most-changes ≡ full
-      → lacks-pages 12 s (lengthened e (h .window)) (image-of 12 img) ≡ lacking
-      → judgement unsound other full lacking h ≡ judged (side-of b) s e img
-  unfolding judgement judged
+      → lacks-pages 12 s (effect-end e (h .window)) (image-of 12 img) ≡ lacking
+      → judgement unsound other full lacking h ≡ state-check (side-of b) s e img
+  unfolding judgement state-check
   by-tests unsound other full lacking p q r t =
       λ j. judgement (sym p j) ((sym q ∙ ap (λ w. w && not (eqb (h .kind) 1)) (sym (withdraws-of b))) j) (sym r j) (sym t j) h
 
-  pub late-21 : sound 12 img ≡ false → Refused 21 ≡ judged (side-of b) s e img
+  pub late-21 : sound 12 img ≡ false → Refused 21 ≡ state-check (side-of b) s e img
   unfolding judgement first
   late-21 p = by-tests true _ _ _ (ap not p) refl refl refl
 
   module _ (p : sound 12 img ≡ true) {g : Head} (k : g ≡ head 12 img) where
-    pub late-22 : (b && not (eqb (g .kind) 1)) ≡ true → Refused 22 ≡ judged (side-of b) s e img
+    pub late-22 : (b && not (eqb (g .kind) 1)) ≡ true → Refused 22 ≡ state-check (side-of b) s e img
     unfolding judgement first
     late-22 q = by-tests false true _ _ (ap not p) (ap (λ (f : Head). b && not (eqb (f .kind) 1)) (sym k) ∙ q) refl refl
 
@@ -53,21 +53,21 @@ module _ (b : Bool) (s e : ℕ) (img : List ℕ) where
       other : (b && not (eqb (h .kind) 1)) ≡ false
       other = ap (λ (f : Head). b && not (eqb (f .kind) 1)) (sym k) ∙ q
 
-      pub late-23 : eqb (g .changes) most-changes ≡ true → Refused 23 ≡ judged (side-of b) s e img
+      pub late-23 : eqb (g .changes) most-changes ≡ true → Refused 23 ≡ state-check (side-of b) s e img
       unfolding judgement first
       late-23 r = by-tests false false true _ (ap not p) other (ap (λ (f : Head). eqb (f .changes) most-changes) (sym k) ∙ r) refl
 
-      module _ (r : eqb (g .changes) most-changes ≡ false) {end : ℕ} (l : end ≡ lengthened e (g .window)) where
+      module _ (r : eqb (g .changes) most-changes ≡ false) {end : ℕ} (l : end ≡ effect-end e (g .window)) where
         full : eqb (h .changes) most-changes ≡ false
         full = ap (λ (f : Head). eqb (f .changes) most-changes) (sym k) ∙ r
 
-        lacking : {z : Bool} → z ≡ lacks-pages 12 s end (image-of 12 img) → lacks-pages 12 s (lengthened e (h .window)) (image-of 12 img) ≡ z
-        lacking t = ap (λ n. lacks-pages 12 s n (image-of 12 img)) (sym (l ∙ ap (λ (f : Head). lengthened e (f .window)) k)) ∙ sym t
+        lacking : {z : Bool} → z ≡ lacks-pages 12 s end (image-of 12 img) → lacks-pages 12 s (effect-end e (h .window)) (image-of 12 img) ≡ z
+        lacking t = ap (λ n. lacks-pages 12 s n (image-of 12 img)) (sym (l ∙ ap (λ (f : Head). effect-end e (f .window)) k)) ∙ sym t
 
-        pub late-24 : true ≡ lacks-pages 12 s end (image-of 12 img) → Refused 24 ≡ judged (side-of b) s e img
+        pub late-24 : true ≡ lacks-pages 12 s end (image-of 12 img) → Refused 24 ≡ state-check (side-of b) s e img
         unfolding judgement first
         late-24 t = by-tests false false false true (ap not p) other full (lacking t)
 
-        pub late-0 : false ≡ lacks-pages 12 s end (image-of 12 img) → Accepted g ≡ judged (side-of b) s e img
+        pub late-0 : false ≡ lacks-pages 12 s end (image-of 12 img) → Accepted g ≡ state-check (side-of b) s e img
         unfolding judgement first
         late-0 t = ap Accepted k ∙ by-tests false false false false (ap not p) other full (lacking t)

@@ -85,7 +85,7 @@ drop-patch-after s o bs i g h =
     ∙ drop-drop (i - n) n s
     ∙ ap (λ k. drop k s) e
 
--- what a patch wrote stands at its place
+-- what a patch wrote stands at its offset
 pub part-patch-same : (s : List ℕ) (o : ℕ) (bs : List ℕ) (n : ℕ) → length bs ≡ n → o ≤ length s → part (patch s o bs) o n ≡ bs
 unfolding patch
 part-patch-same s o bs n e h = part-middle (take o s) bs (drop (o + length bs) s) o n (length-take-le o s h) e

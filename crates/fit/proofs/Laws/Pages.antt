@@ -13,10 +13,10 @@ use Rattle.rule.specs.Time.{most-value}
 use Rattle.rule.specs.Bounds.{value-or-none}
 use Rattle.rule.proofs.Tests.{both}
 use Rattle.page.specs.declared.Head.{Head}
-use Rattle.page.specs.Layout.{capacity, level-of, number-of, start-at, pair-at, child-at, unused-ok}
-use Rattle.page.specs.Fit.{Place, fewest, starts-ok, child-ok, children-ok, pair-ok, pairs-ok, page-fit}
+use Rattle.page.specs.Layout.{capacity, level-of, entry-count, start-at, pair-at, child-at, unused-ok}
+use Rattle.page.specs.Fit.{Page-context, fewest, starts-ok, child-ok, children-ok, pair-ok, pairs-ok, page-fit}
 use Rattle.fit.proofs.Tests.{le-is, lt-is, eq-is, each-is, case-is}
-use Rattle.fit.proofs.Laws.Parts.{fewest-pos, number-is, child-leaf, child-inner, pair-total, pair-mark}
+use Rattle.fit.proofs.Laws.Parts.{fewest-pos, entry-count-is, child-leaf, child-inner, pair-total, pair-mark}
 
 -- "an inner entry's child lies in 1 to n−1, a leaf's is 0"
 pub record Child (pages level child : ℕ) : Type 0 where
@@ -25,25 +25,25 @@ pub record Child (pages level child : ℕ) : Type 0 where
 
 -- "for kind 1 the absolute sums of an entry and of those above it on its way add to at most 1,000,000 × changes, absolute
 -- counts to at most changes"
-pub record Total (h : Head) (at : Place) (p : Pair) : Type 0 where
+pub record Total (h : Head) (at : Page-context) (p : Pair) : Type 0 where
   pub sums : at .sums + natAbs (p .sum) ≤ most-value * h .changes
   pub counts : at .counts + natAbs (p .count) ≤ h .changes
 
 -- "kinds 2 and 3 have (0, 0) or a value with 1"
-pub record Paired (h : Head) (at : Place) (p : Pair) : Type 0 where
+pub record Paired (h : Head) (at : Page-context) (p : Pair) : Type 0 where
   pub total : eqb (h .kind) 1 ≡ true → Total h at p
   pub mark : eqb (h .kind) 1 ≡ false → value-or-none p ≡ true
 
-pub record PageFit (half : ℕ) (h : Head) (at : Place) (s : List ℕ) : Type 0 where
+pub record PageFit (half : ℕ) (h : Head) (at : Page-context) (s : List ℕ) : Type 0 where
   pub level : level-of s ≡ at .level
-  pub least : fewest half at ≤ number-of s
-  pub most : number-of s ≤ capacity half
+  pub least : fewest half at ≤ entry-count s
+  pub most : entry-count s ≤ capacity half
   pub first : start-at s 0 ≡ at .lo
-  pub rising : (i : ℕ) → i < number-of s - 1 → start-at s i < start-at s (suc i)
-  pub last : start-at s (number-of s - 1) < at .hi
+  pub rising : (i : ℕ) → i < entry-count s - 1 → start-at s i < start-at s (suc i)
+  pub last : start-at s (entry-count s - 1) < at .hi
   pub unused : unused-ok half s ≡ true
-  pub children : (i : ℕ) → i < number-of s → Child (h .pages) (at .level) (child-at half s i)
-  pub pairs : (i : ℕ) → i < number-of s → Paired h at (pair-at half s i)
+  pub children : (i : ℕ) → i < entry-count s → Child (h .pages) (at .level) (child-at half s i)
+  pub pairs : (i : ℕ) → i < entry-count s → Paired h at (pair-at half s i)
 
 pub child-is : (pages level child : ℕ) → (child-ok pages level child ≡ true) ↔ Child pages level child
 child-is pages level child = case-is (eqb level 0) _ leaf inner
@@ -67,7 +67,7 @@ child-is pages level child = case-is (eqb level 0) _ leaf inner
           λ c. within .1 (c .inner (pos-of level (eqb-false level 0 e))),
         )
 
-pub pair-is : (h : Head) (at : Place) (p : Pair) → (pair-ok h at p ≡ true) ↔ Paired h at p
+pub pair-is : (h : Head) (at : Page-context) (p : Pair) → (pair-ok h at p ≡ true) ↔ Paired h at p
 pair-is h at p = case-is (eqb (h .kind) 1) _ total mark
   where
     total : eqb (h .kind) 1 ≡ true → (pair-ok h at p ≡ true) ↔ Paired h at p
@@ -85,18 +85,18 @@ pair-is h at p = case-is (eqb (h .kind) 1) _ total mark
           λ c. c .mark e,
         )
 
-module _ (half : ℕ) (h : Head) (at : Place) (s : List ℕ) where
-  starts-is : (starts-ok at s ≡ true) ↔ ((start-at s 0 ≡ at .lo) × (((i : ℕ) → i < number-of s - 1 → start-at s i < start-at s (suc i)) × (start-at s (number-of s - 1) < at .hi)))
+module _ (half : ℕ) (h : Head) (at : Page-context) (s : List ℕ) where
+  starts-is : (starts-ok at s ≡ true) ↔ ((start-at s 0 ≡ at .lo) × (((i : ℕ) → i < entry-count s - 1 → start-at s i < start-at s (suc i)) × (start-at s (entry-count s - 1) < at .hi)))
   unfolding starts-ok
-  starts-is = both _ _ (eq-is _ _) (both _ _ (each-is (number-of s - 1) _ _ (λ i. lt-is (start-at s i) (start-at s (suc i)))) (lt-is _ _))
+  starts-is = both _ _ (eq-is _ _) (both _ _ (each-is (entry-count s - 1) _ _ (λ i. lt-is (start-at s i) (start-at s (suc i)))) (lt-is _ _))
 
-  children-is : (children-ok half (h .pages) at s ≡ true) ↔ ((i : ℕ) → i < number-of s → Child (h .pages) (at .level) (child-at half s i))
+  children-is : (children-ok half (h .pages) at s ≡ true) ↔ ((i : ℕ) → i < entry-count s → Child (h .pages) (at .level) (child-at half s i))
   unfolding children-ok
-  children-is = each-is (number-of s) _ _ (λ i. child-is (h .pages) (at .level) (child-at half s i))
+  children-is = each-is (entry-count s) _ _ (λ i. child-is (h .pages) (at .level) (child-at half s i))
 
-  pairs-is : (pairs-ok half h at s ≡ true) ↔ ((i : ℕ) → i < number-of s → Paired h at (pair-at half s i))
+  pairs-is : (pairs-ok half h at s ≡ true) ↔ ((i : ℕ) → i < entry-count s → Paired h at (pair-at half s i))
   unfolding pairs-ok
-  pairs-is = each-is (number-of s) _ _ (λ i. pair-is h at (pair-at half s i))
+  pairs-is = each-is (entry-count s) _ _ (λ i. pair-is h at (pair-at half s i))
 
   -- the test for a fit page passes exactly where the page is fit
   pub page-fit-is : (page-fit half h at s ≡ true) ↔ PageFit half h at s
@@ -104,7 +104,7 @@ module _ (half : ℕ) (h : Head) (at : Place) (s : List ℕ) where
   page-fit-is =
       let parts =
       both _ _ (eq-is (level-of s) (at .level))
-      (both _ _ (number-is half at s)
+      (both _ _ (entry-count-is half at s)
       (both _ _ starts-is
       (both (unused-ok half s) _ (λ u. u, λ u. u)
       (both _ _ children-is pairs-is)))) in (
@@ -125,5 +125,5 @@ module _ (half : ℕ) (h : Head) (at : Place) (s : List ℕ) where
       )
 
 -- a fit page has an entry
-pub entry-first : {half : ℕ} {h : Head} {at : Place} {s : List ℕ} → PageFit half h at s → 1 ≤ half → 1 ≤ number-of s
+pub entry-first : {half : ℕ} {h : Head} {at : Page-context} {s : List ℕ} → PageFit half h at s → 1 ≤ half → 1 ≤ entry-count s
 entry-first {half} {at = at} fit some = omega (arith, fewest-pos half at some, fit .least)

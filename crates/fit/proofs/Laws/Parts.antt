@@ -15,14 +15,14 @@ use Rattle.rule.specs.Time.{most-value}
 use Rattle.rule.specs.Bounds.{value-or-none}
 use Rattle.rule.proofs.Tests.{both}
 use Rattle.page.specs.declared.Head.{Head}
-use Rattle.page.specs.Layout.{capacity, number-of, start-at}
-use Rattle.page.specs.Fit.{Place, end-at, fewest, number-ok, child-ok, pair-ok}
-use Rattle.fit.specs.Places.{Compared}
+use Rattle.page.specs.Layout.{capacity, entry-count, start-at}
+use Rattle.page.specs.Fit.{Page-context, end-at, fewest, entry-count-ok, child-ok, pair-ok}
+use Rattle.fit.specs.Contexts.{Compared}
 use Rattle.fit.proofs.Tests.{le-is}
 
--- ---- the number of entries
+-- ---- the count of entries
 
-pub fewest-pos : (half : ℕ) (at : Place) → 1 ≤ half → 1 ≤ fewest half at
+pub fewest-pos : (half : ℕ) (at : Page-context) → 1 ≤ half → 1 ≤ fewest half at
 unfolding fewest
 fewest-pos half at h = go (at .«is_root») (eqb (at .level) 0)
   where
@@ -31,27 +31,27 @@ fewest-pos half at h = go (at .«is_root») (eqb (at .level) 0)
     go true false = omega arith
     go false u = h
 
-pub number-is : (half : ℕ) (at : Place) (s : List ℕ) → (number-ok half at s ≡ true) ↔ ((fewest half at ≤ number-of s) × (number-of s ≤ capacity half))
-unfolding number-ok
-number-is half at s = both _ _ (le-is _ _) (le-is _ _)
+pub entry-count-is : (half : ℕ) (at : Page-context) (s : List ℕ) → (entry-count-ok half at s ≡ true) ↔ ((fewest half at ≤ entry-count s) × (entry-count s ≤ capacity half))
+unfolding entry-count-ok
+entry-count-is half at s = both _ _ (le-is _ _) (le-is _ _)
 
--- a number of entries that may stand in a page has been compared with 24
-pub compared : (at : Place) (s : List ℕ) {n : ℕ} → length s ≡ 512 → n ≡ number-of s → number-ok 12 at s ≡ true → Compared s n
+-- a count of entries that may stand in a page has been compared with 24
+pub compared : (at : Page-context) (s : List ℕ) {n : ℕ} → length s ≡ 512 → n ≡ entry-count s → entry-count-ok 12 at s ≡ true → Compared s n
 compared at s e m h =
-    let k = number-is 12 at s .0 h in
+    let k = entry-count-is 12 at s .0 h in
     let p = fewest-pos 12 at (omega arith) in
-    record { size = e; number = m; some = omega (arith, k .0); most = omega (arith, k .1) }
+    record { size = e; len = m; some = omega (arith, k .0); most = omega (arith, k .1) }
 
 -- ---- where an entry ends
 
 module _ (s : List ℕ) (hi i : ℕ) where
-  pub end-next : i + 1 < number-of s → end-at s hi i ≡ start-at s (i + 1)
+  pub end-next : i + 1 < entry-count s → end-at s hi i ≡ start-at s (i + 1)
   unfolding end-at
-  end-next h = rw (lt-ltb (suc i) (number-of s) (omega arith)) (ap (start-at s) (sym (add-one i)))
+  end-next h = rw (lt-ltb (suc i) (entry-count s) (omega arith)) (ap (start-at s) (sym (add-one i)))
 
-  pub end-last : number-of s ≤ i + 1 → end-at s hi i ≡ hi
+  pub end-last : entry-count s ≤ i + 1 → end-at s hi i ≡ hi
   unfolding end-at
-  end-last h = rw (le-ltb (suc i) (number-of s) (omega arith))
+  end-last h = rw (le-ltb (suc i) (entry-count s) (omega arith))
 
 -- ---- a child, by the level
 
@@ -66,7 +66,7 @@ module _ (pages level child : ℕ) where
 
 -- ---- a pair, by the kind
 
-module _ (h : Head) (at : Place) (p : Pair) where
+module _ (h : Head) (at : Page-context) (p : Pair) where
   pub pair-total : eqb (h .kind) 1 ≡ true → pair-ok h at p ≡ leb (at .sums + natAbs (p .sum)) (most-value * h .changes) && leb (at .counts + natAbs (p .count)) (h .changes)
   unfolding pair-ok
   pair-total e = rw e

@@ -9,63 +9,63 @@ use lib.Dec.{ltb}
 use borrow.Author.Tests.{lt-ltb, le-ltb}
 use Rattle.lists.proofs.Totals.{rises}
 use Rattle.page.specs.declared.Head.{Head}
-use Rattle.page.specs.Layout.{number-of, start-at}
-use Rattle.page.specs.Fit.{Place, end-at}
+use Rattle.page.specs.Layout.{entry-count, start-at}
+use Rattle.page.specs.Fit.{Page-context, end-at}
 use Rattle.fit.proofs.Laws.Pages.{PageFit}
 
 -- where the spans begin and end: at the starts, the last one at the page's own end
 unfoldable pub bound : List ℕ → ℕ → ℕ → ℕ
-bound s hi i = cond (ltb i (number-of s)) (start-at s i) hi
+bound s hi i = cond (ltb i (entry-count s)) (start-at s i) hi
 
 pub bound-next : (s : List ℕ) (hi i : ℕ) → end-at s hi i ≡ bound s hi (suc i)
 unfolding bound end-at
 bound-next s hi i = refl
 
-pub bound-in : (s : List ℕ) (hi i : ℕ) → i < number-of s → bound s hi i ≡ start-at s i
+pub bound-in : (s : List ℕ) (hi i : ℕ) → i < entry-count s → bound s hi i ≡ start-at s i
 unfolding bound
-bound-in s hi i l = ap (λ t. cond t (start-at s i) hi) (lt-ltb i (number-of s) l)
+bound-in s hi i l = ap (λ t. cond t (start-at s i) hi) (lt-ltb i (entry-count s) l)
 
-pub bound-past : (s : List ℕ) (hi i : ℕ) → number-of s ≤ i → bound s hi i ≡ hi
+pub bound-past : (s : List ℕ) (hi i : ℕ) → entry-count s ≤ i → bound s hi i ≡ hi
 unfolding bound
-bound-past s hi i l = ap (λ t. cond t (start-at s i) hi) (le-ltb i (number-of s) l)
+bound-past s hi i l = ap (λ t. cond t (start-at s i) hi) (le-ltb i (entry-count s) l)
 
-module _ {half : ℕ} {h : Head} {at : Place} {s : List ℕ} (f : PageFit half h at s) where
-  pub bound-rises : (i : ℕ) → i < number-of s → bound s (at .hi) i < bound s (at .hi) (suc i)
-  bound-rises i l = go (decLt (suc i) (number-of s))
+module _ {half : ℕ} {h : Head} {at : Page-context} {s : List ℕ} (f : PageFit half h at s) where
+  pub bound-rises : (i : ℕ) → i < entry-count s → bound s (at .hi) i < bound s (at .hi) (suc i)
+  bound-rises i l = go (decLt (suc i) (entry-count s))
     where
-      go : Dec (suc i < number-of s) → bound s (at .hi) i < bound s (at .hi) (suc i)
+      go : Dec (suc i < entry-count s) → bound s (at .hi) i < bound s (at .hi) (suc i)
       go (yes k) = omega (arith, bound-in s (at .hi) i l, bound-in s (at .hi) (suc i) k, f .rising i (omega arith))
       go (no k) =
-          let d : number-of s - 1 ≡ i = omega arith in
+          let d : entry-count s - 1 ≡ i = omega arith in
           omega (arith, bound-in s (at .hi) i l, bound-past s (at .hi) (suc i) (omega arith), rw d at (f .last))
 
   pub first-low : at .lo ≤ bound s (at .hi) 0
-  first-low = go (decLt 0 (number-of s))
+  first-low = go (decLt 0 (entry-count s))
     where
-      go : Dec (0 < number-of s) → at .lo ≤ bound s (at .hi) 0
+      go : Dec (0 < entry-count s) → at .lo ≤ bound s (at .hi) 0
       go (yes k) = omega (arith, bound-in s (at .hi) 0 k, f .first)
       go (no k) =
-          let d : number-of s - 1 ≡ 0 = omega arith in
+          let d : entry-count s - 1 ≡ 0 = omega arith in
           omega (arith, bound-past s (at .hi) 0 (omega arith), rw d at (f .last), f .first)
 
   -- an entry's span lies in its page's
-  pub end-after : (i : ℕ) → i < number-of s → start-at s i < end-at s (at .hi) i
+  pub end-after : (i : ℕ) → i < entry-count s → start-at s i < end-at s (at .hi) i
   end-after i l = omega (arith, bound-in s (at .hi) i l, bound-rises i l, bound-next s (at .hi) i)
 
-  pub end-within : (i : ℕ) → i < number-of s → end-at s (at .hi) i ≤ at .hi
+  pub end-within : (i : ℕ) → i < entry-count s → end-at s (at .hi) i ≤ at .hi
   end-within i l =
       omega (
         arith,
         bound-next s (at .hi) i,
-        rises (number-of s) (bound s (at .hi)) bound-rises (suc i) (number-of s) (omega arith) (omega arith),
-        bound-past s (at .hi) (number-of s) (omega arith),
+        rises (entry-count s) (bound s (at .hi)) bound-rises (suc i) (entry-count s) (omega arith) (omega arith),
+        bound-past s (at .hi) (entry-count s) (omega arith),
       )
 
   pub span-some : at .lo < at .hi
-  span-some = go (decLt 0 (number-of s))
+  span-some = go (decLt 0 (entry-count s))
     where
-      go : Dec (0 < number-of s) → at .lo < at .hi
+      go : Dec (0 < entry-count s) → at .lo < at .hi
       go (yes k) = omega (arith, f .first, end-after 0 k, end-within 0 k)
       go (no k) =
-          let d : number-of s - 1 ≡ 0 = omega arith in
+          let d : entry-count s - 1 ≡ 0 = omega arith in
           omega (arith, rw d at (f .last), f .first)

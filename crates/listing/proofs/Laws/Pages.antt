@@ -8,13 +8,13 @@ use borrow.Author.Tests.{eq-eqb, ne-eqb, not-true, not-false}
 use Rattle.rule.specs.declared.Pair.{Pair}
 use Rattle.rule.specs.Pairs.{none, combine}
 use Rattle.rule.proofs.Laws.{lawful}
-use Rattle.page.specs.Layout.{number-of, start-at, pair-at, child-at}
-use Rattle.page.specs.Fit.{place-below, page-fit}
+use Rattle.page.specs.Layout.{entry-count, start-at, pair-at, child-at}
+use Rattle.page.specs.Fit.{context-below, page-fit}
 use Rattle.image.specs.Listing as image
 use Rattle.image.specs.Listing.{nothing, stopped, then, in-turn, under, leaf-run, walk-page, walk}
-use Rattle.listing.specs.declared.Task.{Task}
-use Rattle.listing.specs.declared.Spot.{Spot}
-use Rattle.listing.specs.Walks.{bytes-at, page-walk, spot-below, meets, one-run, entry-walk}
+use Rattle.listing.specs.declared.SpanQuery.{SpanQuery}
+use Rattle.listing.specs.declared.Cursor.{Cursor}
+use Rattle.listing.specs.Walks.{bytes-at, page-walk, cursor-below, meets, one-run, entry-walk}
 
 -- ---- pairs combined into every run
 
@@ -47,25 +47,25 @@ under-turn comb p (suc n) f =
 
 -- ---- the ways out of an entry, by the test that the code makes
 
-module _ (img : List ℕ) (q : Task) (on : Spot) (i : ℕ) {b : Bool} (told : b ≡ meets q (bytes-at img on) on i) where
+module _ (img : List ℕ) (q : SpanQuery) (on : Cursor) (i : ℕ) {b : Bool} (told : b ≡ meets q (bytes-at img on) on i) where
   pub entry-apart : not b ≡ true → entry-walk img q on i ≡ nothing
   unfolding entry-walk
   entry-apart e = rw (sym told ∙ not-true b e)
 
   pub entry-leaf : not b ≡ false → on .at .level ≡ 0
-      → {start : ℕ} {pair : Pair} → start ≡ max (q .a) (start-at (bytes-at img on) i) → pair ≡ spot-below q (bytes-at img on) on i .above
+      → {start : ℕ} {pair : Pair} → start ≡ max (q .a) (start-at (bytes-at img on) i) → pair ≡ cursor-below q (bytes-at img on) on i .above
       → entry-walk img q on i ≡ one-run start pair
   unfolding entry-walk
   entry-leaf e z s p = rw (sym told ∙ not-false b e, eq-eqb (on .at .level) 0 z) (ap₂ one-run (sym s) (sym p))
 
-  pub entry-inner : not b ≡ false → 1 ≤ on .at .level → {below : Spot} → below ≡ spot-below q (bytes-at img on) on i
+  pub entry-inner : not b ≡ false → 1 ≤ on .at .level → {below : Cursor} → below ≡ cursor-below q (bytes-at img on) on i
       → entry-walk img q on i ≡ page-walk img q below
   unfolding entry-walk
   entry-inner e l d = rw (sym told ∙ not-false b e, ne-eqb (on .at .level) 0 (λ z. absurd (omega arith))) (ap (page-walk img q) (sym d))
 
 -- ---- a page
 
-module _ (img : List ℕ) (q : Task) (on : Spot) where
+module _ (img : List ℕ) (q : SpanQuery) (on : Cursor) where
   abbrev s : List ℕ
   s = bytes-at img on
 
@@ -75,7 +75,7 @@ module _ (img : List ℕ) (q : Task) (on : Spot) where
 
   -- the walk from the page under the i-th entry
   abbrev deeper : ℕ → ℕ → image.Walked
-  deeper i l = walk 12 (q .head) img (q .a) (q .b) l (place-below 12 s (on .at) i) (child-at 12 s i)
+  deeper i l = walk 12 (q .head) img (q .a) (q .b) l (context-below 12 s (on .at) i) (child-at 12 s i)
 
   -- what an entry gives, with the pairs above combined into it, is its walk
   module _ (i : ℕ) where
@@ -85,17 +85,17 @@ module _ (img : List ℕ) (q : Task) (on : Spot) where
     leaf-met e = rw (eq-eqb (on .at .level) 0 e) (go (meets q s on i))
       where
         go : (t : Bool) → total (cond t (leaf-run (q .a) (start-at s i) (pair-at 12 s i)) nothing)
-            ≡ cond t (one-run (max (q .a) (start-at s i)) (spot-below q s on i .above)) nothing
+            ≡ cond t (one-run (max (q .a) (start-at s i)) (cursor-below q s on i .above)) nothing
         go true = refl
         go false = refl
 
     inner-met : (l : ℕ) → on .at .level ≡ suc l
         → total (cond (meets q s on i) (under (combine (q .head .kind)) (pair-at 12 s i) (deeper i l)) nothing) ≡ entry-walk img q on i
-    unfolding entry-walk page-walk under nothing place-below
+    unfolding entry-walk page-walk under nothing context-below
     inner-met l e = rw (ne-eqb (on .at .level) 0 (λ z. absurd (omega arith))) (go (meets q s on i))
       where
-        below : Spot
-        below = spot-below q s on i
+        below : Cursor
+        below = cursor-below q s on i
 
         down : l ≡ below .at .level
         down = omega arith
@@ -115,15 +115,15 @@ module _ (img : List ℕ) (q : Task) (on : Spot) where
       go zero = rw e
       go (suc l) = rw e
 
-  pub page-in-turn : page-fit 12 (q .head) (on .at) s ≡ true → page-walk img q on ≡ in-turn (number-of s) (entry-walk img q on)
+  pub page-in-turn : page-fit 12 (q .head) (on .at) s ≡ true → page-walk img q on ≡ in-turn (entry-count s) (entry-walk img q on)
   unfolding page-walk walk walk-page
   page-in-turn e = go (on .at .level) refl
     where
       turns : (f : ℕ → image.Walked) → ((i : ℕ) → total (f i) ≡ entry-walk img q on i)
-          → total (in-turn (number-of s) f) ≡ in-turn (number-of s) (entry-walk img q on)
-      turns f h = under-turn (combine (q .head .kind)) (on .above) (number-of s) f ∙ ap (in-turn (number-of s)) (λ j i. h i j)
+          → total (in-turn (entry-count s) f) ≡ in-turn (entry-count s) (entry-walk img q on)
+      turns f h = under-turn (combine (q .head .kind)) (on .above) (entry-count s) f ∙ ap (in-turn (entry-count s)) (λ j i. h i j)
 
       go : (l : ℕ) → on .at .level ≡ l
-          → total (walk 12 (q .head) img (q .a) (q .b) l (on .at) (on .page)) ≡ in-turn (number-of s) (entry-walk img q on)
+          → total (walk 12 (q .head) img (q .a) (q .b) l (on .at) (on .page)) ≡ in-turn (entry-count s) (entry-walk img q on)
       go zero d = rw e (turns _ (λ i. leaf-met i d))
       go (suc l) d = rw e (turns _ (λ i. inner-met i l d))

@@ -10,9 +10,9 @@ use Rattle.rule.specs.Time.{overlaps}
 use Rattle.lists.proofs.Totals.{total-ones}
 use Rattle.page.specs.declared.Head.{Head}
 use Rattle.fields.specs.Bytes.{patch}
-use Rattle.page.specs.Layout.{number-of, start-at, child-at, head-of}
-use Rattle.lists.specs.Lists.{joined}
-use Rattle.page.specs.Fit.{Place, root-place, end-at, place-below, page-fit}
+use Rattle.page.specs.Layout.{entry-count, start-at, child-at, head-of}
+use Rattle.lists.specs.Lists.{concat-map}
+use Rattle.page.specs.Fit.{Page-context, root-context, end-at, context-below, page-fit}
 use Rattle.fit.proofs.Laws.Heads.{fit-ranges}
 use Rattle.fit.proofs.Laws.Pages.{page-fit-is}
 use Rattle.image.specs.Images.{page-at, pages-in}
@@ -22,11 +22,11 @@ use Rattle.image.specs.Listing.{nothing, stopped, in-turn, leaf-run, walk-page,
 use Rattle.runs.specs.declared.Run.{Run}
 use Rattle.runs.specs.Open.{no-run}
 use Rattle.runs.proofs.Laws.Entries.{written-join, output-join}
-use Rattle.listing.specs.declared.Task.{Task}
-use Rattle.listing.specs.declared.Walked.the-variants.{Fit, Unfit}
-use Rattle.listing.specs.declared.Counted.the-variants as counted
-use Rattle.listing.specs.Walks.{page-walk, root-spot, answer, output, count, Room}
-use Rattle.lent.specs.Opened.{Opened}
+use Rattle.listing.specs.declared.SpanQuery.{SpanQuery}
+use Rattle.listing.specs.declared.WalkAnswer.the-variants.{Fit, Unfit}
+use Rattle.listing.specs.declared.RunCount.the-variants as counted
+use Rattle.listing.specs.Walks.{page-walk, root-cursor, answer, output, count, Room}
+use Rattle.access.specs.Access.{Open-image}
 use Rattle.listing.proofs.Laws.Turns.{of-answer, of-unfit}
 use Rattle.listing.proofs.Laws.Pages.{under-none}
 
@@ -36,7 +36,7 @@ unfoldable pub most-runs : ℕ → ℕ
 most-runs zero = 24
 most-runs (suc l) = 24 * most-runs l
 
-page-few : (h : Head) (a b : ℕ) (at : Place) (s : List ℕ) (below : ℕ → image.Walked) (m : ℕ) → ((i : ℕ) → length (below i .runs) ≤ m)
+page-few : (h : Head) (a b : ℕ) (at : Page-context) (s : List ℕ) (below : ℕ → image.Walked) (m : ℕ) → ((i : ℕ) → length (below i .runs) ≤ m)
     → length (walk-page 12 h a b at s below .runs) ≤ 24 * m
 unfolding walk-page stopped nothing
 page-few h a b at s below m few = go (page-fit 12 h at s) refl
@@ -44,24 +44,24 @@ page-few h a b at s below m few = go (page-fit 12 h at s) refl
     found : ℕ → image.Walked
     found i = cond (overlaps a b (start-at s i) (end-at s (at .hi) i)) (below i) nothing
 
-    go : (t : Bool) → page-fit 12 h at s ≡ t → length (cond t (in-turn (number-of s) found) stopped .runs) ≤ 24 * m
+    go : (t : Bool) → page-fit 12 h at s ≡ t → length (cond t (in-turn (entry-count s) found) stopped .runs) ≤ 24 * m
     go true e =
         omega (
           arith,
-          turn-le (number-of s) found (λ _. 1) m
+          turn-le (entry-count s) found (λ _. 1) m
               (λ i. picked-le (overlaps a b (start-at s i) (end-at s (at .hi) i)) (below i) (m * 1) (omega (arith, few i))),
-          ap (λ k. m * k) (total-ones (number-of s) (λ _. 1) (λ i l. refl)),
+          ap (λ k. m * k) (total-ones (entry-count s) (λ _. 1) (λ i l. refl)),
           mul-le-mul-left m (page-fit-is 12 h at s .0 e .most),
         )
     go false e = omega arith
 
-pub walk-few : (h : Head) (img : List ℕ) (a b l : ℕ) (at : Place) (p : ℕ) → length (walk 12 h img a b l at p .runs) ≤ most-runs l
+pub walk-few : (h : Head) (img : List ℕ) (a b l : ℕ) (at : Page-context) (p : ℕ) → length (walk 12 h img a b l at p .runs) ≤ most-runs l
 unfolding walk most-runs leaf-run
 walk-few h img a b zero at p = page-few h a b at (page-at 12 img p) _ 1 (λ i. omega arith)
 walk-few h img a b (suc l) at p =
     let s = page-at 12 img p in
     page-few h a b at s _ (most-runs l)
-    (λ i. rw length-under (walk-few h img a b l (place-below 12 s at i) (child-at 12 s i)))
+    (λ i. rw length-under (walk-few h img a b l (context-below 12 s at i) (child-at 12 s i)))
 
 most-few : (l : ℕ) → l < 4 → most-runs l ≤ 331776
 unfolding most-runs
@@ -71,24 +71,24 @@ most-few (suc (suc zero)) h = omega arith
 most-few (suc (suc (suc zero))) h = omega arith
 most-few (suc (suc (suc (suc l)))) h = absurd (omega arith)
 
--- ---- from the root is from the root's spot, with no pair above
+-- ---- from the root is from the root's cursor, with no pair above
 
-pub root-walk : {img : List ℕ} (q : Task) → Opened img (q .head) → page-walk img q (root-spot (q .head)) ≡ walk-over 12 img (q .a) (q .b)
-unfolding page-walk walk-over root-place
+pub root-walk : {img : List ℕ} (q : SpanQuery) → Open-image img (q .head) → page-walk img q (root-cursor (q .head)) ≡ walk-over 12 img (q .a) (q .b)
+unfolding page-walk walk-over root-context
 root-walk {img} q h =
     under-none (q .head .kind) _
-    ∙ ap (λ (k : Head). walk 12 k img (q .a) (q .b) (k .height - 1) (root-place k) (k .root)) (h .shown)
+    ∙ ap (λ (k : Head). walk 12 k img (q .a) (q .b) (k .height - 1) (root-context k) (k .root)) (h .shown)
 
-pub over-few : {img : List ℕ} {h : Head} (a b : ℕ) → Opened img h → length (walk-over 12 img a b .runs) ≤ 331776
+pub over-few : {img : List ℕ} {h : Head} (a b : ℕ) → Open-image img h → length (walk-over 12 img a b .runs) ≤ 331776
 unfolding walk-over
 over-few {img} {h} a b o =
     let k = head-of (page-at 12 img 0) in
     let r = fit-ranges 12 (pages-in 12 img) (page-at 12 img 0) (o .fit) in
-    omega (arith, walk-few k img a b (k .height - 1) (root-place k) (k .root), most-few (k .height - 1) (omega (arith, r .height-most)))
+    omega (arith, walk-few k img a b (k .height - 1) (root-context k) (k .root), most-few (k .height - 1) (omega (arith, r .height-most)))
 
 -- ---- the two passes
 
-module _ {img : List ℕ} {h : Head} (a b : ℕ) (out : List ℕ) (headed : Opened img h) where
+module _ {img : List ℕ} {h : Head} (a b : ℕ) (out : List ℕ) (headed : Open-image img h) where
   pub room-counting : Room false no-run (walk-over 12 img a b) out
   room-counting =
       record { few = omega (arith, over-few a b headed); fit = λ e. absurd (false≢true e); room = λ e. absurd (false≢true e) }
@@ -114,6 +114,6 @@ module _ (w : image.Walked) where
       rw (f .0) (ap counted.Runs (ap (λ (r : Run). r .written) (f .1) ∙ written-join (w .runs)))
 
   pub output-all : (out : List ℕ) → 16 * length (join (w .runs)) ≤ length out
-      → output true no-run w out ≡ patch out 0 (joined run-bytes (join (w .runs)))
+      → output true no-run w out ≡ patch out 0 (concat-map run-bytes (join (w .runs)))
   unfolding output
   output-all out room = output-join (w .runs) out room

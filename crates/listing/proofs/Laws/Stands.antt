@@ -1,4 +1,4 @@
--- Nothing is out of bounds on the way of a walk. Assumes nothing.
+-- Nothing is out of bounds on the path of a walk. Assumes nothing.
 use mathlib.Core.Path.{_≡_, refl, subst⁻¹}
 use mathlib.Core.Logic.{inl}
 use mathlib.Core.Bool.{Bool, true, false}
@@ -15,28 +15,28 @@ use Rattle.rule.specs.Bounds.{Combinable}
 use Rattle.rule.proofs.Laws.{combine-sum-bound, total-count-bound, combine-value-or-none, value-or-none-is, values-combinable}
 use Rattle.fields.proofs.Laws.Parts.{length-part}
 use Rattle.page.specs.declared.Head.{Head}
-use Rattle.page.specs.Layout.{number-of, pair-at}
-use Rattle.page.specs.Fit.{Place, root-place, place-below, most-changes}
-use Rattle.fit.specs.Places.{Bounded}
+use Rattle.page.specs.Layout.{entry-count, pair-at}
+use Rattle.page.specs.Fit.{Page-context, root-context, context-below, most-changes}
+use Rattle.fit.specs.Contexts.{Bounded}
 use Rattle.fit.proofs.Laws.Pages.{PageFit, page-fit-is}
-use Rattle.fit.proofs.Laws.Ways.{root-way, way-bounded, below-way}
+use Rattle.fit.proofs.Laws.Paths.{root-path, path-bounded, below-path}
 use Rattle.image.specs.Images.{page-at, pages-in}
-use Rattle.listing.specs.declared.Task.{Task}
-use Rattle.listing.specs.declared.Spot.{Spot}
-use Rattle.listing.specs.Walks.{bytes-at, root-spot, spot-below}
-use Rattle.lent.specs.Opened.{Opened}
-use Rattle.lent.proofs.Laws.{opened-ranges, opened-size}
-use Rattle.listing.specs.Sits.{Above, Sits, Inside}
+use Rattle.listing.specs.declared.SpanQuery.{SpanQuery}
+use Rattle.listing.specs.declared.Cursor.{Cursor}
+use Rattle.listing.specs.Walks.{bytes-at, root-cursor, cursor-below}
+use Rattle.access.specs.Access.{Open-image}
+use Rattle.access.proofs.Laws.{opened-ranges, opened-size}
+use Rattle.listing.specs.Cursors.{Above, Valid-cursor, Valid-entry}
 
 -- ---- the pairs above
 
-pub above-root : (h : Head) → Above h (root-place h) none
-unfolding root-place
+pub above-root : (h : Head) → Above h (root-context h) none
+unfolding root-context
 above-root h = record { sum = λ _. omega arith; count = λ _. omega arith; mark = λ _. value-or-none-is none .1 (inl refl) }
 
-module _ {h : Head} {at : Place} {p : Pair} {s : List ℕ} (above : Above h at p) (fit : PageFit 12 h at s) (i : ℕ) (l : i < number-of s) where
-  pub above-below : Above h (place-below 12 s at i) (combine (h .kind) p (pair-at 12 s i))
-  unfolding place-below
+module _ {h : Head} {at : Page-context} {p : Pair} {s : List ℕ} (above : Above h at p) (fit : PageFit 12 h at s) (i : ℕ) (l : i < entry-count s) where
+  pub above-below : Above h (context-below 12 s at i) (combine (h .kind) p (pair-at 12 s i))
+  unfolding context-below
   above-below =
       let q = fit .pairs i l in
       record {
@@ -62,9 +62,9 @@ module _ {h : Head} {at : Place} {p : Pair} {s : List ℕ} (above : Above h at p
 pub record Lent (s : List ℕ) (i : ℕ) : Type 0 where
   pub size : length s ≡ 512
   pub within : i < 24
-  pub number : number-of s ≤ 24
+  pub len : entry-count s ≤ 24
 
-module _ {img : List ℕ} {q : Task} {on : Spot} (sits : Sits img q on) where
+module _ {img : List ℕ} {q : SpanQuery} {on : Cursor} (sits : Valid-cursor img q on) where
   pub page-within : 512 * on .page + 512 ≤ length img
   page-within = omega (arith, sits .size, sits .page)
 
@@ -73,39 +73,39 @@ module _ {img : List ℕ} {q : Task} {on : Spot} (sits : Sits img q on) where
   page-length = length-part img (512 * on .page) 512 page-within
 
   pub sits-bounded : Bounded (on .at)
-  sits-bounded = way-bounded (sits .way) (sits .changes)
+  sits-bounded = path-bounded (sits .path) (sits .changes)
 
-  module _ {i : ℕ} (inside : Inside img q on i) where
+  module _ {i : ℕ} (inside : Valid-entry img q on i) where
     pub fit-facts : PageFit 12 (q .head) (on .at) (bytes-at img on)
     fit-facts = page-fit-is 12 (q .head) (on .at) (bytes-at img on) .0 (inside .fit)
 
-    entry-within : (i < 24) × (number-of (bytes-at img on) ≤ 24)
+    entry-within : (i < 24) × (entry-count (bytes-at img on) ≤ 24)
     entry-within = omega (arith, fit-facts .most, inside .within)
 
     pub lent : {s : List ℕ} → s ≡ bytes-at img on → Lent s i
-    lent e = rw e (record { size = page-length; within = entry-within .0; number = entry-within .1 })
+    lent e = rw e (record { size = page-length; within = entry-within .0; len = entry-within .1 })
 
     -- under an inner entry
-    sits-below : 1 ≤ on .at .level → Sits img q (spot-below q (bytes-at img on) on i)
+    sits-below : 1 ≤ on .at .level → Valid-cursor img q (cursor-below q (bytes-at img on) on i)
     sits-below v =
         record {
           size = sits .size;
           changes = sits .changes;
           page = fit-facts .children i (inside .within) .inner v .1;
           depth = sits .depth + 1;
-          way = below-way (sits .way) fit-facts (omega arith) i (inside .within) v;
+          path = below-path (sits .path) fit-facts (omega arith) i (inside .within) v;
           above = above-below (sits .above) fit-facts i (inside .within);
         }
 
     -- the walk can go on at the page below, and the level falls
-    pub step-down : {below : Spot} → below ≡ spot-below q (bytes-at img on) on i → 1 ≤ on .at .level
-        → Sits img q below × (below .at .level < on .at .level)
-    unfolding place-below
+    pub step-down : {below : Cursor} → below ≡ cursor-below q (bytes-at img on) on i → 1 ≤ on .at .level
+        → Valid-cursor img q below × (below .at .level < on .at .level)
+    unfolding context-below
     step-down e v = rw e (sits-below v, omega arith)
 
 -- ---- the root
 
-pub sits-root : {img : List ℕ} (q : Task) → Opened img (q .head) → Sits img q (root-spot (q .head))
+pub sits-root : {img : List ℕ} (q : SpanQuery) → Open-image img (q .head) → Valid-cursor img q (root-cursor (q .head))
 sits-root {img} q o =
     let r = opened-ranges o in
     record {
@@ -113,6 +113,6 @@ sits-root {img} q o =
       changes = r .changes-most;
       page = omega (arith, r .root-below, r .pages-is);
       depth = 0;
-      way = root-way (pages-in 12 img) (q .head) r;
+      path = root-path (pages-in 12 img) (q .head) r;
       above = above-root (q .head);
     }

@@ -13,7 +13,7 @@ use Rattle.image.specs.Listing.{nothing, then, in-turn}
 use Rattle.runs.specs.declared.Run.{Run}
 use Rattle.runs.specs.Open.{stepped-all, output-after-all}
 use Rattle.runs.proofs.Laws.Entries.{stepped-all-append, output-after-all-append, written-grows, written-few, length-output}
-use Rattle.listing.specs.declared.Walked.the-variants.{Fit, Unfit}
+use Rattle.listing.specs.declared.WalkAnswer.the-variants.{Fit, Unfit}
 use Rattle.listing.specs.Walks.{answer, output, Does, Room}
 
 -- ---- the answer, by whether the walk is fit

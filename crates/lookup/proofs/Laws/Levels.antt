@@ -1,4 +1,4 @@
--- What a page on the way to an instant answers, by its cases. Assumes nothing.
+-- What a page on the path to an instant answers, by its cases. Assumes nothing.
 use mathlib.Core.Path.{_≡_, refl}
 use mathlib.Core.Bool.{Bool, true, false, cond}
 use mathlib.Core.List.{List}
@@ -7,23 +7,23 @@ use native.Mathlib.Omega.{arith}
 use lib.ListN.{length}
 use Rattle.rule.specs.declared.Pair.{Pair}
 use Rattle.page.specs.declared.Head.{Head}
-use Rattle.page.specs.Entries.{place}
-use Rattle.page.specs.Layout.{number-of, pair-at, child-at, entries-of}
-use Rattle.page.specs.Fit.{Place, page-fit}
+use Rattle.page.specs.Entries.{index-of}
+use Rattle.page.specs.Layout.{entry-count, pair-at, child-at, entries-of}
+use Rattle.page.specs.Fit.{Page-context, page-fit}
 use Rattle.fit.proofs.Laws.Pages.{PageFit, page-fit-is, entry-first}
-use Rattle.lookup.specs.declared.Level.{Level}
-use Rattle.lookup.specs.declared.Level.the-variants.{Entry, Unfit}
-use Rattle.lookup.specs.Levels.{Searched, level-answer}
-use Rattle.page.proofs.Laws.Places.{place-within}
+use Rattle.lookup.specs.declared.LevelAnswer.{LevelAnswer}
+use Rattle.lookup.specs.declared.LevelAnswer.the-variants.{Entry, Unfit}
+use Rattle.lookup.specs.Levels.{Page-searchable, level-answer}
+use Rattle.page.proofs.Laws.Indices.{index-within}
 
 -- An entry that is a page's answer: the page is fit, and it is the last entry starting at t or before.
-pub record Found (half : ℕ) (h : Head) (at : Place) (t : ℕ) (s : List ℕ) (pair : Pair) (child i : ℕ) : Type 0 where
+pub record Found (half : ℕ) (h : Head) (at : Page-context) (t : ℕ) (s : List ℕ) (pair : Pair) (child i : ℕ) : Type 0 where
   pub fit : page-fit half h at s ≡ true
-  pub here : i ≡ place t (entries-of half s)
+  pub here : i ≡ index-of t (entries-of half s)
   pub pairs : pair ≡ pair-at half s i
   pub children : child ≡ child-at half s i
 
-module _ {half : ℕ} {h : Head} {at : Place} {t : ℕ} {s : List ℕ} {pair : Pair} {child i : ℕ} (f : Found half h at t s pair child i) where
+module _ {half : ℕ} {h : Head} {at : Page-context} {t : ℕ} {s : List ℕ} {pair : Pair} {child i : ℕ} (f : Found half h at t s pair child i) where
   pub level-found : Entry pair child i ≡ level-answer half h at t s
   unfolding level-answer
   level-found = rw (f .fit, f .pairs, f .children, f .here)
@@ -31,14 +31,14 @@ module _ {half : ℕ} {h : Head} {at : Place} {t : ℕ} {s : List ℕ} {pair : P
   pub found-fit : PageFit half h at s
   found-fit = page-fit-is half h at s .0 (f .fit)
 
-  pub found-in : 1 ≤ half → i < number-of s
-  found-in some = rw (f .here) (place-within half s t (found-fit .most) (entry-first found-fit some))
+  pub found-in : 1 ≤ half → i < entry-count s
+  found-in some = rw (f .here) (index-within half s t (found-fit .most) (entry-first found-fit some))
 
 -- a page's answer, from the test and back to it
-module _ (half : ℕ) (h : Head) (at : Place) (t : ℕ) (s : List ℕ) where
-  abbrev answered : Bool → Level
+module _ (half : ℕ) (h : Head) (at : Page-context) (t : ℕ) (s : List ℕ) where
+  abbrev answered : Bool → LevelAnswer
   answered b =
-      let i = place t (entries-of half s) in
+      let i = index-of t (entries-of half s) in
       cond b (Entry (pair-at half s i) (child-at half s i) i) Unfit
 
   pub level-unfit : page-fit half h at s ≡ false → Unfit ≡ level-answer half h at t s
@@ -61,17 +61,17 @@ module _ (half : ℕ) (h : Head) (at : Place) (t : ℕ) (s : List ℕ) where
     where
       go : (b : Bool) → page-fit half h at s ≡ b → Entry pair child i ≡ answered b → Found half h at t s pair child i
       go true f e =
-          let k : i ≡ place t (entries-of half s) = cc in
+          let k : i ≡ index-of t (entries-of half s) = cc in
           record { fit = f; here = k; pairs = rw k (cc); children = rw k (cc) }
       go false f e =
           let z : _≡_ {A = ℕ} 0 1 = cc in
           absurd (omega arith)
 
 -- a fit page can be searched for an instant that isn't before it
-pub fit-searched : {h : Head} {at : Place} {s : List ℕ} {n t : ℕ} → PageFit 12 h at s → length s ≡ 512 → n ≡ number-of s → at .lo ≤ t → Searched s n t
+pub fit-searched : {h : Head} {at : Page-context} {s : List ℕ} {n t : ℕ} → PageFit 12 h at s → length s ≡ 512 → n ≡ entry-count s → at .lo ≤ t → Page-searchable s n t
 fit-searched {n} fit size e l =
     record {
-      compared = record { size = size; number = e; some = omega (arith, entry-first fit (omega arith)); most = omega (arith, fit .most) };
+      compared = record { size = size; len = e; some = omega (arith, entry-first fit (omega arith)); most = omega (arith, fit .most) };
       rising = λ i a. fit .rising i (omega arith);
       first = omega (arith, fit .first);
     }

@@ -9,28 +9,28 @@ use borrow.Author.Tests.{le-leb, lt-leb}
 use Rattle.image.specs.Images.{pages-in, length-ok}
 use Rattle.image.specs.Sound.{sound}
 use Rattle.calls.specs.Refusals.{first, borrowed, scratch-ok, cleared, scratch-after}
-use Rattle.calls.specs.Calls.{Audited, audit-early, audit}
+use Rattle.calls.specs.Calls.{Audited, audit-input-rows, audit}
 
 -- an audit by the outcomes of its three tests
 audited : (fits room is-sound : Bool) (done had : List ℕ) → Audited
 audited fits room is-sound done had =
     record {
-      number = first ((16, not fits) ∷ (17, not room) ∷ (21, not is-sound) ∷ []);
+      status = first ((16, not fits) ∷ (17, not room) ∷ (21, not is-sound) ∷ []);
       scratch = cond (eqb (first ((16, not fits) ∷ (17, not room) ∷ [])) 0) done had;
     }
 
 module _ (img scratch : List ℕ) where
   by-tests : (fits room is-sound : Bool) → length-ok 12 img ≡ fits → scratch-ok (pages-in 12 img) scratch ≡ room → sound 12 img ≡ is-sound
       → audited fits room is-sound (cleared (pages-in 12 img) scratch) scratch ≡ audit 12 img scratch
-  unfolding audited audit audit-early scratch-after first
+  unfolding audited audit audit-input-rows scratch-after first
   by-tests fits room is-sound a b c = λ j. audited (sym a j) (sym b j) (sym c j) (cleared (pages-in 12 img) scratch) scratch
 
-  pub audit-16 : length-ok 12 img ≡ false → record { number = 16; scratch = scratch } ≡ audit 12 img scratch
+  pub audit-16 : length-ok 12 img ≡ false → record { status = 16; scratch = scratch } ≡ audit 12 img scratch
   unfolding audited first
   audit-16 a = by-tests false _ _ a refl refl
 
   pub audit-17 : length-ok 12 img ≡ true → length scratch < pages-in 12 img
-      → record { number = 17; scratch = scratch } ≡ audit 12 img scratch
+      → record { status = 17; scratch = scratch } ≡ audit 12 img scratch
   unfolding audited first scratch-ok borrowed
   audit-17 a l = by-tests true false _ a (lt-leb _ _ l) refl
 
@@ -39,10 +39,10 @@ module _ (img scratch : List ℕ) where
     unfolding scratch-ok borrowed
     enough = le-leb _ _ room
 
-    pub audit-21 : sound 12 img ≡ false → record { number = 21; scratch = cleared (pages-in 12 img) scratch } ≡ audit 12 img scratch
+    pub audit-21 : sound 12 img ≡ false → record { status = 21; scratch = cleared (pages-in 12 img) scratch } ≡ audit 12 img scratch
     unfolding audited first
     audit-21 c = by-tests true true false a enough c
 
-    pub audit-0 : sound 12 img ≡ true → record { number = 0; scratch = cleared (pages-in 12 img) scratch } ≡ audit 12 img scratch
+    pub audit-0 : sound 12 img ≡ true → record { status = 0; scratch = cleared (pages-in 12 img) scratch } ≡ audit 12 img scratch
     unfolding audited first
     audit-0 c = by-tests true true true a enough c

@@ -7,13 +7,13 @@ use lib.Dec.{eqb}
 use Rattle.rule.specs.Time.{kind-ok, window-ok}
 use Rattle.image.specs.Images.{pages-in, length-ok, image-bytes, fresh}
 use Rattle.calls.specs.Refusals.{first}
-use Rattle.calls.specs.Calls.{Formatted, format-number, format}
+use Rattle.calls.specs.Calls.{Formatted, format-status, format}
 
 -- a format by the outcomes of its two tests
 formatted : (fits named : Bool) (done had : List ℕ) → Formatted
 formatted fits named done had =
     let number = first ((16, not fits) ∷ (14, not named) ∷ []) in
-    record { number = number; image = cond (eqb number 0) done had }
+    record { status = number; image = cond (eqb number 0) done had }
 
 module _ (kind window : ℕ) (img : List ℕ) where
   abbrev done : List ℕ
@@ -21,19 +21,19 @@ module _ (kind window : ℕ) (img : List ℕ) where
 
   by-tests : (fits named : Bool) → length-ok 12 img ≡ fits → (kind-ok kind && window-ok window) ≡ named
       → formatted fits named done img ≡ format 12 kind window img
-  unfolding formatted format format-number
+  unfolding formatted format format-status
   by-tests fits named a b = λ j. formatted (sym a j) (sym b j) done img
 
-  pub format-16 : length-ok 12 img ≡ false → record { number = 16; image = img } ≡ format 12 kind window img
+  pub format-16 : length-ok 12 img ≡ false → record { status = 16; image = img } ≡ format 12 kind window img
   unfolding formatted first
   format-16 a = by-tests false _ a refl
 
   pub format-14 : length-ok 12 img ≡ true → (kind-ok kind && window-ok window) ≡ false
-      → record { number = 14; image = img } ≡ format 12 kind window img
+      → record { status = 14; image = img } ≡ format 12 kind window img
   unfolding formatted first
   format-14 a b = by-tests true false a b
 
   pub format-0 : length-ok 12 img ≡ true → (kind-ok kind && window-ok window) ≡ true
-      → record { number = 0; image = done } ≡ format 12 kind window img
+      → record { status = 0; image = done } ≡ format 12 kind window img
   unfolding formatted first
   format-0 a b = by-tests true true a b

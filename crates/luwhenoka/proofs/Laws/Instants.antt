@@ -9,46 +9,46 @@ use Rattle.rule.specs.declared.Pair.{Pair}
 use Rattle.rule.specs.Time.{END}
 use Rattle.rule.specs.Pairs.{none}
 use Rattle.image.specs.Images.{length-ok}
-use Rattle.image.specs.Instant.{Looked, look-up}
+use Rattle.image.specs.Instant.{Lookup, look-up}
 use Rattle.calls.specs.Refusals.{first}
-use Rattle.calls.specs.Calls.{Instant, head-ok, instant-number, instant}
+use Rattle.calls.specs.Calls.{Instant, head-ok, instant-status, instant}
 
 -- an instant call by the outcomes of its tests and what the lookup found
-answered : (fits past before-end headed : Bool) (w : Looked) → Instant
+answered : (fits past before-end headed : Bool) (w : Lookup) → Instant
 answered fits past before-end headed w =
     let number = first ((16, not fits) ∷ (12, past) ∷ (21, not (headed && w .fit)) ∷ []) in
     record {
-      number = number;
+      status = number;
       pair = cond (eqb number 0) (w .pair) none;
       pages = cond (fits && (before-end && headed)) (w .pages) 0;
     }
 
 module _ (t : ℕ) (img : List ℕ) where
-  by-tests : (fits past before-end headed : Bool) {w : Looked} → length-ok 12 img ≡ fits → leb END t ≡ past → ltb t END ≡ before-end
+  by-tests : (fits past before-end headed : Bool) {w : Lookup} → length-ok 12 img ≡ fits → leb END t ≡ past → ltb t END ≡ before-end
       → head-ok 12 img ≡ headed → w ≡ look-up 12 img t → answered fits past before-end headed w ≡ instant 12 t img
-  unfolding answered instant instant-number
+  unfolding answered instant instant-status
   by-tests fits past before-end headed a b c d e = λ j. answered (sym a j) (sym b j) (sym c j) (sym d j) (e j)
 
-  pub instant-16 : length-ok 12 img ≡ false → record { number = 16; pair = none; pages = 0 } ≡ instant 12 t img
+  pub instant-16 : length-ok 12 img ≡ false → record { status = 16; pair = none; pages = 0 } ≡ instant 12 t img
   unfolding answered first
   instant-16 a = by-tests false _ _ _ a refl refl refl refl
 
-  pub instant-12 : length-ok 12 img ≡ true → END ≤ t → record { number = 12; pair = none; pages = 0 } ≡ instant 12 t img
+  pub instant-12 : length-ok 12 img ≡ true → END ≤ t → record { status = 12; pair = none; pages = 0 } ≡ instant 12 t img
   unfolding answered first
   instant-12 a l = by-tests true true false _ a (le-leb _ _ l) (le-ltb _ _ l) refl refl
 
   module _ (a : length-ok 12 img ≡ true) (l : t < END) where
-    pub instant-head : head-ok 12 img ≡ false → record { number = 21; pair = none; pages = 0 } ≡ instant 12 t img
+    pub instant-head : head-ok 12 img ≡ false → record { status = 21; pair = none; pages = 0 } ≡ instant 12 t img
     unfolding answered first
     instant-head d = by-tests true false true false a (lt-leb _ _ l) (lt-ltb _ _ l) d refl
 
     module _ (d : head-ok 12 img ≡ true) {p : Pair} {n : ℕ} where
       pub instant-21 : record { fit = false; pair = p; pages = n } ≡ look-up 12 img t
-          → record { number = 21; pair = none; pages = n } ≡ instant 12 t img
+          → record { status = 21; pair = none; pages = n } ≡ instant 12 t img
       unfolding answered first
       instant-21 e = by-tests true false true true a (lt-leb _ _ l) (lt-ltb _ _ l) d e
 
       pub instant-0 : record { fit = true; pair = p; pages = n } ≡ look-up 12 img t
-          → record { number = 0; pair = p; pages = n } ≡ instant 12 t img
+          → record { status = 0; pair = p; pages = n } ≡ instant 12 t img
       unfolding answered first
       instant-0 e = by-tests true false true true a (lt-leb _ _ l) (lt-ltb _ _ l) d e

@@ -10,14 +10,14 @@ use Rattle.fields.specs.Bytes.{Bytes, part, patch}
 use Rattle.fields.proofs.Laws.Parts.{patch-patch-next}
 use Rattle.fields.specs.Numbers.{u32-bytes, i32-bytes, i64-bytes}
 use Rattle.fields.proofs.Laws.Digits.{bytes-append}
-use Rattle.fields.proofs.Laws.Places.{u32, i32, i64}
+use Rattle.fields.proofs.Laws.Offsets.{u32, i32, i64}
 use Rattle.page.specs.declared.Entry.{Entry}
 use Rattle.page.specs.Entries.{no-entry}
-use Rattle.page.specs.Layout.{start-place, entry-place, start-at, pair-at, child-at, entry-at, entry-bytes}
+use Rattle.page.specs.Layout.{start-offset, entry-offset, start-at, pair-at, child-at, entry-at, entry-bytes}
 use Rattle.page.specs.Widths.{Entry-fits}
 use Rattle.page.proofs.Laws.Pieces.{part-pieces, part-inside}
 
--- the two pieces of an entry: its start, and its place in the array of entries
+-- the two pieces of an entry: its start, and its slot in the array of entries
 abbrev pub start-bytes : Entry → List ℕ
 start-bytes e = u32-bytes (e .start)
 
@@ -42,10 +42,10 @@ no-entry-fits = record { start = lit< tt; sum = record { sfits = lit< tt }; coun
 
 module _ (half : ℕ) (s : List ℕ) (i : ℕ) where
   -- where an entry's bytes stand, it is read
-  pub entry-at-bytes : (e : Entry) → part s (start-place i) 4 ≡ start-bytes e → part s (entry-place half i) 16 ≡ entry-bytes e → Entry-fits e → entry-at half s i ≡ e
+  pub entry-at-bytes : (e : Entry) → part s (start-offset i) 4 ≡ start-bytes e → part s (entry-offset half i) 16 ≡ entry-bytes e → Entry-fits e → entry-at half s i ≡ e
   unfolding entry-at start-at pair-at child-at entry-bytes
   entry-at-bytes e f g w =
-      let o : ℕ = entry-place half i in
+      let o : ℕ = entry-offset half i in
       let a : List ℕ = i64-bytes (e .pair .sum) in
       let b : List ℕ = i32-bytes (e .pair .count) in
       let c : List ℕ = u32-bytes (e .child) in
@@ -57,20 +57,20 @@ module _ (half : ℕ) (s : List ℕ) (i : ℕ) where
       let count : part s (o + 8) 4 ≡ b = part-inside s o 16 a b c 8 4 g la lb (omega arith) in
       let child : part s (o + 12) 4 ≡ c = part-inside s o 16 (a ++ b) c [] 12 4 k lab (u32 .length-bytes (e .child)) (omega arith) in
       λ j. record {
-        start = u32 .at-bytes s (start-place i) (e .start) f (w .start) j;
+        start = u32 .at-bytes s (start-offset i) (e .start) f (w .start) j;
         pair = record { sum = i64 .at-bytes s o (e .pair .sum) sum (w .sum) j; count = i32 .at-bytes s (o + 8) (e .pair .count) count (w .count) j };
         child = u32 .at-bytes s (o + 12) (e .child) child (w .child) j;
       }
 
   -- the bytes of the entry that is read are those that stand there
-  pub start-bytes-at : Bytes s → start-place i + 4 ≤ length s → start-bytes (entry-at half s i) ≡ part s (start-place i) 4
+  pub start-bytes-at : Bytes s → start-offset i + 4 ≤ length s → start-bytes (entry-at half s i) ≡ part s (start-offset i) 4
   unfolding entry-at start-at
-  start-bytes-at b h = u32 .bytes-at s (start-place i) b h
+  start-bytes-at b h = u32 .bytes-at s (start-offset i) b h
 
-  pub entry-bytes-at : Bytes s → entry-place half i + 16 ≤ length s → entry-bytes (entry-at half s i) ≡ part s (entry-place half i) 16
+  pub entry-bytes-at : Bytes s → entry-offset half i + 16 ≤ length s → entry-bytes (entry-at half s i) ≡ part s (entry-offset half i) 16
   unfolding entry-at pair-at child-at entry-bytes
   entry-bytes-at b h =
-      let o : ℕ = entry-place half i in
+      let o : ℕ = entry-offset half i in
       part-pieces s o 8 (o + 8) 8 refl (i64 .bytes-at s o b (omega arith))
       (part-pieces s (o + 8) 4 (o + 12) 4 (omega arith) (i32 .bytes-at s (o + 8) b (omega arith)) (u32 .bytes-at s (o + 12) b (omega arith)))
 

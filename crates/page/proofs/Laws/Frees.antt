@@ -10,7 +10,7 @@ use borrow.Author.Tests.{eqb-true, eq-eqb}
 use Rattle.fields.specs.Bytes.{Bytes, part, unused, all-are}
 use Rattle.fields.specs.Numbers.{u32-bytes}
 use Rattle.fields.proofs.Laws.Parts.{length-part, part-whole}
-use Rattle.fields.proofs.Laws.Places.{u32}
+use Rattle.fields.proofs.Laws.Offsets.{u32}
 use Rattle.fields.proofs.Laws.Tests.{length-unused, all-are-unused, unused-all-are}
 use Rattle.page.specs.Layout.{page-size, level-of, free-level, next-of, free-bytes, free-ok, never-used-ok}
 use Rattle.page.proofs.Laws.Pieces.{part-pieces, part-third}

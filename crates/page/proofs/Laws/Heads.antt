@@ -9,13 +9,13 @@ use Rattle.fields.specs.Bytes.{Bytes, part, unused, all-are}
 use Rattle.fields.specs.Numbers.{u32-at, u32-bytes}
 use Rattle.fields.proofs.Laws.Parts.{length-part, part-whole}
 use Rattle.fields.proofs.Laws.Digits.{bytes-append, bytes-unused}
-use Rattle.fields.proofs.Laws.Places.{u32}
+use Rattle.fields.proofs.Laws.Offsets.{u32}
 use Rattle.fields.proofs.Laws.Tests.{length-unused, all-are-unused, unused-all-are}
 use Rattle.page.specs.declared.Head.{Head}
 use Rattle.page.specs.Layout.{page-size, head-of, head-bytes}
-use Rattle.lists.specs.Lists.{listed, joined}
+use Rattle.lists.specs.Lists.{listed, concat-map}
 use Rattle.page.specs.Widths.{Head-fits}
-use Rattle.page.proofs.Laws.Joined.{bytes-joined, length-joined, part-joined, joined-parts}
+use Rattle.page.proofs.Laws.Concat.{bytes-joined, length-joined, part-joined, joined-parts}
 use Rattle.page.proofs.Laws.Pieces.{part-pieces, part-last}
 
 -- the head's numbers in their order
@@ -26,30 +26,30 @@ module _ (half : ℕ) (h : Head) where
   pub bytes-head : Bytes (head-bytes half h)
   unfolding head-bytes
   bytes-head =
-      bytes-append (joined u32-bytes (numbers h)) (unused (page-size half - 36)) (bytes-joined u32-bytes (u32 .bytes-bytes) (numbers h)) (bytes-unused (page-size half - 36))
+      bytes-append (concat-map u32-bytes (numbers h)) (unused (page-size half - 36)) (bytes-joined u32-bytes (u32 .bytes-bytes) (numbers h)) (bytes-unused (page-size half - 36))
 
   pub length-head : 0 < half → length (head-bytes half h) ≡ page-size half
   unfolding head-bytes
   length-head l =
-      let e : length (joined u32-bytes (numbers h)) ≡ 36 = length-joined u32-bytes 4 (u32 .length-bytes) (numbers h) in
+      let e : length (concat-map u32-bytes (numbers h)) ≡ 36 = length-joined u32-bytes 4 (u32 .length-bytes) (numbers h) in
       simp (length-append, length-unused) (omega arith)
 
   pub head-of-head : Head-fits h → head-of (head-bytes half h) ≡ h
   unfolding head-of
   head-of-head w = λ j. record {
-    pages = place 0 (omega arith) (w .pages) j;
-    height = place 1 (omega arith) (w .height) j;
-    root = place 2 (omega arith) (w .root) j;
-    free = place 3 (omega arith) (w .free) j;
-    chain = place 4 (omega arith) (w .chain) j;
-    mark = place 5 (omega arith) (w .mark) j;
-    kind = place 6 (omega arith) (w .kind) j;
-    window = place 7 (omega arith) (w .window) j;
-    changes = place 8 (omega arith) (w .changes) j;
+    pages = field-at 0 (omega arith) (w .pages) j;
+    height = field-at 1 (omega arith) (w .height) j;
+    root = field-at 2 (omega arith) (w .root) j;
+    free = field-at 3 (omega arith) (w .free) j;
+    chain = field-at 4 (omega arith) (w .chain) j;
+    mark = field-at 5 (omega arith) (w .mark) j;
+    kind = field-at 6 (omega arith) (w .kind) j;
+    window = field-at 7 (omega arith) (w .window) j;
+    changes = field-at 8 (omega arith) (w .changes) j;
   }
     where
-      place : (i : ℕ) → i < 9 → getD (numbers h) i 0 < 2 ^ 32 → u32-at (head-bytes half h) (4 * i) ≡ getD (numbers h) i 0
-      place i l w =
+      field-at : (i : ℕ) → i < 9 → getD (numbers h) i 0 < 2 ^ 32 → u32-at (head-bytes half h) (4 * i) ≡ getD (numbers h) i 0
+      field-at i l w =
           u32 .at-bytes (head-bytes half h) (4 * i) (getD (numbers h) i 0)
           (unfold head-bytes in part-joined u32-bytes 4 (u32 .length-bytes) (numbers h) (unused (page-size half - 36)) 0 i l) w
 
@@ -58,7 +58,7 @@ module _ (half : ℕ) (h : Head) where
   unfolding head-bytes
   head-rest =
       let m : ℕ = page-size half - 36 in
-      ap (all-are 255) (part-last (joined u32-bytes (numbers h)) (unused m) 36 m (length-joined u32-bytes 4 (u32 .length-bytes) (numbers h)) (length-unused m)) ∙ all-are-unused m
+      ap (all-are 255) (part-last (concat-map u32-bytes (numbers h)) (unused m) 36 m (length-joined u32-bytes 4 (u32 .length-bytes) (numbers h)) (length-unused m)) ∙ all-are-unused m
 
 pub head-of-fits : (s : List ℕ) → Bytes s → Head-fits (head-of s)
 unfolding head-of

@@ -1,5 +1,5 @@
 -- The laws of a tree page's bytes: what is read from them, that they are the page that was read, and that no byte is left over. A page is
--- taken as three pieces: the 32 bytes before the arrays, and the two arrays, each a run of places. Assumes nothing.
+-- taken as three pieces: the 32 bytes before the arrays, and the two arrays, each a run of slots. Assumes nothing.
 use mathlib.Core.Path.{_≡_, refl, sym, ap, _∙_}
 use mathlib.Core.Bool.{Bool, true, _&&_, and-eq-true-iff}
 use mathlib.Core.List.{List, [], _∷_, _++_, append-assoc}
@@ -11,15 +11,15 @@ use Rattle.fields.specs.Bytes.{Bytes, part, patch, unused, all-are}
 use Rattle.fields.specs.Numbers.{u32-bytes}
 use Rattle.fields.proofs.Laws.Parts.{length-part, part-whole, part-middle, part-append-left}
 use Rattle.fields.proofs.Laws.Digits.{bytes-append, bytes-unused}
-use Rattle.fields.proofs.Laws.Places.{u32}
+use Rattle.fields.proofs.Laws.Offsets.{u32}
 use Rattle.fields.proofs.Laws.Tests.{length-unused, unused-add, all-are-unused, unused-all-are}
 use Rattle.page.specs.declared.Entry.{Entry}
 use Rattle.page.specs.Entries.{at, no-entry}
-use Rattle.page.specs.Layout.{capacity, start-place, entry-place, page-size, level-of, number-of, entry-at, entries-of, unused-ok, entry-bytes, with-entry, tree-bytes}
+use Rattle.page.specs.Layout.{capacity, start-offset, entry-offset, page-size, level-of, entry-count, entry-at, entries-of, unused-ok, entry-bytes, with-entry, tree-bytes}
 use Rattle.lists.specs.Lists.{listed}
 use Rattle.page.specs.Widths.{Entry-fits, Entries-fit}
 use Rattle.lists.proofs.Listed.{length-listed, getD-listed, listed-more, listed-same, listed-getD}
-use Rattle.page.proofs.Laws.Joined.{run, run-none, bytes-run, length-run, part-run, part-run-past, run-parts, patch-run}
+use Rattle.page.proofs.Laws.Concat.{run, run-none, bytes-run, length-run, part-run, part-run-past, run-parts, patch-run}
 use Rattle.page.proofs.Laws.Pieces.{part-pieces, part-second, part-third, patch-second, patch-third}
 use Rattle.page.proofs.Laws.Entries.{start-bytes, length-start-bytes, bytes-start-bytes, length-entry-bytes, bytes-entry-bytes, entry-at-bytes, start-bytes-at, entry-bytes-at}
 
@@ -117,12 +117,12 @@ module _ (half level number : ℕ) (es : List Entry) where
         (part-entries (16 * i) 16 ∙ part-run entry-bytes 16 length-entry-bytes (capacity half) es no-entry i h)
         w
 
-    page-starts-past : part (page-bytes half level number es) (start-place (length es)) (4 * (capacity half - length es)) ≡ unused (4 * (capacity half - length es))
+    page-starts-past : part (page-bytes half level number es) (start-offset (length es)) (4 * (capacity half - length es)) ≡ unused (4 * (capacity half - length es))
     unfolding starts
     page-starts-past =
         part-starts (4 * length es) (4 * (capacity half - length es)) (omega arith) ∙ part-run-past start-bytes 4 length-start-bytes (capacity half) es
 
-    page-entries-past : part (page-bytes half level number es) (entry-place half (length es)) (16 * (capacity half - length es)) ≡ unused (16 * (capacity half - length es))
+    page-entries-past : part (page-bytes half level number es) (entry-offset half (length es)) (16 * (capacity half - length es)) ≡ unused (16 * (capacity half - length es))
     unfolding entries
     page-entries-past =
         part-entries (16 * length es) (16 * (capacity half - length es)) ∙ part-run-past entry-bytes 16 length-entry-bytes (capacity half) es
@@ -139,7 +139,7 @@ module _ (half level number : ℕ) (es : List Entry) where
       let ls : length (start-bytes e) ≡ 4 = length-start-bytes e in
       let f : patch (starts half es) (4 * n) (start-bytes e) ≡ starts half (es ++ (e ∷ [])) = patch-run start-bytes 4 length-start-bytes (capacity half) es e h in
       let lf : length (starts half (es ++ (e ∷ []))) ≡ 4 * capacity half = length-run start-bytes 4 length-start-bytes (capacity half) (es ++ (e ∷ [])) (one-more e h) in
-      ap (λ l. patch l (entry-place half n) (entry-bytes e))
+      ap (λ l. patch l (entry-offset half n) (entry-bytes e))
       (patch-second a (starts half es) (entries half es) 32 (4 * n) (start-bytes e) la (omega arith) ∙ ap (λ l. a ++ (l ++ entries half es)) f)
       ∙ patch-third a (starts half (es ++ (e ∷ []))) (entries half es) (32 + 4 * capacity half) (16 * n) (entry-bytes e) (λ j. la j + lf j)
       ∙ ap (λ l. a ++ (starts half (es ++ (e ∷ [])) ++ l)) (patch-run entry-bytes 16 length-entry-bytes (capacity half) es e h)
@@ -166,7 +166,7 @@ page-listed half level number f =
 -- what `unused-ok` tests of a page with n entries
 abbrev unused-from : ℕ → List ℕ → ℕ → Bool
 unused-from half s n =
-    all-are 255 (part s 8 24) && (all-are 255 (part s (start-place n) (4 * (capacity half - n))) && all-are 255 (part s (entry-place half n) (16 * (capacity half - n))))
+    all-are 255 (part s 8 24) && (all-are 255 (part s (start-offset n) (4 * (capacity half - n))) && all-are 255 (part s (entry-offset half n) (16 * (capacity half - n))))
 
 module _ (half level : ℕ) (es : List Entry) where
   pub bytes-tree : Bytes (tree-bytes half level es)
@@ -181,8 +181,8 @@ module _ (half level : ℕ) (es : List Entry) where
     level-of-tree w = u32 .at-bytes (tree-bytes half level es) 0 level (ap (λ s. part s 0 4) (tree-page half level es) ∙ page-level half level (length es) es within) w
 
     module _ (w : length es < 2 ^ 32) where
-      pub number-of-tree : number-of (tree-bytes half level es) ≡ length es
-      unfolding number-of
+      pub number-of-tree : entry-count (tree-bytes half level es) ≡ length es
+      unfolding entry-count
       number-of-tree = u32 .at-bytes (tree-bytes half level es) 4 (length es) (ap (λ s. part s 4 4) (tree-page half level es) ∙ page-number half level (length es) es within) w
 
       pub entry-at-tree : (i : ℕ) → i < length es → Entry-fits (at es i) → entry-at half (tree-bytes half level es) i ≡ at es i
@@ -209,42 +209,42 @@ module _ (half level : ℕ) (es : List Entry) where
 
 -- ---- a page's bytes
 
-pub length-entries-of : (half : ℕ) (s : List ℕ) → length (entries-of half s) ≡ min (number-of s) (capacity half)
+pub length-entries-of : (half : ℕ) (s : List ℕ) → length (entries-of half s) ≡ min (entry-count s) (capacity half)
 unfolding entries-of
-length-entries-of half s = length-listed (min (number-of s) (capacity half)) (λ i. entry-at half s i)
+length-entries-of half s = length-listed (min (entry-count s) (capacity half)) (λ i. entry-at half s i)
 
-pub at-entries-of : (half : ℕ) (s : List ℕ) (i : ℕ) → i < number-of s → i < capacity half → at (entries-of half s) i ≡ entry-at half s i
+pub at-entries-of : (half : ℕ) (s : List ℕ) (i : ℕ) → i < entry-count s → i < capacity half → at (entries-of half s) i ≡ entry-at half s i
 unfolding entries-of
-at-entries-of half s i g h = getD-listed (min (number-of s) (capacity half)) (λ j. entry-at half s j) no-entry i (omega arith)
+at-entries-of half s i g h = getD-listed (min (entry-count s) (capacity half)) (λ j. entry-at half s j) no-entry i (omega arith)
 
 -- what the test for unused bytes says of the parts that it looks at
 pub record Unused (half : ℕ) (s : List ℕ) (n : ℕ) : Type 0 where
   pub gap : part s 8 24 ≡ unused 24
-  pub starts-past : part s (start-place n) (4 * (capacity half - n)) ≡ unused (4 * (capacity half - n))
-  pub entries-past : part s (entry-place half n) (16 * (capacity half - n)) ≡ unused (16 * (capacity half - n))
+  pub starts-past : part s (start-offset n) (4 * (capacity half - n)) ≡ unused (4 * (capacity half - n))
+  pub entries-past : part s (entry-offset half n) (16 * (capacity half - n)) ≡ unused (16 * (capacity half - n))
 
-pub unused-ok-parts : (half : ℕ) (s : List ℕ) → length s ≡ page-size half → number-of s ≤ capacity half → unused-ok half s ≡ true → Unused half s (number-of s)
+pub unused-ok-parts : (half : ℕ) (s : List ℕ) → length s ≡ page-size half → entry-count s ≤ capacity half → unused-ok half s ≡ true → Unused half s (entry-count s)
 unfolding unused-ok
 unused-ok-parts half s l within ok =
-    let n : ℕ = number-of s in
+    let n : ℕ = entry-count s in
     let m : ℕ = capacity half - n in
     let g : Bool = all-are 255 (part s 8 24) in
-    let f : Bool = all-are 255 (part s (start-place n) (4 * m)) in
-    let e : Bool = all-are 255 (part s (entry-place half n) (16 * m)) in
+    let f : Bool = all-are 255 (part s (start-offset n) (4 * m)) in
+    let e : Bool = all-are 255 (part s (entry-offset half n) (16 * m)) in
     let x : (g ≡ true) × (f && e ≡ true) = and-eq-true-iff g (f && e) .0 ok in
     let y : (f ≡ true) × (e ≡ true) = and-eq-true-iff f e .0 (x .1) in
     record {
       gap = unused-all-are 24 (part s 8 24) (length-part s 8 24 (omega arith)) (x .0);
-      starts-past = unused-all-are (4 * m) (part s (start-place n) (4 * m)) (length-part s (start-place n) (4 * m) (omega arith)) (y .0);
-      entries-past = unused-all-are (16 * m) (part s (entry-place half n) (16 * m)) (length-part s (entry-place half n) (16 * m) (omega arith)) (y .1);
+      starts-past = unused-all-are (4 * m) (part s (start-offset n) (4 * m)) (length-part s (start-offset n) (4 * m) (omega arith)) (y .0);
+      entries-past = unused-all-are (16 * m) (part s (entry-offset half n) (16 * m)) (length-part s (entry-offset half n) (16 * m) (omega arith)) (y .1);
     }
 
 -- a page that is read and written again is as it was
-pub tree-again : (half : ℕ) (s : List ℕ) → length s ≡ page-size half → Bytes s → number-of s ≤ capacity half → unused-ok half s ≡ true
+pub tree-again : (half : ℕ) (s : List ℕ) → length s ≡ page-size half → Bytes s → entry-count s ≤ capacity half → unused-ok half s ≡ true
     → tree-bytes half (level-of s) (entries-of half s) ≡ s
-unfolding page-bytes starts entries entries-of level-of number-of
+unfolding page-bytes starts entries entries-of level-of entry-count
 tree-again half s l b within ok =
-    let n : ℕ = number-of s in
+    let n : ℕ = entry-count s in
     let room : ℕ = capacity half in
     let x : ℕ → Entry = λ i. entry-at half s i in
     let u : Unused half s n = unused-ok-parts half s l within ok in

@@ -11,10 +11,10 @@ use Rattle.fields.proofs.Laws.Parts.{patch-none, patch-patch-next, set-patch, l
 use Rattle.print.specs.Written.{Put}
 
 pub put-none : (s : List ℕ) (at : ℕ) → at ≤ length s → Put s at [] s at
-put-none s at h = record { room = omega arith; written = sym (patch-none s at); place = omega arith }
+put-none s at h = record { room = omega arith; written = sym (patch-none s at); offset = omega arith }
 
 pub put-one : (s : List ℕ) (at b : ℕ) → at < length s → Put s at (b ∷ []) (set s at b) (at + 1)
-put-one s at b h = record { room = omega arith; written = set-patch s at b h; place = refl }
+put-one s at b h = record { room = omega arith; written = set-patch s at b h; offset = refl }
 
 pub put-length : {s t xs : List ℕ} {at p : ℕ} → Put s at xs t p → length t ≡ length s
 put-length {s} {t} {xs} {at} f = ap length (f .written) ∙ length-patch s at xs (f .room)
@@ -24,20 +24,20 @@ pub put-then : {s t u xs ys : List ℕ} {at p q : ℕ} → Put s at xs t p → P
 put-then {s} {t} {u} {xs} {ys} {at} {p} {q} f g =
     let l : length (xs ++ ys) ≡ length xs + length ys = length-append xs ys in
     record {
-      room = omega (arith, f .place, g .room, put-length f);
-      written = g .written ∙ ap (λ r. patch r p ys) (f .written) ∙ patch-patch-next s at xs ys p (sym (f .place)) (omega (arith, f .room));
-      place = omega (arith, f .place, g .place);
+      room = omega (arith, f .offset, g .room, put-length f);
+      written = g .written ∙ ap (λ r. patch r p ys) (f .written) ∙ patch-patch-next s at xs ys p (sym (f .offset)) (omega (arith, f .room));
+      offset = omega (arith, f .offset, g .offset);
     }
 
 -- what was printed, by another name
 pub put-as : {s t xs ys : List ℕ} {at p : ℕ} → xs ≡ ys → Put s at xs t p → Put s at ys t p
 put-as {s} {t} {xs} {ys} {at} {p} e f =
     let l : length xs ≡ length ys = ap length e in
-    record { room = omega (arith, f .room); written = f .written ∙ ap (patch s at) e; place = omega (arith, f .place) }
+    record { room = omega (arith, f .room); written = f .written ∙ ap (patch s at) e; offset = omega (arith, f .offset) }
 
 -- what is left where at most k bytes of k + m were printed
 pub put-room : {s t xs : List ℕ} {at p : ℕ} (k m : ℕ) → Put s at xs t p → length xs ≤ k → at + (k + m) ≤ length s → p + m ≤ length t
-put-room k m f h l = omega (arith, f .place, put-length f)
+put-room k m f h l = omega (arith, f .offset, put-length f)
 
 -- ---- a text, byte by byte: the loop's invariant
 
@@ -48,7 +48,7 @@ pub record Copied (s : List ℕ) (at : ℕ) (text : List ℕ) (i : ℕ) (now : L
 pub copied-none : (s : List ℕ) (at : ℕ) (text : List ℕ) → at + length text ≤ length s → Copied s at text 0 s
 copied-none s at text h =
     let f : Put s at [] s at = put-none s at (omega arith) in
-    record { within = omega arith; put = record { room = f .room; written = f .written; place = refl } }
+    record { within = omega arith; put = record { room = f .room; written = f .written; offset = refl } }
 
 pub copied-more : {s : List ℕ} {at : ℕ} {text : List ℕ} {i : ℕ} {now : List ℕ} → at + length text ≤ length s → i < length text
     → Copied s at text i now → Copied s at text (i + 1) (set now (at + i) (getD text i 0))
@@ -57,7 +57,7 @@ copied-more {s} {at} {text} {i} {now} h l f =
     let e : take i text ++ (getD text i 0 ∷ []) ≡ take (i + 1) text = sym (ap (λ k. take k text) (add-one i) ∙ take-suc text i 0 l) in
     let q : Put s at (take (i + 1) text) (set now (at + i) (getD text i 0)) (at + i + 1) =
     put-as e (put-then (f .put) (put-one now (at + i) (getD text i 0) p)) in
-    record { within = omega arith; put = record { room = q .room; written = q .written; place = omega (arith, q .place) } }
+    record { within = omega arith; put = record { room = q .room; written = q .written; offset = omega (arith, q .offset) } }
 
 pub copied-all : {s : List ℕ} {at : ℕ} {text : List ℕ} {i : ℕ} {now : List ℕ} → length text ≤ i
     → Copied s at text i now → Put s at text now (at + i)

@@ -11,14 +11,14 @@ use Rattle.rule.specs.Time.{span-ok}
 use Rattle.image.specs.Images.{length-ok}
 use Rattle.image.specs.Listing.{walk-over}
 use Rattle.calls.specs.Refusals.{first}
-use Rattle.calls.specs.Calls.{Listed, head-ok, runs-over, too-short, listing-number, listing}
+use Rattle.calls.specs.Calls.{Listed, head-ok, runs-over, too-short, listing-status, listing}
 use Rattle.calls.specs.Program.{decimal, runs-text}
 use Rattle.print.specs.Written.{runs-line}
 use Rattle.print.proofs.Laws.Numbers.{length-decimal}
 use Rattle.luwhenoka.specs.declared.ListingAnswer.{ListingAnswer}
 use Rattle.luwhenoka.specs.Answers.{listed}
 use Rattle.program.specs.Listed.{runs-at}
-use Rattle.program.specs.Going.{listed-text}
+use Rattle.program.specs.State.{listed-text}
 
 pub length-runs-line : (n : ℕ) → length (runs-line n) ≤ 26
 unfolding runs-line
@@ -36,7 +36,7 @@ has-room false false false false runs size e = ltb-false size (16 * runs) (sym e
 
 module _ (a b : ℕ) (img out : List ℕ) (r : ListingAnswer) (after : List ℕ) (e : listed r after ≡ listing 12 a b img out) where
   pub listed-room : 16 * r .runs ≤ length out
-  unfolding listed listing listing-number too-short
+  unfolding listed listing listing-status too-short
   listed-room =
       let runs = length (runs-over 12 a b img) in
       omega (

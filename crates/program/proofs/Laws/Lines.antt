@@ -18,7 +18,7 @@ use Rattle.text.specs.Reading.{line-of}
 use Rattle.print.specs.Written.{Put}
 use Rattle.print.proofs.Laws.Puts.{put-as, put-none}
 use Rattle.print.proofs.Laws.Numbers.{length-decimal}
-use Rattle.program.specs.Shows.{Does}
+use Rattle.program.specs.Simulation.{Does}
 
 length-refused : (k n : ℕ) → length (refused-text k n) ≤ 55
 unfolding refused-text
@@ -48,20 +48,20 @@ does-as e d =
 
 -- what a booking does, from what the call returned
 ran-of : ℕ → Booked → Ran
-ran-of k r = record { written = cond (eqb (r .number) 0) [] (refused-text k (r .number)); image = r .image }
+ran-of k r = record { written = cond (eqb (r .status) 0) [] (refused-text k (r .status)); image = r .image }
 
 module _ (k : ℕ) (side : Side) (v : ℤ) (s e : ℕ) (img : List ℕ) {n : ℕ} {left scratch : List ℕ}
-    (b : record { number = n; image = left; scratch = scratch } ≡ book 12 side v s e img (replicate 64 0)) where
-  ran-booking : ran-of k (record { number = n; image = left; scratch = scratch }) ≡ ran-line 12 64 k (booking side v s e) img
+    (b : record { status = n; image = left; scratch = scratch } ≡ book 12 side v s e img (replicate 64 0)) where
+  ran-booking : ran-of k (record { status = n; image = left; scratch = scratch }) ≡ ran-line 12 64 k (booking side v s e) img
   unfolding ran-of ran-line
   ran-booking = ap (ran-of k) b
 
-  silent : n ≡ 0 → record { written = []; image = left } ≡ ran-of k (record { number = n; image = left; scratch = scratch })
+  silent : n ≡ 0 → record { written = []; image = left } ≡ ran-of k (record { status = n; image = left; scratch = scratch })
   unfolding ran-of
   silent z = ap (λ t. record { written = cond t [] (refused-text k n); image = left }) (sym (eq-eqb n 0 z))
 
   told : (n ≡ 0 → ⊥)
-      → record { written = refused-text k n; image = left } ≡ ran-of k (record { number = n; image = left; scratch = scratch })
+      → record { written = refused-text k n; image = left } ≡ ran-of k (record { status = n; image = left; scratch = scratch })
   unfolding ran-of
   told z = ap (λ t. record { written = cond t [] (refused-text k n); image = left }) (sym (ne-eqb n 0 z))
 
@@ -72,7 +72,7 @@ module _ (k : ℕ) (side : Side) (v : ℤ) (s e : ℕ) (img : List ℕ) {n : ℕ
   pub does-refused : (n ≡ 0 → ⊥) → {out after : List ℕ} {at next : ℕ} → Put out at (refused-text k n) after next
       → Does (ran-line 12 64 k (booking side v s e) img) left out at after next
   does-refused z p =
-      does-as (told z ∙ ran-booking) (record { image = λ j. left; printed = p; few = omega (arith, p .place, length-refused k n) })
+      does-as (told z ∙ ran-booking) (record { image = λ j. left; printed = p; few = omega (arith, p .offset, length-refused k n) })
 
 -- ---- a line by its case
 
@@ -93,4 +93,4 @@ line-unread p = ap line-of (sym p)
 pub does-unread : (k : ℕ) {img out after : List ℕ} {at next : ℕ} → Put out at (unread-text k) after next
     → Does (ran-line 12 64 k unread img) img out at after next
 unfolding ran-line
-does-unread k {img} p = record { image = λ j. img; printed = p; few = omega (arith, p .place, length-unread k) }
+does-unread k {img} p = record { image = λ j. img; printed = p; few = omega (arith, p .offset, length-unread k) }

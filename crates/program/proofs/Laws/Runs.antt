@@ -93,7 +93,7 @@ printing-more {had} {at} {s} {n} {i} {out} {out′} {next} {next′} so h p =
           ∙ ap (λ l. so .done ++ l) (sym (runs-first s i m))
           ∙ ap (λ k. so .done ++ runs-text (runs-at s i k)) e
           ∙ so .rest;
-      room = omega (arith, so .room, p .place, put-length p, length-run (run-at s i) (end-before s i m));
+      room = omega (arith, so .room, p .offset, put-length p, length-run (run-at s i) (end-before s i m));
     }
 
 pub printing-all : {had : List ℕ} {at : ℕ} {s : List ℕ} {n i : ℕ} {out : List ℕ} {next : ℕ} → Printing had at s n i out next → n ≤ i

@@ -12,7 +12,7 @@ use Rattle.promises.proofs.instant.Tie as tie
 returns : tie.Need-returns
 unfolding instant-answer
 returns c =
-    let p = ap {B = Instant} (λ (r : InstantAnswer). record { number = r .number; pair = pair-of r; pages = r .pages }) (c .luw-instant .ensures) in
+    let p = ap {B = Instant} (λ (r : InstantAnswer). record { status = r .status; pair = pair-of r; pages = r .pages }) (c .luw-instant .ensures) in
     (p, (kept, instant-as _ _ _ p))
 
 pub instant-spec : {M : Type 1} → statement M

@@ -10,9 +10,9 @@ use borrow.Author.Tests.{lt-ltb}
 use Rattle.rule.specs.Pairs.{same-pair}
 use Rattle.fields.specs.Bytes.{patch}
 use Rattle.fields.proofs.Laws.Parts.{length-patch, patch-none, patch-patch-next}
-use Rattle.lists.specs.Lists.{joined}
-use Rattle.lists.proofs.Joined.{joined-append, joined-one}
-use Rattle.page.proofs.Laws.Joined.{length-joined}
+use Rattle.lists.specs.Lists.{concat-map}
+use Rattle.lists.proofs.Concat.{concat-map-append, concat-map-one}
+use Rattle.page.proofs.Laws.Concat.{length-joined}
 use Rattle.image.specs.Listing as image
 use Rattle.image.specs.Listing.{run-bytes, join-after, join}
 use Rattle.runs.specs.declared.Run.{Run}
@@ -54,15 +54,15 @@ written-step r x =
     (λ e. rw (e, stepped-on r x e) (omega arith))
     (λ e. rw (e, stepped-new r x e) (omega arith))
 
-output-step : (r : Run) (x : image.Run) (out : List ℕ) → output-after r x out ≡ patch out (16 * r .written) (joined run-bytes (begun-at r x))
-unfolding begun-at joined
+output-step : (r : Run) (x : image.Run) (out : List ℕ) → output-after r x out ≡ patch out (16 * r .written) (concat-map run-bytes (begun-at r x))
+unfolding begun-at concat-map
 output-step r x out =
     test (goes-on r x)
     (λ e. rw (e, output-on r x out e) (sym (patch-none out (16 * r .written))))
-    (λ e. rw (e, output-new r x out e) (ap (patch out (16 * r .written)) (sym (joined-one run-bytes x))))
+    (λ e. rw (e, output-new r x out e) (ap (patch out (16 * r .written)) (sym (concat-map-one run-bytes x))))
 
 -- "16 bytes each", one behind the other
-pub length-runs-bytes : (xs : List image.Run) → length (joined run-bytes xs) ≡ 16 * length xs
+pub length-runs-bytes : (xs : List image.Run) → length (concat-map run-bytes xs) ≡ 16 * length xs
 length-runs-bytes xs = length-joined run-bytes 16 length-run-bytes xs
 
 -- from any open run: each run that begins is counted, and is written behind those before it
@@ -73,8 +73,8 @@ written-begun r (x ∷ xs) =
     omega (arith, written-begun (stepped r x) xs, written-step r x, length-append (begun-at r x) (begun (stepped r x) xs))
 
 pub output-begun : (r : Run) (xs : List image.Run) (out : List ℕ) → 16 * (r .written + length (begun r xs)) ≤ length out
-    → output-after-all r xs out ≡ patch out (16 * r .written) (joined run-bytes (begun r xs))
-unfolding output-after-all begun joined
+    → output-after-all r xs out ≡ patch out (16 * r .written) (concat-map run-bytes (begun r xs))
+unfolding output-after-all begun concat-map
 output-begun r [] out h = sym (patch-none out (16 * r .written))
 output-begun r (x ∷ xs) out h =
     let n : ℕ = r .written in
@@ -82,13 +82,13 @@ output-begun r (x ∷ xs) out h =
     let rest : List image.Run = begun (stepped r x) xs in
     let l : length (one ++ rest) ≡ length one + length rest = length-append one rest in
     let w : stepped r x .written ≡ n + length one = written-step r x in
-    let b : length (joined run-bytes one) ≡ 16 * length one = length-runs-bytes one in
-    let e : output-after r x out ≡ patch out (16 * n) (joined run-bytes one) = output-step r x out in
-    let k : length (output-after r x out) ≡ length out = ap length e ∙ length-patch out (16 * n) (joined run-bytes one) (omega arith) in
+    let b : length (concat-map run-bytes one) ≡ 16 * length one = length-runs-bytes one in
+    let e : output-after r x out ≡ patch out (16 * n) (concat-map run-bytes one) = output-step r x out in
+    let k : length (output-after r x out) ≡ length out = ap length e ∙ length-patch out (16 * n) (concat-map run-bytes one) (omega arith) in
     output-begun (stepped r x) xs (output-after r x out) (omega arith)
-    ∙ ap (λ s. patch s (16 * stepped r x .written) (joined run-bytes rest)) e
-    ∙ patch-patch-next out (16 * n) (joined run-bytes one) (joined run-bytes rest) (16 * stepped r x .written) (omega arith) (omega arith)
-    ∙ ap (patch out (16 * n)) (sym (joined-append run-bytes one rest))
+    ∙ ap (λ s. patch s (16 * stepped r x .written) (concat-map run-bytes rest)) e
+    ∙ patch-patch-next out (16 * n) (concat-map run-bytes one) (concat-map run-bytes rest) (16 * stepped r x .written) (omega arith) (omega arith)
+    ∙ ap (patch out (16 * n)) (sym (concat-map-append run-bytes one rest))
 
 -- ---- those runs are the joined ones
 
@@ -117,10 +117,10 @@ begun-first (x ∷ xs) = ap (λ l. x ∷ l) (begun-open (record { start = x .sta
 pub written-join : (xs : List image.Run) → stepped-all no-run xs .written ≡ length (join xs)
 written-join xs = omega (arith, written-begun no-run xs, ap length (begun-first xs))
 
-pub output-join : (xs : List image.Run) (out : List ℕ) → 16 * length (join xs) ≤ length out → output-after-all no-run xs out ≡ patch out 0 (joined run-bytes (join xs))
+pub output-join : (xs : List image.Run) (out : List ℕ) → 16 * length (join xs) ≤ length out → output-after-all no-run xs out ≡ patch out 0 (concat-map run-bytes (join xs))
 output-join xs out room =
     let e : begun no-run xs ≡ join xs = begun-first xs in
-    output-begun no-run xs out (omega (arith, ap length e)) ∙ ap (λ l. patch out 0 (joined run-bytes l)) e
+    output-begun no-run xs out (omega (arith, ap length e)) ∙ ap (λ l. patch out 0 (concat-map run-bytes l)) e
 
 -- ---- how many runs there are, and the room for them
 
@@ -149,4 +149,4 @@ pub length-output : (r : Run) (xs : List image.Run) (out : List ℕ) → 16 * st
 length-output r xs out h =
     let w = written-begun r xs in
     let b = length-runs-bytes (begun r xs) in
-    ap length (output-begun r xs out (omega arith)) ∙ length-patch out (16 * r .written) (joined run-bytes (begun r xs)) (omega arith)
+    ap length (output-begun r xs out (omega arith)) ∙ length-patch out (16 * r .written) (concat-map run-bytes (begun r xs)) (omega arith)

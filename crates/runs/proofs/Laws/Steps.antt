@@ -9,7 +9,7 @@ use lib.ListN.{length, length-append}
 use Rattle.fields.specs.Bytes.{patch}
 use Rattle.fields.specs.Numbers.{u32-bytes, i32-bytes, i64-bytes}
 use Rattle.fields.proofs.Laws.Parts.{patch-patch-next}
-use Rattle.fields.proofs.Laws.Places.{u32, i32, i64}
+use Rattle.fields.proofs.Laws.Offsets.{u32, i32, i64}
 use Rattle.image.specs.Listing as image
 use Rattle.image.specs.Listing.{run-bytes}
 use Rattle.runs.specs.declared.Run.{Run}

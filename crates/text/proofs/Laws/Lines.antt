@@ -135,19 +135,19 @@ sign-minus c v s e l h = sign-tests c v s e l (ne-eqb (getD c 0 0) 43 (λ f. ome
 pub sign-other : (c v s e : List ℕ) → length c ≡ 1 → (getD c 0 0 ≡ 43 → ⊥) → (getD c 0 0 ≡ 45 → ⊥) → signed-line c v s e ≡ unread
 sign-other c v s e l f g = sign-tests c v s e l (ne-eqb (getD c 0 0) 43 f) (ne-eqb (getD c 0 0) 45 g)
 
--- ---- the fields of a line, by the places of its spaces
+-- ---- the fields of a line, by the offsets of its spaces
 
-module _ (s : List ℕ) {b from place : ℕ} (f : Found s b from place) (l : from ≤ length s) where
-  pub field-there : place < length s → cut-at b (drop from s) ≡ midOf from (place - from) s ∷ cut-at b (drop (place + 1) s)
+module _ (s : List ℕ) {b from offset : ℕ} (f : Found s b from offset) (l : from ≤ length s) where
+  pub field-there : offset < length s → cut-at b (drop from s) ≡ midOf from (offset - from) s ∷ cut-at b (drop (offset + 1) s)
   field-there h =
       let n : ℕ = ahead b (drop from s) in
-      let d : place - from ≡ n = omega (arith, f .there) in
-      let e : from + suc n ≡ place + 1 = omega (arith, f .there) in
+      let d : offset - from ≡ n = omega (arith, f .there) in
+      let e : from + suc n ≡ offset + 1 = omega (arith, f .there) in
       let k : n < length (drop from s) = simp length-drop (omega (arith, f .there)) in
       cut-there b (drop from s) k
       ∙ ap₂ (λ i r. take i (drop from s) ∷ cut-at b r) (sym d) (drop-drop (suc n) from s ∙ ap (λ i. drop i s) e)
 
-  pub field-last : length s ≤ place → cut-at b (drop from s) ≡ drop from s ∷ []
+  pub field-last : length s ≤ offset → cut-at b (drop from s) ≡ drop from s ∷ []
   field-last h =
       let k : length (drop from s) ≤ ahead b (drop from s) = simp length-drop (omega (arith, f .there)) in
       cut-whole b (drop from s) k

@@ -6,12 +6,12 @@ use lib.Dec.{eqb, ltb}
 use lib.ListN.{length, getD}
 use Rattle.lists.proofs.Choices.{either}
 use Rattle.rule.specs.declared.Pair.{Pair}
-use Rattle.page.specs.Entries.{place}
-use Rattle.steps.specs.Heal.{neighbour}
-use Rattle.tree.specs.Tree.{Kid, Ents, no-ent, bare}
+use Rattle.page.specs.Entries.{index-of}
+use Rattle.steps.specs.Heal.{sibling}
+use Rattle.tree.specs.Tree.{Subtree, Nodes, no-node, flat}
 use Rattle.tree.specs.Supply.{Supply, with-page}
 use Rattle.tree.specs.Cut.{State}
-use Rattle.tree.specs.Heal.{Healing, turn, heal-ents, shrunk, heal}
+use Rattle.tree.specs.Heal.{Healing, rebalance, heal-nodes, collapse-if-single, heal}
 
 -- T is S with pages given back
 pub record Gave (S T : Supply) : Type 0 where
@@ -24,25 +24,25 @@ unfolding with-page
 gave-page p g = record { given = p ∷ g .given; chain = ap (λ ps. p ∷ ps) (g .chain); mark = g .mark }
 
 module _ (half : ℕ) (_⊕_ : Pair → Pair → Pair) where
-  turn-gave : {R : Supply} (l i : ℕ) (es : Ents (suc l)) (S : Supply) → Gave R S → Gave R (turn half _⊕_ l i es S .supply)
-  unfolding turn
-  turn-gave {R} l i es S g =
-      either (λ (H : Healing (Kid (suc l))). Gave R (H .supply)) g (gave-page _ g) (ltb half (length (getD es (neighbour i) (no-ent (suc l)) .kid)))
+  rebalance-gave : {R : Supply} (l i : ℕ) (es : Nodes (suc l)) (S : Supply) → Gave R S → Gave R (rebalance half _⊕_ l i es S .supply)
+  unfolding rebalance
+  rebalance-gave {R} l i es S g =
+      either (λ (H : Healing (Subtree (suc l))). Gave R (H .supply)) g (gave-page _ g) (ltb half (length (getD es (sibling i) (no-node (suc l)) .subtree)))
 
-  ents-gave : (t l : ℕ) (es : Ents l) (S : Supply) → Gave S (heal-ents half _⊕_ t l es S .supply)
-  unfolding heal-ents
-  ents-gave t zero es S = record { given = []; chain = refl; mark = refl }
-  ents-gave t (suc l) es S =
-      let x = getD es (place t (bare es)) (no-ent (suc l)) in
-      let g = ents-gave t l (x .kid) S in
-      either (λ (H : Healing (Kid (suc l))). Gave S (H .supply)) (turn-gave l (place t (bare es)) _ _ g) g (ltb (length (heal-ents half _⊕_ t l (x .kid) S .ents)) half)
+  nodes-gave : (t l : ℕ) (es : Nodes l) (S : Supply) → Gave S (heal-nodes half _⊕_ t l es S .supply)
+  unfolding heal-nodes
+  nodes-gave t zero es S = record { given = []; chain = refl; mark = refl }
+  nodes-gave t (suc l) es S =
+      let x = getD es (index-of t (flat es)) (no-node (suc l)) in
+      let g = nodes-gave t l (x .subtree) S in
+      either (λ (H : Healing (Subtree (suc l))). Gave S (H .supply)) (rebalance-gave l (index-of t (flat es)) _ _ g) g (ltb (length (heal-nodes half _⊕_ t l (x .subtree) S .nodes)) half)
 
-  shrunk-gave : {R : Supply} (l root : ℕ) (es : Ents l) (S : Supply) → Gave R S → Gave R (shrunk half _⊕_ l root es S .supply)
-  unfolding shrunk
-  shrunk-gave zero root es S g = g
-  shrunk-gave {R} (suc l) root es S g = either (λ (Z : State). Gave R (Z .supply)) (gave-page root g) g (eqb (length es) 1)
+  collapsed-gave : {R : Supply} (l root : ℕ) (es : Nodes l) (S : Supply) → Gave R S → Gave R (collapse-if-single half _⊕_ l root es S .supply)
+  unfolding collapse-if-single
+  collapsed-gave zero root es S g = g
+  collapsed-gave {R} (suc l) root es S g = either (λ (Z : State). Gave R (Z .supply)) (gave-page root g) g (eqb (length es) 1)
 
 pub heal-gives : (half : ℕ) (_⊕_ : Pair → Pair → Pair) (t : ℕ) (Y : State) → Gave (Y .supply) (heal half _⊕_ t Y .supply)
 unfolding heal
 heal-gives half _⊕_ t Y =
-    shrunk-gave half _⊕_ (Y .tree .level) (Y .tree .root) _ _ (ents-gave half _⊕_ t (Y .tree .level) (Y .tree .ents) (Y .supply))
+    collapsed-gave half _⊕_ (Y .tree .level) (Y .tree .root) _ _ (nodes-gave half _⊕_ t (Y .tree .level) (Y .tree .nodes) (Y .supply))

@@ -8,24 +8,24 @@ use native.Mathlib.Nat.{mul-le-mul-left, mul-le-mul-right}
 use lib.Dec.{leb}
 use lib.ListN.{length, length-append}
 use borrow.Author.Tests.{leb-true, leb-false}
-use Rattle.lists.specs.Lists.{joined, times}
+use Rattle.lists.specs.Lists.{concat-map, times}
 use Rattle.lists.proofs.Times.{times-append, Within, short-of-once}
-use Rattle.tree.specs.Tree.{Ent, Kid, Tree, pages-under}
+use Rattle.tree.specs.Tree.{Node, Subtree, Tree, pages-under}
 use Rattle.tree.specs.Cut.{State}
 use Rattle.tree.specs.Shape.{Asked, Seg, done, more, Shaped, Formed, root-least}
-use Rattle.tree.specs.Held.{times-below, times-spare, held}
+use Rattle.tree.specs.Conserved.{times-below, times-spare, held}
 use Rattle.tree.specs.Counts.{pages-of, least-under}
 
 -- m at the least for each
-seg-long : {A : Type 0} {Q : Asked A} {lo hi : ℕ} {es : List (Ent A)} (m : ℕ) (f : Ent A → List ℕ)
-    → ((a b : ℕ) (x : Ent A) → Q a b x → m ≤ length (f x))
+seg-long : {A : Type 0} {Q : Asked A} {lo hi : ℕ} {es : List (Node A)} (m : ℕ) (f : Node A → List ℕ)
+    → ((a b : ℕ) (x : Node A) → Q a b x → m ≤ length (f x))
     → Seg Q lo hi es
-    → length es * m ≤ length (joined f es)
-unfolding joined
+    → length es * m ≤ length (concat-map f es)
+unfolding concat-map
 seg-long m f h done = omega arith
-seg-long m f h (more {lo} {mid} {x = x} {es = es} e lt q r) = omega (arith, length-append (f x) (joined f es), h lo mid x q, seg-long m f h r)
+seg-long m f h (more {lo} {mid} {x = x} {es = es} e lt q r) = omega (arith, length-append (f x) (concat-map f es), h lo mid x q, seg-long m f h r)
 
-under-least : (half : ℕ) (B : Asked (Kid 0)) (l a b : ℕ) (x : Ent (Kid l)) → Shaped half B l a b x → least-under half l ≤ length (pages-under l x)
+under-least : (half : ℕ) (B : Asked (Subtree 0)) (l a b : ℕ) (x : Node (Subtree l)) → Shaped half B l a b x → least-under half l ≤ length (pages-under l x)
 unfolding least-under pages-under Shaped
 under-least half B zero a b x q = omega arith
 under-least half B (suc l) a b x q =
@@ -35,7 +35,7 @@ under-least half B (suc l) a b x q =
       seg-long (least-under half l) (λ y. pages-under l y) (λ c d y. under-least half B l c d y) (q .1),
     )
 
-pages-least : {half : ℕ} {B : Asked (Kid 0)} (T : Tree) → Formed half B T → suc (root-least (T .level) * least-under half (T .level)) ≤ length (pages-of T)
+pages-least : {half : ℕ} {B : Asked (Subtree 0)} (T : Tree) → Formed half B T → suc (root-least (T .level) * least-under half (T .level)) ≤ length (pages-of T)
 unfolding pages-of
 pages-least {half} {B} T F =
     let l = T .level in
@@ -58,7 +58,7 @@ inner-least half zero h = absurd (omega arith)
 inner-least half (suc l) h = refl
 
 -- the pages of two entries of a root above level m
-level-most : {half : ℕ} {B : Asked (Kid 0)} (m : ℕ) (T : Tree) → Formed half B T → length (pages-of T) ≤ 2 * least-under half (suc m) → T .level ≤ m
+level-most : {half : ℕ} {B : Asked (Subtree 0)} (m : ℕ) (T : Tree) → Formed half B T → length (pages-of T) ≤ 2 * least-under half (suc m) → T .level ≤ m
 level-most {half} m T F h = go (leb (T .level) m) refl
   where
     go : (b : Bool) → leb (T .level) m ≡ b → T .level ≤ m
@@ -96,12 +96,12 @@ module _ (Y : State) (once : (p : ℕ) → held p Y ≤ 1) (head-apart : held 0 
         short-of-once (Y .supply .mark - 1) (all-pages Y) all-within (λ p. omega (arith, once p, held-all p Y)),
       )
 
-level-once : {half : ℕ} {B : Asked (Kid 0)} (m : ℕ) (Y : State) → Formed half B (Y .tree) → ((p : ℕ) → held p Y ≤ 1) → held 0 Y ≡ 0
+level-once : {half : ℕ} {B : Asked (Subtree 0)} (m : ℕ) (Y : State) → Formed half B (Y .tree) → ((p : ℕ) → held p Y ≤ 1) → held 0 Y ≡ 0
     → Y .supply .mark ≤ suc (2 * least-under half (suc m)) → Y .tree .level ≤ m
 level-once m Y F once apart h = level-most m (Y .tree) F (omega (arith, pages-below-mark Y once apart))
 
 -- with 12 entries at the least a root of level 4 has 3,770 pages below it: the height is 4 at the most
-pub level-once-12 : {B : Asked (Kid 0)} (Y : State) → Formed 12 B (Y .tree) → ((p : ℕ) → held p Y ≤ 1) → held 0 Y ≡ 0
+pub level-once-12 : {B : Asked (Subtree 0)} (Y : State) → Formed 12 B (Y .tree) → ((p : ℕ) → held p Y ≤ 1) → held 0 Y ≡ 0
     → Y .supply .mark ≤ 1024 → Y .tree .level ≤ 3
 unfolding least-under
 level-once-12 Y F once apart h = level-once 3 Y F once apart (omega arith)

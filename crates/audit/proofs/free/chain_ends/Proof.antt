@@ -7,8 +7,8 @@ use lib.ListN.{length}
 use borrow.Author.Tests.{not-true, not-false}
 use Rattle.page.specs.Layout.{next-of}
 use Rattle.soundness.specs.Counting.{chain-ends}
-use Rattle.lent.specs.Opened.{Within}
-use Rattle.lent.proofs.Laws.{page-length}
+use Rattle.access.specs.Access.{Page-in}
+use Rattle.access.proofs.Laws.{page-length}
 use Rattle.audit.specs.Walks.{leads-to-free}
 use Rattle.audit.proofs.Bytes.{pages-are, free-within}
 use Rattle.audit.proofs.Chain.{chain-none, chain-on, chain-stops}
@@ -24,7 +24,7 @@ abbrev μ-loop : tie.MeasureT-loop
 leads : (c : tie.Else1 Inv-loop μ-loop) → leads-to-free 12 (c .before .before .before .before .before .args .img .now) (c .before .before .before .before .before .args .n) (c .before .before .before .loop .p) ≡ true
 leads c = sym (c .before .leads-to-free .ensures) ∙ not-false _ (c .if1 .left)
 
-within : (c : tie.Else1 Inv-loop μ-loop) → Within (c .before .before .before .before .before .args .img .now) (c .before .before .before .loop .p)
+within : (c : tie.Else1 Inv-loop μ-loop) → Page-in (c .before .before .before .before .before .args .img .now) (c .before .before .before .loop .p)
 within c = free-within _ _ _ (c .before .before .before .before .before .pre) (leads c)
 
 returns : tie.Need-returns Inv-loop μ-loop

@@ -5,13 +5,13 @@ use borrow.Author.Tests.{le-leb, lt-leb, lt-ltb, le-ltb}
 use lib.ListN.{length}
 use Rattle.page.specs.Layout.{free-ok}
 use Rattle.fit.proofs.Tests.{passes, fails}
-use Rattle.lent.specs.Opened.{Within}
-use Rattle.lent.proofs.Laws.{page-length}
+use Rattle.access.specs.Access.{Page-in}
+use Rattle.access.proofs.Laws.{page-length}
 use Rattle.audit.specs.Walks.{leads-to-free}
 use Rattle.audit.proofs.free.leads_to_free.Statement.{statement}
 use Rattle.audit.proofs.free.leads_to_free.Tie as tie
 
-within : (c : tie.Else2) → Within (c .before .before .before .args .img .now) (c .before .before .before .args .p)
+within : (c : tie.Else2) → Page-in (c .before .before .before .args .img .now) (c .before .before .before .args .p)
 within c = search needs
 
 returns : tie.Need-returns

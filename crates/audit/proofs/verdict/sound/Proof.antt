@@ -3,20 +3,20 @@ use mathlib.Core.Path.{sym, _∙_}
 use native.Mathlib.Omega.{arith}
 use borrow.Author.Needs.{needs}
 use borrow.Author.Tests.{not-true, not-false}
-use Rattle.lent.specs.Opened.{Opened}
-use Rattle.lent.proofs.Laws.{opened, shut, opened-ranges, opened-size}
+use Rattle.access.specs.Access.{Open-image}
+use Rattle.access.proofs.Laws.{opened, shut, opened-ranges, opened-size}
 use Rattle.audit.proofs.Verdicts.{Walked, unsound-head, root-standing, root-walked, unsound-tree, unsound-count, sound-rest}
 use Rattle.audit.proofs.verdict.sound.Statement.{statement}
 use Rattle.audit.proofs.verdict.sound.Tie as tie
 
 -- what the code has found so far, in the definitions' words
-headed : (c : tie.After-h) → Opened (c .before .before .before .before .args .img .now) (c .h .given .0 .0)
+headed : (c : tie.After-h) → Open-image (c .before .before .before .before .args .img .now) (c .h .given .0 .0)
 headed c =
     let read = c .before .before in
     opened _ (read .before .before .pre) (sym (c .h .given .1) ∙ read .open-head .ensures)
 
 walked : (c : tie.After-audit-page) → Walked (c .before .before .before .before .before .before .before .args .img .now) (c .before .before .before .h .given .0 .0) (c .audit-page .result)
-walked c = root-walked (headed (c .before .before .before)) (c .before .root-place .ensures) (c .audit-page .ensures)
+walked c = root-walked (headed (c .before .before .before)) (c .before .root-context .ensures) (c .audit-page .ensures)
 
 returns : tie.Need-returns
 returns c =
@@ -44,7 +44,7 @@ sound-spec =
     (λ c. search needs)
     returns
     (λ c κs. opened-ranges (headed (c .before)) .height-least)
-    (λ c κs. rw (c .root-place .ensures) (root-standing (headed (c .before .before))))
+    (λ c κs. rw (c .root-context .ensures) (root-standing (headed (c .before .before))))
     (λ c. search needs)
     (λ c. search needs)
     (λ c. unsound-tree (walked (c .before .before)) (c .enum-told2 .given .1))

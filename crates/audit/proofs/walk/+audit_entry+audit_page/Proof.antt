@@ -7,7 +7,7 @@ use borrow.Author.Needs.{needs}
 use borrow.Author.Tests.{not-true, not-false}
 use borrow.Fn.Kinds.{In}
 use borrow.Fn.PlainCycle.{Measures, is, falls, and}
-use Rattle.page.specs.Layout.{number-of}
+use Rattle.page.specs.Layout.{entry-count}
 use Rattle.page.specs.Fit.{page-fit}
 use Rattle.audit.proofs.Walks.{standing-within, standing-size, standing-bounded, entry-reads, below-level, below-counted, below-standing, page-unfit, leaf-counted, tested, Passing, passing-none, passing-inner, passing-more, passing-stops, passing-most, passing-all}
 use Rattle.audit.proofs.walk.audit_entry.Reads as audit-entry
@@ -16,11 +16,11 @@ use Rattle.audit.proofs.walk.+audit_entry+audit_page.Lts-audit_entry as
 use Rattle.audit.proofs.walk.audit_page.Reads as audit-page
 use Rattle.audit.proofs.walk.audit_page.Kinds as audit-page-kinds
 use Rattle.audit.proofs.walk.+audit_entry+audit_page.Lts-audit_page as audit-page-lts
-use Rattle.lent.proofs.pages.page_at.Reads as page-at-reads
-use Rattle.fit.proofs.places.place_below.Reads as place-below-reads
+use Rattle.access.proofs.pages.page_at.Reads as page-at-reads
+use Rattle.fit.proofs.contexts.context_below.Reads as context-below-reads
 use Rattle.fit.proofs.tree_page.page_fit.Reads as page-fit-reads
 use Rattle.page.proofs.at.child_at.Reads as child-at-reads
-use Rattle.page.proofs.at.number_of.Reads as number-of-reads
+use Rattle.page.proofs.at.entry_count.Reads as entry-count-reads
 use Rattle.audit.proofs.walk.+audit_entry+audit_page.{statement}
 use Rattle.audit.proofs.walk.+audit_entry+audit_page.Tie.{close}
 
@@ -55,8 +55,8 @@ more : (t : ℕ) → audit-page-lts.Need-loop-again (
   page-at-reads.Learnt,
   page-fit-reads.Asked,
   page-fit-reads.Learnt,
-  number-of-reads.Asked,
-  number-of-reads.Learnt,
+  entry-count-reads.Asked,
+  entry-count-reads.Learnt,
   audit-entry-below t,
   audit-entry.Post,
 ) (audit-page-at t) audit-page.Post Inv-loop μ-loop
@@ -72,8 +72,8 @@ pub +audit-entry+audit-page-spec : {M : Type 1} → statement M
     audit-entry-lts.spec (
       page-at-reads.Asked,
       page-at-reads.Learnt,
-      place-below-reads.Asked,
-      place-below-reads.Learnt,
+      context-below-reads.Asked,
+      context-below-reads.Learnt,
       child-at-reads.Asked,
       child-at-reads.Learnt,
       audit-page-below t,
@@ -91,21 +91,21 @@ pub +audit-entry+audit-page-spec : {M : Type 1} → statement M
     let w = start .pre .1 in
     let b = c .before in
     let d = b .before .page-at .ensures in (
-      omega (arith, start .pre .0, w .1 .level, below-level (w .0) (w .1) d (b .place-below .ensures) (c .child-at .ensures)),
-      below-standing (w .0) (w .1) d (b .place-below .ensures) (c .child-at .ensures),
+      omega (arith, start .pre .0, w .1 .level, below-level (w .0) (w .1) d (b .context-below .ensures) (c .child-at .ensures)),
+      below-standing (w .0) (w .1) d (b .context-below .ensures) (c .child-at .ensures),
     ))
     (λ c.
     let b = c .before .before in
     let w = b .before .before .before .pre .1 in
-    c .audit-page .ensures ∙ below-counted (w .0) (w .1) (b .before .page-at .ensures) (b .place-below .ensures) (c .before .child-at .ensures)))
+    c .audit-page .ensures ∙ below-counted (w .0) (w .1) (b .before .page-at .ensures) (b .context-below .ensures) (c .before .child-at .ensures)))
     (λ t.
     audit-page-lts.spec (
       page-at-reads.Asked,
       page-at-reads.Learnt,
       page-fit-reads.Asked,
       page-fit-reads.Learnt,
-      number-of-reads.Asked,
-      number-of-reads.Learnt,
+      entry-count-reads.Asked,
+      entry-count-reads.Learnt,
       audit-entry-below t,
       audit-entry.Post,
     ) (audit-page-at t) audit-page.Post Inv-loop μ-loop
@@ -130,7 +130,7 @@ pub +audit-entry+audit-page-spec : {M : Type 1} → statement M
     let d = fit .before .page-at .ensures in
     passing-none (fit .before .before .before .pre .1) (omega (arith, inner .if2 .left))
     (tested 12 _ _ _ _ d (fit .page-fit .ensures) (not-false _ (inner .before .before .if1 .left)))
-    (c .number-of .ensures ∙ ap number-of d))
+    (c .entry-count .ensures ∙ ap entry-count d))
     (λ c κs.
     let inv = c .before .loop .inv in
     let start = c .before .before .before .before .before .before .before .before .before in

@@ -2,7 +2,7 @@
 use mathlib.Core.Path.{ap, _∙_}
 use borrow.Author.Needs.{needs}
 use mir.Facts.{toZ-ofZ}
-use Rattle.rule.specs.Time.{lengthened}
+use Rattle.rule.specs.Time.{effect-end}
 use Rattle.fields.proofs.Laws.Digits.{bytes-of}
 use Rattle.page.specs.declared.Head.{Head}
 use Rattle.booking.proofs.Laws.Accepted.{accepted-head, accepted-some, accepted-changed}
@@ -16,7 +16,7 @@ apply-requires c κs =
     let start = known .before in
     let h = accepted-head (start .pre) in
     accepted-some (start .pre) (bytes-of (start .args .img .now) (known .slice-known .given)) (ap (λ (g : Head). g .kind) h)
-    (far .lengthened .ensures ∙ ap (λ (g : Head). lengthened (start .args .e) (g .window)) h) (rw (toZ-ofZ (start .fits .v)) at (c .effect .ensures))
+    (far .effect-end .ensures ∙ ap (λ (g : Head). effect-end (start .args .e) (g .window)) h) (rw (toZ-ofZ (start .fits .v)) at (c .effect .ensures))
 
 returns : tie.Need-returns
 returns c =
@@ -27,7 +27,7 @@ returns c =
     let start = known .before in
     let h = accepted-head (start .pre) in
     accepted-changed (start .pre) (bytes-of (start .args .img .now) (known .slice-known .given)) (ap (λ (g : Head). g .kind) h)
-    (far .lengthened .ensures ∙ ap (λ (g : Head). lengthened (start .args .e) (g .window)) h) (rw (toZ-ofZ (start .fits .v)) at (effect .effect .ensures)) (did .apply .ensures)
+    (far .effect-end .ensures ∙ ap (λ (g : Head). effect-end (start .args .e) (g .window)) h) (rw (toZ-ofZ (start .fits .v)) at (effect .effect .ensures)) (did .apply .ensures)
 
 pub make-change-spec : {M : Type 1} → statement M
 make-change-spec =

@@ -4,8 +4,8 @@ use Rattle.change.proofs.Chain.{some-B, some-C, some-D, some-E, some-co
 use Rattle.change.proofs.apply.apply.Statement.{statement}
 use Rattle.change.proofs.apply.apply.Tie as tie
 
-spread-requires : tie.Need-spread-requires
-spread-requires c κs =
+combine-span-requires : tie.Need-combine-span-requires
+combine-span-requires c κs =
     let b = c .before .before .before in
     let a = b .before .before .before .before in
     some-C _ _ _ _ (a .cut .ensures) (b .cut2 .ensures) (a .before .before .before .pre)
@@ -15,7 +15,7 @@ heal-requires c κs =
     let d = c .before .before .before in
     let b = d .before .before .before .before in
     let a = b .before .before .before .before in
-    some-D _ _ _ _ (a .cut .ensures) (b .cut2 .ensures) (d .spread .ensures) (a .before .before .before .pre)
+    some-D _ _ _ _ (a .cut .ensures) (b .cut2 .ensures) (d .combine-span .ensures) (a .before .before .before .pre)
 
 heal-requires-2 : tie.Need-heal-requires-2
 heal-requires-2 c κs =
@@ -23,7 +23,7 @@ heal-requires-2 c κs =
     let d = f .before .before .before .before in
     let b = d .before .before .before .before in
     let a = b .before .before .before .before in
-    some-E _ _ _ _ (a .cut .ensures) (b .cut2 .ensures) (d .spread .ensures) (f .heal .ensures) (a .before .before .before .pre)
+    some-E _ _ _ _ (a .cut .ensures) (b .cut2 .ensures) (d .combine-span .ensures) (f .heal .ensures) (a .before .before .before .pre)
 
 count-change-requires : tie.Need-count-change-requires
 count-change-requires c κs =
@@ -32,7 +32,7 @@ count-change-requires c κs =
     let d = f .before .before .before .before in
     let b = d .before .before .before .before in
     let a = b .before .before .before .before in
-    some-count _ _ _ _ (a .cut .ensures) (b .cut2 .ensures) (d .spread .ensures) (f .heal .ensures) (g .heal2 .ensures)
+    some-count _ _ _ _ (a .cut .ensures) (b .cut2 .ensures) (d .combine-span .ensures) (f .heal .ensures) (g .heal2 .ensures)
     (a .before .before .before .pre)
 
 returns : tie.Need-returns
@@ -43,7 +43,7 @@ returns c =
     let d = f .before .before .before .before in
     let b = d .before .before .before .before in
     let a = b .before .before .before .before in
-    changed _ _ _ _ (a .cut .ensures) (b .cut2 .ensures) (d .spread .ensures) (f .heal .ensures) (g .heal2 .ensures)
+    changed _ _ _ _ (a .cut .ensures) (b .cut2 .ensures) (d .combine-span .ensures) (f .heal .ensures) (g .heal2 .ensures)
     (k .count-change .ensures)
 
 pub apply-spec : {M : Type 1} → statement M
@@ -52,7 +52,7 @@ apply-spec =
     (tie.spec
     (λ c κs. search needs)
     (λ c κs. let a = c .before .before .before in some-B _ _ _ _ (a .cut .ensures) (a .before .before .before .pre))
-    spread-requires
+    combine-span-requires
     heal-requires
     heal-requires-2
     count-change-requires

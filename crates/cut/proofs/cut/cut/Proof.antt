@@ -6,12 +6,12 @@ use borrow.Author.Needs.{needs}
 use Rattle.rule.specs.Time.{END}
 use Rattle.image.specs.Images.{Image}
 use Rattle.steps.specs.Cut.{root-entry}
-use Rattle.store.specs.Holding.{Holds}
-use Rattle.store.proofs.Holding.{from}
+use Rattle.store.specs.Encoding.{Encodes}
+use Rattle.store.proofs.Encoding.{from}
 use Rattle.cut.specs.Answers.{Cut-as}
 use Rattle.cut.specs.Cuttable.{Entry-cuttable, from-root, Root-cuttable, Cuttable}
-use Rattle.cut.proofs.Settling.{told}
-use Rattle.cut.proofs.Raising.{cut-end, root-ready, root-cut, root-same, root-raisable, root-two}
+use Rattle.cut.proofs.Splitting.{told}
+use Rattle.cut.proofs.Roots.{cut-end, root-ready, root-cut, root-same, root-growable, root-two}
 use Rattle.cut.proofs.cut.cut.Statement.{statement}
 use Rattle.cut.proofs.cut.cut.Tie as tie
 
@@ -25,15 +25,15 @@ started c = read c .before .before .before .before
 inside : (c : tie.After-root-entry) → started c .args .t < END
 inside c = omega (arith, read c .before .before .if1 .left)
 
--- the root as an entry, of every image that the bytes hold, and what it becomes
-module _ (c : tie.After-root-entry) (X : Image) (h : Holds (started c .args .img .now) X) (r : Cuttable (started c .args .t) X) where
+-- the root as an entry, of every image that the bytes encode, and what it becomes
+module _ (c : tie.After-root-entry) (X : Image) (h : Encodes (started c .args .img .now) X) (r : Cuttable (started c .args .t) X) where
   root : Root-cuttable (started c .args .t) X
   root = r .root (inside c)
 
   ready : Entry-cuttable (read c .head-of .result .height) (c .root-entry .result) (started c .args .t) X
   ready = root-ready (started c .args .t) X (read c .head-of .ensures X h tt) (c .root-entry .ensures) root
 
-grew : (c : tie.After-cut-entry) (X : Image) → Holds (started (c .before) .args .img .now) X → Cuttable (started (c .before) .args .t) X
+grew : (c : tie.After-cut-entry) (X : Image) → Encodes (started (c .before) .args .img .now) X → Cuttable (started (c .before) .args .t) X
     → Cut-as (root-entry X) (from-root (started (c .before) .args .t) X) (c .cut-entry .result) (c .cut-entry .last .0)
 grew c X h r =
     let entry = c .before in
@@ -43,7 +43,7 @@ grew c X h r =
 returns : tie.Need-returns
 returns c X h r =
     let t = c .before .before .args .t in
-    subst (Holds _) (sym (cut-end t X (omega (arith, c .if1 .taken)))) h
+    subst (Encodes _) (sym (cut-end t X (omega (arith, c .if1 .taken)))) h
 
 cut-entry-requires : tie.Need-cut-entry-requires
 cut-entry-requires c κs = from (started c .pre) (λ X h r. record { image = X; holds = h; ready = ready c X h r })
@@ -53,15 +53,15 @@ returns-2 c X h r =
     let call = c .before .before .before .before in
     root-same _ X (inside (call .before)) (told (c .enum-told .given .1) (grew call X h r))
 
-raise-requires : tie.Need-raise-requires
-raise-requires c κs =
+grow-root-requires : tie.Need-grow-root-requires
+grow-root-requires c κs =
     let known = c .before .before in
     let call = known .before .before .before .before in
     from (started (call .before) .pre)
     (λ X h r.
     let g = told (known .start .given .1) (grew call X h r) in
     let head = read (call .before) .head-of .ensures X h tt in
-    record { image = _; holds = g .holds; ready = root-raisable _ X head g (root (call .before) X h r) })
+    record { image = _; holds = g .holds; ready = root-growable _ X head g (root (call .before) X h r) })
 
 returns-3 : tie.Need-returns-3
 returns-3 c X h r =
@@ -71,7 +71,7 @@ returns-3 c X h r =
     let g = told (known .start .given .1) (grew call X h r) in
     let head = read (call .before) .head-of .ensures X h tt in
     root-two _ X head g (inside (call .before))
-    (raising .raise .ensures _ (g .holds) (root-raisable _ X head g (root (call .before) X h r)))
+    (raising .grow-root .ensures _ (g .holds) (root-growable _ X head g (root (call .before) X h r)))
 
 pub cut-spec : {M : Type 1} → statement M
 cut-spec =
@@ -85,6 +85,6 @@ cut-spec =
     (λ c. search needs)
     (λ c. search needs)
     returns-2
-    raise-requires
+    grow-root-requires
     (λ c. search needs)
     returns-3)

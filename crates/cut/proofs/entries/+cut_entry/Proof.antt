@@ -4,13 +4,13 @@ use native.Mathlib.Omega.{arith}
 use borrow.Author.Needs.{needs}
 use borrow.Fn.Kinds.{In}
 use borrow.Fn.PlainCycle.{Measures, is, falls, and}
-use Rattle.cut.proofs.Settling.{told}
-use Rattle.cut.proofs.Cutting.{leaf-as, page-cuttable, read, read-cuttable, read-below, read-same, read-settlable, read-two}
+use Rattle.cut.proofs.Splitting.{told}
+use Rattle.cut.proofs.Cutting.{leaf-as, page-cuttable, read, read-cuttable, read-below, read-same, read-page-writable, read-two}
 use Rattle.cut.proofs.entries.cut_entry.Reads as cut-entry
 use Rattle.cut.proofs.entries.cut_entry.Kinds as cut-entry-kinds
 use Rattle.cut.proofs.entries.+cut_entry.Lts-cut_entry as cut-entry-lts
 use Rattle.cut.proofs.entries.cut_leaf_entry.Reads as cut-leaf-entry-reads
-use Rattle.cut.proofs.settle.double.Reads as double-reads
+use Rattle.cut.proofs.split.insert_after.Reads as insert-after-reads
 use Rattle.store.proofs.entries.find_entry.Reads as find-entry-reads
 use Rattle.store.proofs.pages.load.Reads as load-reads
 use Rattle.cut.proofs.entries.+cut_entry.{statement}
@@ -39,8 +39,8 @@ pub +cut-entry-spec : {M : Type 1} → statement M
       find-entry-reads.Learnt,
       cut-entry-below t,
       cut-entry.Post,
-      double-reads.Asked,
-      double-reads.Learnt,
+      insert-after-reads.Asked,
+      insert-after-reads.Learnt,
     ) (cut-entry-at t) cut-entry.Post
     -- cut-leaf-entry-requires
     (λ c κs. search needs)
@@ -56,7 +56,7 @@ pub +cut-entry-spec : {M : Type 1} → statement M
       image = _;
       holds = s .holds;
       ready = page-cuttable (start .args .e) (else .if1 .left)
-          (s .ready) .0 .searchable .treed .within;
+          (s .ready) .0 .searchable .tree-page .within;
     })
     -- find-entry-requires
     (λ c κs.
@@ -95,7 +95,7 @@ pub +cut-entry-spec : {M : Type 1} → statement M
     let k = read (page-cuttable e d r .0) h (load .load .ensures) (found .find-entry .ensures) in
     let b = call .cut-entry .ensures X h (read-cuttable e d k r) in
     read-same e d k (told (c .enum-told .given .1) (read-below e d k b)))
-    -- double-requires
+    -- insert-after-requires
     (λ c κs.
     let known = c .before .before in
     let call = known .before .before .before .before in
@@ -109,15 +109,15 @@ pub +cut-entry-spec : {M : Type 1} → statement M
     let r = page-cuttable e d (s .ready) .0 in
     let k = read r (s .holds) (load .load .ensures) (found .find-entry .ensures) in
     let b = told (known .start .given .1) (read-below e d k (call .cut-entry .ensures _ (s .holds) (read-cuttable e d k (s .ready)))) in (
-      record { image = _; holds = b .holds; ready = read-settlable e d k b r },
+      record { image = _; holds = b .holds; ready = read-page-writable e d k b r },
       (omega (arith, k .loaded .shows .level, r .low), k .inside, k .loaded .few),
     ))
     -- same-length-3
     (λ c. search needs)
     -- returns-3
     (λ c X h r.
-    let doubled = c .before .before in
-    let known = doubled .before .before .before in
+    let inserted = c .before .before in
+    let known = inserted .before .before .before in
     let call = known .before .before .before .before in
     let found = call .before .before in
     let load = found .before .before in
@@ -127,4 +127,4 @@ pub +cut-entry-spec : {M : Type 1} → statement M
     let ready = page-cuttable e d r .0 in
     let k = read ready h (load .load .ensures) (found .find-entry .ensures) in
     let b = told (known .start .given .1) (read-below e d k (call .cut-entry .ensures X h (read-cuttable e d k r))) in
-    read-two e d k b (doubled .double .ensures _ (b .holds) (read-settlable e d k b ready))))
+    read-two e d k b (inserted .insert-after .ensures _ (b .holds) (read-page-writable e d k b ready))))

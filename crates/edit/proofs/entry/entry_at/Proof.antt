@@ -1,17 +1,17 @@
 -- `edit::entry::entry_at` meets its contract: what the four arrays hold at i is the i-th entry. Assumes nothing.
 use mathlib.Core.Path.{sym, _∙_}
 use native.Mathlib.Omega.{arith}
-use Rattle.page.specs.Decoded.{shown-at}
+use Rattle.page.specs.Decoded.{slot-at}
 use Rattle.page.proofs.Laws.Decoded.{at-shown}
-use Rattle.edit.proofs.Places.{entry-passed}
+use Rattle.edit.proofs.Slots.{entry-passed}
 use Rattle.edit.proofs.entry.entry_at.Statement.{statement}
 use Rattle.edit.proofs.entry.entry_at.Tie as tie
 
 returns : tie.Need-returns
-unfolding shown-at
+unfolding slot-at
 returns c =
     let args = c .before .before .before .before .args in
-    entry-passed (shown-at (args .t1) (args .i)) (omega arith) (omega arith)
+    entry-passed (slot-at (args .t1) (args .i)) (omega arith) (omega arith)
     ∙ sym (at-shown (args .t1) (args .i) (omega arith))
 
 pub entry-at-spec : {M : Type 1} → statement M

@@ -2,8 +2,8 @@
 use mathlib.Core.Path.{refl, ap, _∙_}
 use native.Mathlib.Omega.{arith}
 use borrow.Author.Needs.{needs}
-use Rattle.page.specs.Decoded.{shown}
-use Rattle.edit.proofs.Places.{entry-passed, stored}
+use Rattle.page.specs.Decoded.{entry-list}
+use Rattle.edit.proofs.Slots.{entry-passed, stored}
 use Rattle.edit.proofs.Edits.{replace-entries}
 use Rattle.edit.proofs.entry.replace.Statement.{statement}
 use Rattle.edit.proofs.entry.replace.Tie as tie
@@ -14,7 +14,7 @@ returns c =
     record {
       level = refl;
       entries =
-          ap (λ e. shown (stored (args .i) e (args .p))) (entry-passed (args .e) (omega arith) (omega arith))
+          ap (λ e. entry-list (stored (args .i) e (args .p))) (entry-passed (args .e) (omega arith) (omega arith))
           ∙ replace-entries (args .p) (args .i) (args .e) (search needs) (omega arith) (omega arith);
     }
 

@@ -4,9 +4,9 @@ use mathlib.Core.Path.{ap, _∙_}
 use native.Mathlib.Omega.{arith}
 use borrow.Author.Needs.{needs}
 use Rattle.rule.specs.Pairs.{combine}
-use Rattle.page.specs.Decoded.{shown-at}
+use Rattle.page.specs.Decoded.{slot-at}
 use Rattle.page.proofs.Laws.Decoded.{at-shown}
-use Rattle.edit.proofs.Places.{pair-passed, passed-pair}
+use Rattle.edit.proofs.Slots.{pair-passed, passed-pair}
 use Rattle.edit.proofs.Pushed.{Pushed, pushed-none, pushed-more, pushed-all}
 use Rattle.edit.proofs.push.push.Statement.{statement}
 use Rattle.edit.proofs.push.push.Tie as tie
@@ -21,16 +21,16 @@ loop-holds : tie.Need-loop-holds Inv-loop μ-loop
 loop-holds c = (omega arith, pushed-none _ _ _ (search needs))
 
 combine-requires : tie.Need-combine-requires Inv-loop μ-loop
-unfolding shown-at
+unfolding slot-at
 combine-requires c κs =
     let start = c .before .before .before .before in
     let p = start .args .t3 in
     let i = c .before .before .before .loop .i in
-    rw (pair-passed (shown-at p i .pair) (omega arith) (omega arith))
+    rw (pair-passed (slot-at p i .pair) (omega arith) (omega arith))
     (rw (at-shown p i (omega arith)) at (start .pre .each i (omega arith)))
 
 loop-again : tie.Need-loop-again Inv-loop μ-loop
-unfolding shown-at
+unfolding slot-at
 loop-again c =
     let args = c .before .before .before .before .before .before .before .args in
     let now = c .before .before .before .before .before .before .loop in
@@ -38,7 +38,7 @@ loop-again c =
       omega arith,
       pushed-more (now .inv .1) (passed-pair (both .result))
           (pair-passed (both .result) (omega arith) (omega arith) ∙ both .ensures
-          ∙ ap (λ q. combine (args .kind) (args .pair) q) (pair-passed (shown-at (args .t3) (now .i) .pair) (omega arith) (omega arith)))
+          ∙ ap (λ q. combine (args .kind) (args .pair) q) (pair-passed (slot-at (args .t3) (now .i) .pair) (omega arith) (omega arith)))
           (omega arith),
     )
 

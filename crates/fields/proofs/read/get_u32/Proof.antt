@@ -2,7 +2,7 @@
 use native.Mathlib.Omega.{arith}
 use borrow.Author.Needs.{needs}
 use Rattle.fields.specs.Numbers.{u32-at}
-use Rattle.fields.proofs.Laws.Places.{num-part-four}
+use Rattle.fields.proofs.Laws.Offsets.{num-part-four}
 use Rattle.fields.proofs.read.get_u32.Statement.{statement}
 use Rattle.fields.proofs.read.get_u32.Tie as tie
 

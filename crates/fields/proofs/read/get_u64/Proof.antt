@@ -2,7 +2,7 @@
 use native.Mathlib.Omega.{arith}
 use borrow.Author.Needs.{needs}
 use Rattle.fields.specs.Numbers.{u32-at}
-use Rattle.fields.proofs.Laws.Places.{num-part-add}
+use Rattle.fields.proofs.Laws.Offsets.{num-part-add}
 use Rattle.fields.proofs.read.get_u64.Statement.{statement}
 use Rattle.fields.proofs.read.get_u64.Tie as tie
 

@@ -24,7 +24,7 @@ returns : tie.Need-returns Inv-loop μ-loop
 unfolding children-ok
 returns c =
     let start = c .before .before .before in
-    passed-all (c .before .loop .inv) (c .loop-test .left) ∙ ap (λ n. every n (λ i. child-ok (start .args .pages) (start .args .at .level) (child-at 12 (start .args .s .now) i))) (start .pre .number)
+    passed-all (c .before .loop .inv) (c .loop-test .left) ∙ ap (λ n. every n (λ i. child-ok (start .args .pages) (start .args .at .level) (child-at 12 (start .args .s .now) i))) (start .pre .len)
 
 pub children-ok-spec : {M : Type 1} → statement M
 children-ok-spec =

@@ -27,7 +27,7 @@ returns : tie.Need-returns Inv-loop μ-loop
 unfolding pairs-ok
 returns c =
     let start = c .before .before .before in
-    passed-all (c .before .loop .inv) (c .loop-test .left) ∙ ap (λ n. every n (λ i. pair-ok (start .args .h) (start .args .at) (pair-at 12 (start .args .s .now) i))) (start .pre .0 .number)
+    passed-all (c .before .loop .inv) (c .loop-test .left) ∙ ap (λ n. every n (λ i. pair-ok (start .args .h) (start .args .at) (pair-at 12 (start .args .s .now) i))) (start .pre .0 .len)
 
 pub pairs-ok-spec : {M : Type 1} → statement M
 pairs-ok-spec =

@@ -5,8 +5,8 @@ use lib.Dec.{eqb}
 use borrow.Author.Needs.{needs}
 use borrow.Author.Tests.{eq-eqb, ne-eqb, not-true, not-false}
 use Rattle.page.specs.Layout.{level-of, unused-ok}
-use Rattle.page.specs.Fit.{page-fit, number-ok, starts-ok}
-use Rattle.fit.specs.Places.{Compared}
+use Rattle.page.specs.Fit.{page-fit, entry-count-ok, starts-ok}
+use Rattle.fit.specs.Contexts.{Compared}
 use Rattle.fit.proofs.Tests.{passes, fails}
 use Rattle.fit.proofs.Laws.Parts.{compared}
 use Rattle.fit.proofs.tree_page.page_fit.Statement.{statement}
@@ -16,8 +16,8 @@ use Rattle.fit.proofs.tree_page.page_fit.Tie as tie
 level : (c : tie.Else1) → eqb (level-of (c .before .before .before .before .args .s .now)) (c .before .before .before .before .args .at .level) ≡ true
 level c = eq-eqb _ _ (sym (c .before .before .level-of .ensures) ∙ c .if1 .left)
 
-number : (c : tie.Else2) → number-ok 12 (c .before .before .before .before .before .before .args .at) (c .before .before .before .before .before .before .args .s .now) ≡ true
-number c = sym (c .before .number-ok .ensures) ∙ not-false _ (c .if2 .left)
+number : (c : tie.Else2) → entry-count-ok 12 (c .before .before .before .before .before .before .args .at) (c .before .before .before .before .before .before .args .s .now) ≡ true
+number c = sym (c .before .entry-count-ok .ensures) ∙ not-false _ (c .if2 .left)
 
 starts : (c : tie.Else3) → starts-ok (c .before .before .before .before .before .before .before .before .before .args .at) (c .before .before .before .before .before .before .before .before .before .args .s .now) ≡ true
 starts c = sym (c .before .starts-ok .ensures) ∙ not-false _ (c .if3 .left)
@@ -25,10 +25,10 @@ starts c = sym (c .before .starts-ok .ensures) ∙ not-false _ (c .if3 .left)
 unused : (c : tie.Else4) → unused-ok 12 (c .before .before .before .before .before .before .before .before .before .before .before .args .s .now) ≡ true
 unused c = sym (c .before .unused-ok .ensures) ∙ not-false _ (c .if4 .left)
 
-entries : (c : tie.After-number-of) → Compared (c .before .before .before .before .before .before .before .args .s .now) (c .number-of .result)
+entries : (c : tie.After-entry-count) → Compared (c .before .before .before .before .before .before .before .args .s .now) (c .entry-count .result)
 entries c =
     let start = c .before .before .before .before .before .before .before in
-    compared (start .args .at) (start .args .s .now) (start .pre .0) (c .number-of .ensures) (number (c .before))
+    compared (start .args .at) (start .args .s .now) (start .pre .0) (c .entry-count .ensures) (number (c .before))
 
 returns : tie.Need-returns
 unfolding page-fit
@@ -36,7 +36,7 @@ returns c = fails _ (ne-eqb _ _ (λ e. c .if1 .taken (c .before .before .level-o
 
 returns-2 : tie.Need-returns-2
 unfolding page-fit
-returns-2 c = passes (level (c .before .before)) (fails _ (sym (c .before .number-ok .ensures) ∙ not-true _ (c .if2 .taken)))
+returns-2 c = passes (level (c .before .before)) (fails _ (sym (c .before .entry-count-ok .ensures) ∙ not-true _ (c .if2 .taken)))
 
 returns-3 : tie.Need-returns-3
 unfolding page-fit

@@ -7,13 +7,13 @@ use borrow.Fn.PlainCycle.{Measures, is, falls, and}
 use native.Mathlib.Omega.{arith}
 use Rattle.rule.specs.Pairs.{combine}
 use Rattle.steps.specs.Heal.{heal-page as heal}
-use Rattle.store.specs.Holding.{Holds}
-use Rattle.store.proofs.Holding.{from}
-use Rattle.heal.proofs.Ways.{leaf-ready, inner, inner-below, inner-settles, inner-done}
+use Rattle.store.specs.Encoding.{Encodes}
+use Rattle.store.proofs.Encoding.{from}
+use Rattle.heal.proofs.Paths.{leaf-ready, inner, inner-below, inner-rebalances, inner-done}
 use Rattle.heal.proofs.heal.heal_page.Reads as heal-page
 use Rattle.heal.proofs.heal.heal_page.Kinds as heal-page-kinds
 use Rattle.heal.proofs.heal.+heal_page.Lts-heal_page as heal-page-lts
-use Rattle.heal.proofs.heal.settle.Reads as settle-reads
+use Rattle.heal.proofs.heal.rebalance_if_short.Reads as rebalance-if-short-reads
 use Rattle.heal.proofs.leaf.heal_leaf.Reads as heal-leaf-reads
 use Rattle.store.proofs.entries.find_entry.Reads as find-entry-reads
 use Rattle.heal.proofs.heal.+heal_page.{statement}
@@ -39,8 +39,8 @@ pub +heal-page-spec : {M : Type 1} → statement M
       find-entry-reads.Learnt,
       heal-page-below t,
       heal-page.Post,
-      settle-reads.Asked,
-      settle-reads.Learnt,
+      rebalance-if-short-reads.Asked,
+      rebalance-if-short-reads.Learnt,
     ) (heal-page-at t) heal-page.Post
     -- heal-leaf-requires
     (λ c κs.
@@ -56,7 +56,7 @@ pub +heal-page-spec : {M : Type 1} → statement M
     let then = leaf .before .before in
     let args = then .before .before .args in
     let e = then .if1 .taken in
-    subst⁻¹ (λ l. Holds (leaf .heal-leaf .last .0) (heal 12 (combine (args .kind)) (args .t) l (args .p) X)) e
+    subst⁻¹ (λ l. Encodes (leaf .heal-leaf .last .0) (heal 12 (combine (args .kind)) (args .t) l (args .p) X)) e
     (leaf .heal-leaf .ensures X h (leaf-ready (args .kind) (args .t) (args .p) X e s) (args .kind)))
     -- find-entry-requires
     (λ c κs.
@@ -77,7 +77,7 @@ pub +heal-page-spec : {M : Type 1} → statement M
     let g = found .find-entry .ensures X h _ (inner (args .kind) (args .t) (args .p) X e s .searchable) in
     let ready = inner-below (args .kind) (args .t) (args .p) X e g s in
     (omega (arith, start .pre .0, e), record { image = X; holds = h; ready = ready })))
-    -- settle-requires
+    -- rebalance-if-short-requires
     (λ c κs.
     let below = c .before .before .before in
     let found = below .before .before .before in
@@ -88,17 +88,17 @@ pub +heal-page-spec : {M : Type 1} → statement M
     (λ X h s.
     let g = found .find-entry .ensures X h _ (inner (args .kind) (args .t) (args .p) X e s .searchable) in
     let holds = below .heal-page .ensures X h (inner-below (args .kind) (args .t) (args .p) X e g s) in
-    record { image = _; holds = holds; ready = (_, inner-settles (args .kind) (args .t) (args .p) X e g s) }))
+    record { image = _; holds = holds; ready = (_, inner-rebalances (args .kind) (args .t) (args .p) X e g s) }))
     -- same-length-2
     (λ c. search needs)
     -- returns-2
     (λ c X h s.
-    let settled = c .before .before in
-    let below = settled .before .before .before .before in
+    let after = c .before .before in
+    let below = after .before .before .before .before in
     let found = below .before .before .before in
     let e = found .before .before .if1 .left in
     let args = found .before .before .before .before .args in
     let g = found .find-entry .ensures X h _ (inner (args .kind) (args .t) (args .p) X e s .searchable) in
     let holds = below .heal-page .ensures X h (inner-below (args .kind) (args .t) (args .p) X e g s) in
-    subst (Holds _) (inner-done (args .kind) (args .t) (args .p) X e g)
-    (settled .settle .ensures _ holds _ (inner-settles (args .kind) (args .t) (args .p) X e g s))))
+    subst (Encodes _) (inner-done (args .kind) (args .t) (args .p) X e g)
+    (after .rebalance-if-short .ensures _ holds _ (inner-rebalances (args .kind) (args .t) (args .p) X e g s))))

@@ -7,9 +7,9 @@ use Rattle.rule.specs.Pairs.{combine}
 use Rattle.page.specs.declared.Head.{Head}
 use Rattle.image.specs.Images.{Image}
 use Rattle.steps.specs.Heal.{heal-page}
-use Rattle.store.specs.Holding.{Holds}
-use Rattle.store.proofs.Holding.{from}
-use Rattle.heal.specs.Healable.{Page-healable, Shrinkable, Healable}
+use Rattle.store.specs.Encoding.{Encodes}
+use Rattle.store.proofs.Encoding.{from}
+use Rattle.heal.specs.Healable.{Page-healable, Collapsible-if-single, Healable}
 use Rattle.heal.proofs.Roots.{healed-is}
 use Rattle.heal.proofs.heal.heal.Statement.{statement}
 use Rattle.heal.proofs.heal.heal.Tie as tie
@@ -24,8 +24,8 @@ sub-heal-page c =
 abbrev start : tie.After-head-of → tie.Start
 start c = c .before .before .before
 
--- of every image that the bytes hold
-module _ (c : tie.After-head-of) (X : Image) (h : Holds (start c .args .img .now) X)
+-- of every image that the bytes encode
+module _ (c : tie.After-head-of) (X : Image) (h : Encodes (start c .args .img .now) X)
     (s : Healable (start c .args .kind) (start c .args .t) X) where
   head : c .head-of .result ≡ X .head
   head = c .head-of .ensures X h tt
@@ -39,20 +39,20 @@ module _ (c : tie.After-head-of) (X : Image) (h : Holds (start c .args .img .now
       let args = start c .args in
       subst (λ k. Page-healable (args .kind) (args .t) (k .height - 1) (k .root) X) (sym head) (s .page)
 
-  shrinks : Shrinkable (left-by (c .head-of .result))
-  shrinks = subst (λ k. Shrinkable (left-by k)) (sym head) (s .shrinks)
+  collapses : Collapsible-if-single (left-by (c .head-of .result))
+  collapses = subst (λ k. Collapsible-if-single (left-by k)) (sym head) (s .collapses)
 
 heal-page-requires : tie.Need-heal-page-requires
 heal-page-requires c κs =
     let read = c .before .before in
     from (start read .pre) (λ X h s. record { image = X; holds = h; ready = page read X h s })
 
-shrink-requires : tie.Need-shrink-requires
-shrink-requires c κs =
+collapse-if-single-requires : tie.Need-collapse-if-single-requires
+collapse-if-single-requires c κs =
     let below = c .before .before .before in
     let read = below .before .before .before in
     from (start read .pre)
-    (λ X h s. record { image = _; holds = below .heal-page .ensures X h (page read X h s); ready = shrinks read X h s })
+    (λ X h s. record { image = _; holds = below .heal-page .ensures X h (page read X h s); ready = collapses read X h s })
 
 returns : tie.Need-returns
 returns c X h s =
@@ -60,9 +60,9 @@ returns c X h s =
     let read = below .before .before .before in
     let args = start read .args in
     let holds = below .heal-page .ensures X h (page read X h s) in
-    subst (Holds _) (healed-is (args .kind) X (args .t) (head read X h s)) (c .before .before .shrink .ensures _ holds (shrinks read X h s))
+    subst (Encodes _) (healed-is (args .kind) X (args .t) (head read X h s)) (c .before .before .collapse-if-single .ensures _ holds (collapses read X h s))
 
 pub heal-spec : {M : Type 1} → statement M
 heal-spec =
     tie.close
-    (tie.spec (λ c κs. search needs) sub-heal-page heal-page-requires shrink-requires (λ c. search needs) returns)
+    (tie.spec (λ c κs. search needs) sub-heal-page heal-page-requires collapse-if-single-requires (λ c. search needs) returns)

@@ -5,38 +5,38 @@ use Prim.Native.Nat.{ℕ}
 use borrow.Author.Needs.{needs}
 use native.Mathlib.Omega.{arith}
 use Rattle.image.specs.Images.{Image}
-use Rattle.edit.proofs.Edits.{shows-then}
+use Rattle.edit.proofs.Edits.{has-then}
 use Rattle.steps.specs.Supply.{entries, put, given-back}
-use Rattle.store.specs.Holding.{Holds, Each}
-use Rattle.store.specs.Ready.{In-image, Givable}
-use Rattle.store.proofs.Holding.{from}
+use Rattle.store.specs.Encoding.{Encodes, Post}
+use Rattle.store.specs.Preconditions.{In-image, Givable}
+use Rattle.store.proofs.Encoding.{from}
 use Rattle.store.proofs.Chains.{then, some-then}
 use Rattle.store.proofs.Supplying.{within-put, within-given}
 use Rattle.heal.specs.Siblings.{Mergeable, Siblings-read, above}
-use Rattle.heal.proofs.Families.{left-number, right-number, left-within, right-within, read-two, shows-both, above-few}
-use Rattle.heal.proofs.Outcomes.{page-cell, Joint, writable, givable-put, length-both, above-writable, merge-is}
+use Rattle.heal.proofs.Loaded.{left-len, right-len, left-within, right-within, read-two, has-both, above-few}
+use Rattle.heal.proofs.Outcomes.{page-cell, Merged, writable, givable-put, length-both, above-writable, merge-is}
 use Rattle.heal.proofs.merge.merge.Statement.{statement}
 use Rattle.heal.proofs.merge.merge.Tie as tie
 
 -- what is read first, and the function's start
-abbrev start : tie.After-both → tie.Start
+abbrev start : tie.After-load-siblings → tie.Start
 start c = c .before .before .before
 
-abbrev Ready : tie.After-both → Image → Type 0
+abbrev Ready : tie.After-load-siblings → Image → Type 0
 Ready c X = let args = start c .args in (v : ℕ) × Mergeable v (args .p) (args .l) X
 
-module _ (c : tie.After-both) (X : Image) (h : Holds (start c .args .img .now) X) (s : Ready c X) where
-  family : Siblings-read (start c .args .kind) (s .0) (start c .args .p) (start c .args .l) X (c .both .result)
-  family = c .both .ensures X h _ (s .1 .siblings)
+module _ (c : tie.After-load-siblings) (X : Image) (h : Encodes (start c .args .img .now) X) (s : Ready c X) where
+  family : Siblings-read (start c .args .kind) (s .0) (start c .args .p) (start c .args .l) X (c .load-siblings .result)
+  family = c .load-siblings .ensures X h _ (s .1 .siblings)
 
-  left : In-image (c .both .result .a .child) X
+  left : In-image (c .load-siblings .result .a .child) X
   left = left-within family (s .1 .siblings)
 
-  right : Givable (c .both .result .b .child) X
+  right : Givable (c .load-siblings .result .b .child) X
   right = record { within = right-within family (s .1 .siblings); room = s .1 .room }
 
-both-requires : tie.Need-both-requires
-both-requires c κs = from (c .before .before .pre) (λ X h s. record { image = X; holds = h; ready = (_, s .1 .siblings) })
+load-siblings-requires : tie.Need-load-siblings-requires
+load-siblings-requires c κs = from (c .before .before .pre) (λ X h s. record { image = X; holds = h; ready = (_, s .1 .siblings) })
 
 append-requires : tie.Need-append-requires
 append-requires c κs =
@@ -44,30 +44,30 @@ append-requires c κs =
     from (start read .pre)
     (λ X h s.
     let f = family read X h s in
-    omega (arith, left-number f, right-number f, s .1 .few))
+    omega (arith, left-len f, right-len f, s .1 .few))
 
-united-requires : tie.Need-united-requires
-united-requires c κs =
+merged-requires : tie.Need-merged-requires
+merged-requires c κs =
     let read = c .before .before .before in
     from (start read .pre) (λ X h s. read-two (family read X h s) (s .1 .siblings))
 
 -- ---- what is written
 
-abbrev read : tie.After-united → tie.After-both
+abbrev read : tie.After-merged → tie.After-load-siblings
 read c = c .before .before .before .before
 
-module _ (c : tie.After-united) (X : Image) (h : Holds (start (read c) .args .img .now) X) (s : Ready (read c) X) where
-  joint : Joint (start (read c) .args .kind) (s .0) (start (read c) .args .p) (start (read c) .args .l) X
-      (c .before .append .result) (c .united .result)
+module _ (c : tie.After-merged) (X : Image) (h : Encodes (start (read c) .args .img .now) X) (s : Ready (read c) X) where
+  joint : Merged (start (read c) .args .kind) (s .0) (start (read c) .args .p) (start (read c) .args .l) X
+      (c .before .append .result) (c .merged .result)
   joint =
       let f = family (read c) X h s in
       record {
-        all = shows-both f (λ es. es) (c .before .append .ensures);
-        parent = shows-then (above (start (read c) .args .l) []) (f .parent .shows) (c .united .ensures);
+        all = has-both f (λ es. es) (c .before .append .ensures);
+        parent = has-then (above (start (read c) .args .l) []) (f .parent .shows) (c .merged .ensures);
       }
 
-abbrev left-written : tie.After-united → Image → Image
-left-written c X = put (read c .both .result .a .child) (page-cell (c .before .append .result)) X
+abbrev left-written : tie.After-merged → Image → Image
+left-written c X = put (read c .load-siblings .result .a .child) (page-cell (c .before .append .result)) X
 
 save-requires : tie.Need-save-requires
 save-requires c κs =
@@ -80,11 +80,11 @@ save-requires c κs =
           writable (joint at X h s .all) (omega (arith, s .1 .siblings .low)) (omega (arith, s .1 .few))),
     )
 
-abbrev made : tie.After-save → tie.After-united
+abbrev made : tie.After-save → tie.After-merged
 made c = c .before .before
 
-one : (c : tie.After-save) → Each (start (read (made c)) .args .img .now) (Ready (read (made c)))
-    (λ X. Holds (c .save .last .0) (left-written (made c) X))
+one : (c : tie.After-save) → Post (start (read (made c)) .args .img .now) (Ready (read (made c)))
+    (λ X. Encodes (c .save .last .0) (left-written (made c) X))
 one c = then (λ X h s. h) (left (read (made c))) (c .save .ensures)
 
 give-back-requires : tie.Need-give-back-requires
@@ -96,8 +96,8 @@ give-back-requires c κs =
 abbrev saved : tie.After-give-back → tie.After-save
 saved c = c .before .before .before .before
 
-two : (c : tie.After-give-back) → Each (start (read (made (saved c))) .args .img .now) (Ready (read (made (saved c))))
-    (λ X. Holds (c .give-back .last .0) (given-back (read (made (saved c)) .both .result .b .child) (left-written (made (saved c)) X)))
+two : (c : tie.After-give-back) → Post (start (read (made (saved c))) .args .img .now) (Ready (read (made (saved c))))
+    (λ X. Encodes (c .give-back .last .0) (given-back (read (made (saved c)) .load-siblings .result .b .child) (left-written (made (saved c)) X)))
 two c = then (one (saved c)) (λ X h s. givable-put (right (read (made (saved c))) X h s) _ _) (c .give-back .ensures)
 
 save-requires-2 : tie.Need-save-requires-2
@@ -105,7 +105,7 @@ save-requires-2 c κs =
     let second = c .before .before .before in
     let at = made (saved second) in
     let args = start (read at) .args in (
-      some-then (two second) (λ X h s. within-given (within-put (s .1 .siblings .parent .treed .within) _ _) _) (start (read at) .pre),
+      some-then (two second) (λ X h s. within-given (within-put (s .1 .siblings .parent .tree-page .within) _ _) _) (start (read at) .pre),
       from (start (read at) .pre)
           (λ X h s.
           above-writable (args .l) [] (entries X (args .p)) (joint at X h s .parent) (s .1 .siblings .low) (s .1 .siblings .parent .inside)
@@ -118,17 +118,17 @@ returns c X h v s =
     let second = three .before .before .before .before in
     let at = made (saved second) in
     let f = family (read at) X h (v, s) in
-    subst (Holds _) (merge-is (joint at X h (v, s)) (f .a) (f .b))
-    (then (two second) (λ X h s. within-given (within-put (s .1 .siblings .parent .treed .within) _ _) _) (three .save2 .ensures) X h
+    subst (Encodes _) (merge-is (joint at X h (v, s)) (f .a) (f .b))
+    (then (two second) (λ X h s. within-given (within-put (s .1 .siblings .parent .tree-page .within) _ _) _) (three .save2 .ensures) X h
     (v, s))
 
 pub merge-spec : {M : Type 1} → statement M
 merge-spec =
     tie.close
     (tie.spec
-    both-requires
+    load-siblings-requires
     append-requires
-    united-requires
+    merged-requires
     save-requires
     give-back-requires
     save-requires-2

@@ -2,9 +2,9 @@
 use mathlib.Core.Path.{ap}
 use mathlib.Core.List.{[], _∷_}
 use borrow.Author.Needs.{needs}
-use Rattle.page.specs.Decoded.{shown}
+use Rattle.page.specs.Decoded.{entry-list}
 use Rattle.lists.specs.Lists.{splice}
-use Rattle.edit.proofs.Edits.{shows-as}
+use Rattle.edit.proofs.Edits.{has-as}
 use Rattle.heal.specs.Siblings.{emptied}
 use Rattle.heal.proofs.parents.emptied.Statement.{statement}
 use Rattle.heal.proofs.parents.emptied.Tie as tie
@@ -12,7 +12,7 @@ use Rattle.heal.proofs.parents.emptied.Tie as tie
 returns : tie.Need-returns
 returns c =
     let args = c .before .before .args in
-    shows-as (c .replace .ensures) (ap (λ e. splice (args .i) (emptied (args .start) e ∷ []) (shown (args .page)))
+    has-as (c .replace .ensures) (ap (λ e. splice (args .i) (emptied (args .start) e ∷ []) (entry-list (args .page)))
     (c .before .entry-at .ensures))
 
 pub emptied-spec : {M : Type 1} → statement M

@@ -3,9 +3,9 @@ use mathlib.Core.List.{_++_}
 use borrow.Author.Needs.{needs}
 use native.Mathlib.Omega.{arith}
 use lib.ListN.{take, length-take}
-use Rattle.page.specs.Decoded.{shown}
+use Rattle.page.specs.Decoded.{entry-list}
 use Rattle.heal.proofs.Parts.{take-part}
-use Rattle.heal.proofs.Families.{part-number, part-joined}
+use Rattle.heal.proofs.Loaded.{part-len, part-joined}
 use Rattle.heal.proofs.part.first_part.Statement.{statement}
 use Rattle.heal.proofs.part.first_part.Tie as tie
 
@@ -13,9 +13,9 @@ append-requires : tie.Need-append-requires
 append-requires c κs =
     let least = c .before .before in
     let args = least .before .args in
-    let n = part-number take take-part (args .p) (args .q) (args .k) (least .lesser .ensures) (c .before .first-of .ensures)
+    let n = part-len take take-part (args .p) (args .q) (args .k) (least .lesser .ensures) (c .before .first-of .ensures)
     (c .first-of2 .ensures) in
-    omega (arith, n, length-take (args .k) (shown (args .p) ++ shown (args .q)))
+    omega (arith, n, length-take (args .k) (entry-list (args .p) ++ entry-list (args .q)))
 
 returns : tie.Need-returns
 returns c =

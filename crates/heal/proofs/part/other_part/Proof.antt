@@ -3,10 +3,10 @@ use mathlib.Core.List.{_++_}
 use borrow.Author.Needs.{needs}
 use native.Mathlib.Omega.{arith}
 use lib.ListN.{drop, length-append, length-drop}
-use Rattle.page.specs.Decoded.{shown}
+use Rattle.page.specs.Decoded.{entry-list}
 use Rattle.page.proofs.Laws.Decoded.{length-shown}
 use Rattle.heal.proofs.Parts.{drop-part}
-use Rattle.heal.proofs.Families.{part-number, part-joined}
+use Rattle.heal.proofs.Loaded.{part-len, part-joined}
 use Rattle.heal.proofs.part.other_part.Statement.{statement}
 use Rattle.heal.proofs.part.other_part.Tie as tie
 
@@ -14,10 +14,10 @@ append-requires : tie.Need-append-requires
 append-requires c κs =
     let least = c .before .before in
     let args = least .before .args in
-    let n = part-number drop drop-part (args .p) (args .q) (args .k) (least .lesser .ensures) (c .before .rest-of .ensures)
+    let n = part-len drop drop-part (args .p) (args .q) (args .k) (least .lesser .ensures) (c .before .rest-of .ensures)
     (c .rest-of2 .ensures) in
-    let all = length-drop (args .k) (shown (args .p) ++ shown (args .q)) in
-    omega (arith, n, length-append (shown (args .p)) (shown (args .q)), length-shown (args .p), length-shown (args .q))
+    let all = length-drop (args .k) (entry-list (args .p) ++ entry-list (args .q)) in
+    omega (arith, n, length-append (entry-list (args .p)) (entry-list (args .q)), length-shown (args .p), length-shown (args .q))
 
 returns : tie.Need-returns
 returns c =

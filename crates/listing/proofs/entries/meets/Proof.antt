@@ -22,5 +22,5 @@ meets-spec =
     tie.close
     (tie.spec (λ c κs. search needs)
     (λ c κs. omega (arith, known c))
-    (λ c κs. let l = known (c .before) in (l .size, (l .within, l .number)))
+    (λ c κs. let l = known (c .before) in (l .size, (l .within, l .len)))
     (λ c κs. search needs) returns)

@@ -2,7 +2,7 @@
 use mathlib.Core.Path.{ap}
 use borrow.Author.Needs.{needs}
 use Rattle.runs.specs.Open.{stepped-all}
-use Rattle.listing.specs.declared.Walked.the-variants.{Fit}
+use Rattle.listing.specs.declared.WalkAnswer.the-variants.{Fit}
 use Rattle.listing.specs.Walks.{answer}
 use Rattle.listing.proofs.leaves.run_met.Statement.{statement}
 use Rattle.listing.proofs.leaves.run_met.Tie as tie

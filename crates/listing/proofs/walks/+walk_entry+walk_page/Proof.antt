@@ -15,9 +15,9 @@ use Rattle.listing.proofs.walks.walk_page.Reads as walk-page
 use Rattle.listing.proofs.walks.walk_page.Kinds as walk-page-kinds
 use Rattle.listing.proofs.walks.+walk_entry+walk_page.Lts-walk_page as walk-page-lts
 use Rattle.listing.proofs.entries.meets.Reads as meets-reads
-use Rattle.listing.proofs.entries.spot_below.Reads as spot-below-reads
+use Rattle.listing.proofs.entries.cursor_below.Reads as cursor-below-reads
 use Rattle.listing.proofs.leaves.leaf_page.Reads as leaf-page-reads
-use Rattle.listing.proofs.pages.opened.Reads as opened-reads
+use Rattle.listing.proofs.pages.check_page.Reads as check-page-reads
 use Rattle.listing.proofs.walks.+walk_entry+walk_page.{statement}
 use Rattle.listing.proofs.walks.+walk_entry+walk_page.Tie.{close}
 
@@ -50,7 +50,7 @@ pub +walk-entry+walk-page-spec : {M : Type 1} → statement M
     close μ-walk-entry μ-walk-page
     (λ t.
     walk-entry-lts.spec
-    (meets-reads.Asked, meets-reads.Learnt, spot-below-reads.Asked, spot-below-reads.Learnt, walk-page-below t, walk-page.Post)
+    (meets-reads.Asked, meets-reads.Learnt, cursor-below-reads.Asked, cursor-below-reads.Learnt, walk-page-below t, walk-page.Post)
     (walk-entry-at t)
     walk-entry.Post
     -- meets-requires
@@ -59,7 +59,7 @@ pub +walk-entry+walk-page-spec : {M : Type 1} → statement M
     (λ c.
     let args = c .before .before .before .before .args in
     rw (entry-apart (args .img .now) (args .q) (args .on) (args .i) (c .before .meets .ensures) (c .if1 .taken)) (does-nothing _ _ _))
-    -- spot-below-requires
+    -- cursor-below-requires
     (λ c κs. let pre = c .before .before .before .before .before .pre .1 in (pre .0, (pre .1 .0, pre .1 .1 .0)))
     -- walk-page-requires
     (λ c κs.
@@ -67,8 +67,8 @@ pub +walk-entry+walk-page-spec : {M : Type 1} → statement M
     let start = test .before .before .before .before in
     let args = start .args in
     let pre = start .pre .1 in
-    let down = step-down (pre .0) (pre .1 .0) (c .spot-below .ensures) (pre .1 .1 .0) in
-    (omega (arith, down .1, start .pre .0), (down .0, rw (entry-inner (args .img .now) (args .q) (args .on) (args .i) (test .before .meets .ensures) (test .if1 .left) (pre .1 .1 .0) (c .spot-below .ensures)) at (pre .1 .1 .1))))
+    let down = step-down (pre .0) (pre .1 .0) (c .cursor-below .ensures) (pre .1 .1 .0) in
+    (omega (arith, down .1, start .pre .0), (down .0, rw (entry-inner (args .img .now) (args .q) (args .on) (args .i) (test .before .meets .ensures) (test .if1 .left) (pre .1 .1 .0) (c .cursor-below .ensures)) at (pre .1 .1 .1))))
     -- same-length
     (λ c. search needs)
     -- returns-2
@@ -78,23 +78,23 @@ pub +walk-entry+walk-page-spec : {M : Type 1} → statement M
     let test = down .before .before in
     let start = test .before .before .before .before in
     let args = start .args in
-    rw (entry-inner (args .img .now) (args .q) (args .on) (args .i) (test .before .meets .ensures) (test .if1 .left) (start .pre .1 .1 .1 .0) (down .spot-below .ensures)) (call .walk-page .ensures)))
+    rw (entry-inner (args .img .now) (args .q) (args .on) (args .i) (test .before .meets .ensures) (test .if1 .left) (start .pre .1 .1 .1 .0) (down .cursor-below .ensures)) (call .walk-page .ensures)))
     λ t. walk-page-lts.spec
-    (opened-reads.Asked, opened-reads.Learnt, leaf-page-reads.Asked, leaf-page-reads.Learnt, walk-entry-below t, walk-entry.Post)
+    (check-page-reads.Asked, check-page-reads.Learnt, leaf-page-reads.Asked, leaf-page-reads.Learnt, walk-entry-below t, walk-entry.Post)
     (walk-page-at t)
     walk-page.Post walk-page-Inv-loop walk-page-μ-loop
-    -- opened-requires
+    -- check-page-requires
     (λ c κs. let pre = c .before .before .pre .1 in (pre .0, room-known _ _ _ (pre .1)))
     -- enum-known-n, enum-told
     (λ c. search needs) (λ c. search needs)
     -- returns
-    (λ c. rw (opened-unfit _ _ _ (sym (c .enum-told .given .1) ∙ c .before .before .opened .ensures)) (does-stopped _ _ _))
+    (λ c. rw (opened-unfit _ _ _ (sym (c .enum-told .given .1) ∙ c .before .before .check-page .ensures)) (does-stopped _ _ _))
     -- leaf-page-requires
     (λ c κs.
     let told = c .before .before .before .before in
     let test = told .before .before in
     let pre = test .before .before .before .pre .1 in
-    (pre .0, (sym (told .n .given .1) ∙ test .opened .ensures, (c .before .if1 .taken, pre .1))))
+    (pre .0, (sym (told .n .given .1) ∙ test .check-page .ensures, (c .before .if1 .taken, pre .1))))
     -- same-length
     (λ c. search needs)
     -- returns-2
@@ -103,7 +103,7 @@ pub +walk-entry+walk-page-spec : {M : Type 1} → statement M
     (λ c.
     let told = c .before .before .before in
     let test = told .before .before in
-    turning-none _ _ _ (sym (told .n .given .1) ∙ test .opened .ensures) (test .before .before .before .pre .1 .1))
+    turning-none _ _ _ (sym (told .n .given .1) ∙ test .check-page .ensures) (test .before .before .before .pre .1 .1))
     -- walk-entry-requires
     (λ c κs.
     let loop = c .before .before in

@@ -2,7 +2,7 @@
 use Prim.Native.Nat.{_-_, _≤_, _<_}
 use native.Mathlib.Omega.{arith}
 use Rattle.page.specs.Layout.{start-at}
-use Rattle.lookup.proofs.Laws.Finds.{searched-place}
+use Rattle.lookup.proofs.Laws.Finds.{searched-index}
 use Rattle.lookup.proofs.find.find.Statement.{statement}
 use Rattle.lookup.proofs.find.find.Tie as tie
 
@@ -18,12 +18,12 @@ loop-again c = (omega arith, omega (arith, c .before .start-at .ensures, c .if1 
 returns : tie.Need-returns Inv-loop μ-loop
 returns c =
     let loop = c .before .before .before .loop in
-    searched-place (c .before .before .before .before .before .pre) (loop .i) (loop .inv .0) (loop .inv .1) (λ l. omega (arith, c .before .start-at .ensures, c .if1 .taken))
+    searched-index (c .before .before .before .before .before .pre) (loop .i) (loop .inv .0) (loop .inv .1) (λ l. omega (arith, c .before .start-at .ensures, c .if1 .taken))
 
 returns-2 : tie.Need-returns-2 Inv-loop μ-loop
 returns-2 c =
     let loop = c .before .loop in
-    searched-place (c .before .before .before .pre) (loop .i) (loop .inv .0) (loop .inv .1) (λ l. absurd (omega (arith, c .loop-test .left)))
+    searched-index (c .before .before .before .pre) (loop .i) (loop .inv .0) (loop .inv .1) (λ l. absurd (omega (arith, c .loop-test .left)))
 
 pub find-spec : {M : Type 1} → statement M
 find-spec =

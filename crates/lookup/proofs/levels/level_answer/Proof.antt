@@ -2,7 +2,7 @@
 use mathlib.Core.Path.{ap, _∙_}
 use lib.ListN.{length}
 use borrow.Author.Needs.{needs}
-use Rattle.lent.proofs.Laws.{page-length}
+use Rattle.access.proofs.Laws.{page-length}
 use Rattle.lookup.specs.Levels.{level-answer}
 use Rattle.lookup.proofs.levels.level_answer.Statement.{statement}
 use Rattle.lookup.proofs.levels.level_answer.Tie as tie

@@ -7,7 +7,7 @@ use borrow.Author.Needs.{needs}
 use borrow.Author.Tests.{not-true, not-false}
 use Rattle.page.specs.Fit.{page-fit}
 use Rattle.fit.proofs.Laws.Pages.{PageFit, page-fit-is, entry-first}
-use Rattle.page.proofs.Laws.Places.{place-within}
+use Rattle.page.proofs.Laws.Indices.{index-within}
 use Rattle.lookup.proofs.Laws.Levels.{level-unfit, level-found, fit-searched}
 use Rattle.lookup.proofs.levels.page_answer.Statement.{statement}
 use Rattle.lookup.proofs.levels.page_answer.Tie as tie
@@ -23,7 +23,7 @@ within : (c : tie.After-find) → c .find .result < 24
 within c =
     let args = c .before .before .before .before .before .args in
     let page = fit (c .before .before) in
-    omega (arith, c .find .ensures, place-within 12 (args .s .now) (args .t) (page .most) (entry-first page (omega arith)), page .most)
+    omega (arith, c .find .ensures, index-within 12 (args .s .now) (args .t) (page .most) (entry-first page (omega arith)), page .most)
 
 returns : tie.Need-returns
 returns c = level-unfit _ _ _ _ _ (sym (c .before .page-fit .ensures) ∙ not-true _ (c .if1 .taken))
@@ -31,7 +31,7 @@ returns c = level-unfit _ _ _ _ _ (sym (c .before .page-fit .ensures) ∙ not-tr
 find-requires : tie.Need-find-requires
 find-requires c κs =
     let start = c .before .before .before .before in
-    fit-searched (fit (c .before)) (start .pre .0) (c .number-of .ensures) (start .pre .1 .begun)
+    fit-searched (fit (c .before)) (start .pre .0) (c .entry-count .ensures) (start .pre .1 .begun)
 
 returns-2 : tie.Need-returns-2
 returns-2 c =

@@ -4,12 +4,12 @@ use mathlib.Core.Bool.{false}
 use Prim.Native.Nat.{_+_}
 use native.Mathlib.Omega.{arith}
 use borrow.Author.Needs.{needs}
-use Rattle.page.specs.Fit.{Place, place-below, page-fit}
+use Rattle.page.specs.Fit.{Page-context, context-below, page-fit}
 use Rattle.image.specs.Images.{page-at}
-use Rattle.lookup.specs.Answers.{looked}
-use Rattle.lookup.specs.declared.Looked.the-variants.{Answered}
+use Rattle.lookup.specs.Answers.{lookup-of}
+use Rattle.lookup.specs.declared.LookupAnswer.the-variants.{Answered}
 use Rattle.lookup.proofs.Laws.Levels.{Found, unfit-level, found-level}
-use Rattle.lent.proofs.Laws.{opened-ranges}
+use Rattle.access.proofs.Laws.{opened-ranges}
 use Rattle.lookup.proofs.Laws.Walks.{Walk, walk-root, walk-within, walk-met, walk-unfit, walk-number, walk-combinable, walk-leaf, walk-below}
 use Rattle.lookup.proofs.look_up.look_up.Statement.{statement}
 use Rattle.lookup.proofs.look_up.look_up.Tie as tie
@@ -29,7 +29,7 @@ unfit : (c : tie.After-enum-told Inv-loop μ-loop) → page-fit 12 (c .before .b
 unfit c = unfit-level _ _ _ (c .before .before .before .before .before .before .args .t) _ (sym (c .enum-told .given .1) ∙ c .before .before .level-answer .ensures)
 
 loop-holds : tie.Need-loop-holds Inv-loop μ-loop
-loop-holds c = rw (c .root-place .ensures) (walk-root (c .before .before .pre) (c .before .before .args .t))
+loop-holds c = rw (c .root-context .ensures) (walk-root (c .before .before .pre) (c .before .before .args .t))
 
 level-answer-requires : tie.Need-level-answer-requires Inv-loop μ-loop
 level-answer-requires c κs =
@@ -50,7 +50,7 @@ returns-2 : tie.Need-returns-2 Inv-loop μ-loop
 returns-2 c =
     let found = c .before .before .before .before in
     let loop = found .before .before .before in
-    ap (λ pair. looked (Answered pair (loop .loop .pages + 1))) (c .before .before .combine .ensures)
+    ap (λ pair. lookup-of (Answered pair (loop .loop .pages + 1))) (c .before .before .combine .ensures)
     ∙ walk-leaf (loop .before .before .before .pre) (loop .loop .inv) (entry found) (c .if1 .taken)
 
 below-requires : tie.Need-below-requires Inv-loop μ-loop
@@ -61,8 +61,8 @@ below-requires c κs =
     (walk-within o (loop .loop .inv), (walk-number o (loop .loop .inv) (entry found), (omega (arith, c .if1 .left), walk-met o (loop .loop .inv) .bounded)))
 
 loop-less : tie.Need-loop-less Inv-loop μ-loop
-unfolding place-below
-loop-less c = omega (arith, ap (λ (at : Place). at .level) (c .below .ensures), c .before .if1 .left)
+unfolding context-below
+loop-less c = omega (arith, ap (λ (at : Page-context). at .level) (c .below .ensures), c .before .if1 .left)
 
 loop-again : tie.Need-loop-again Inv-loop μ-loop
 loop-again c =
@@ -78,7 +78,7 @@ look-up-spec =
     (λ c κs. opened-ranges (c .before .pre) .height-least)
     loop-holds
     level-answer-requires
-    (λ c. omega (arith, c .before .loop .inv .way .level))
+    (λ c. omega (arith, c .before .loop .inv .path .level))
     (λ c. search needs)
     (λ c. search needs)
     returns

@@ -24,7 +24,7 @@ unfolding pages-in cleared borrowed
 returns-3 c =
     let filled = c .before .before .before .before in
     let room = filled .before .before in
-    ap (λ s. record { number = 0; scratch = s }) (filled .fill .ensures)
+    ap (λ s. record { status = 0; scratch = s }) (filled .fill .ensures)
     ∙ audit-0 _ _ (fits (room .before)) (room .if2 .left) (sym (c .before .sound .ensures) ∙ c .if3 .taken)
 
 returns-4 : tie.Need-returns-4
@@ -32,7 +32,7 @@ unfolding pages-in cleared borrowed
 returns-4 c =
     let filled = c .before .before .before .before in
     let room = filled .before .before in
-    ap (λ s. record { number = 21; scratch = s }) (filled .fill .ensures)
+    ap (λ s. record { status = 21; scratch = s }) (filled .fill .ensures)
     ∙ audit-21 _ _ (fits (room .before)) (room .if2 .left) (sym (c .before .sound .ensures) ∙ c .if3 .left)
 
 pub luw-audit-spec : {M : Type 1} → statement M

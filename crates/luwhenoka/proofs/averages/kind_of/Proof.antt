@@ -5,13 +5,13 @@ use lib.ListN.{length}
 use Rattle.page.specs.declared.Head.{Head}
 use Rattle.page.specs.Layout.{head-of}
 use Rattle.calls.specs.Calls.{head}
-use Rattle.lent.specs.Opened.{Within}
+use Rattle.access.specs.Access.{Page-in}
 use Rattle.image.proofs.Sizes.{sized}
-use Rattle.lent.proofs.Laws.{page-length}
+use Rattle.access.proofs.Laws.{page-length}
 use Rattle.luwhenoka.proofs.averages.kind_of.Statement.{statement}
 use Rattle.luwhenoka.proofs.averages.kind_of.Tie as tie
 
-within : (c : tie.After-shared-slice-known) → Within (c .before .args .img .now) 0
+within : (c : tie.After-shared-slice-known) → Page-in (c .before .args .img .now) 0
 within c =
     let z = sized 12 _ (c .before .pre) in
     omega (arith, z .size, z .least)

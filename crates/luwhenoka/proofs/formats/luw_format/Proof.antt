@@ -31,7 +31,7 @@ returns-3 : tie.Need-returns-3
 returns-3 c =
     let wrote = c .before .before in
     let test = wrote .before .before in
-    ap (λ s. record { number = 0; image = s }) (wrote .write-fresh .ensures)
+    ap (λ s. record { status = 0; image = s }) (wrote .write-fresh .ensures)
     ∙ format-0 _ _ _ (fits (test .before)) (named (test .before .before) ∙ not-false _ (test .if2 .left))
 
 pub luw-format-spec : {M : Type 1} → statement M

@@ -8,9 +8,9 @@ use borrow.Author.Tests.{not-true, not-false}
 use Rattle.rule.specs.Time.{END}
 use Rattle.image.specs.Images.{length-ok}
 use Rattle.calls.specs.Calls.{head-ok}
-use Rattle.lent.specs.Opened.{Opened}
-use Rattle.lent.proofs.Laws.{opened, shut}
-use Rattle.lookup.specs.Answers.{looked}
+use Rattle.access.specs.Access.{Open-image}
+use Rattle.access.proofs.Laws.{opened, shut}
+use Rattle.lookup.specs.Answers.{lookup-of}
 use Rattle.luwhenoka.specs.Answers.{instant-answer}
 use Rattle.luwhenoka.proofs.Laws.Instants.{instant-16, instant-12, instant-head, instant-21, instant-0}
 use Rattle.luwhenoka.proofs.instants.luw_instant.Statement.{statement}
@@ -29,7 +29,7 @@ fits c = sym (c .before .length-fits .ensures) ∙ not-false _ (c .if1 .left)
 before-end : (c : tie.Else2) → began (c .before) .args .t < END
 before-end c = omega (arith, c .if2 .left)
 
-headed : (c : tie.After-h) → Opened (began (sized c) .args .img .now) (c .h .given .0 .0)
+headed : (c : tie.After-h) → Open-image (began (sized c) .args .img .now) (c .h .given .0 .0)
 headed c = opened _ (fits (sized c)) (sym (c .h .given .1) ∙ c .before .before .open-head .ensures)
 
 head-fits : (c : tie.After-h) → head-ok 12 (began (sized c) .args .img .now) ≡ true
@@ -55,7 +55,7 @@ returns-3 c =
     (shut _ (sym (told .enum-told .given .1) ∙ read .open-head .ensures)))
 
 returns-4 : tie.Need-returns-4
-unfolding looked
+unfolding lookup-of
 returns-4 c =
     let found = c .before .before in
     let look = found .before .before in
@@ -64,10 +64,10 @@ returns-4 c =
     c .accepted .ensures
     ∙ ap instant-answer
     (instant-0 _ _ (fits (end .before)) (before-end end) (head-fits head)
-    (ap looked (sym (found .pair .given .1)) ∙ look .look-up .ensures))
+    (ap lookup-of (sym (found .pair .given .1)) ∙ look .look-up .ensures))
 
 returns-5 : tie.Need-returns-5
-unfolding looked
+unfolding lookup-of
 returns-5 c =
     let found = c .before .before in
     let look = found .before .before in
@@ -76,7 +76,7 @@ returns-5 c =
     c .refused4 .ensures
     ∙ ap instant-answer
     (instant-21 _ _ (fits (end .before)) (before-end end) (head-fits head)
-    (ap looked (sym (found .pages .given .1)) ∙ look .look-up .ensures))
+    (ap lookup-of (sym (found .pages .given .1)) ∙ look .look-up .ensures))
 
 pub luw-instant-spec : {M : Type 1} → statement M
 luw-instant-spec =

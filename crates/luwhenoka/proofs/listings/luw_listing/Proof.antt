@@ -9,8 +9,8 @@ use borrow.Author.Tests.{not-true, not-false}
 use Rattle.rule.specs.Time.{END}
 use Rattle.image.specs.Images.{length-ok}
 use Rattle.calls.specs.Calls.{head-ok, runs-over, written}
-use Rattle.lent.specs.Opened.{Opened}
-use Rattle.lent.proofs.Laws.{opened, shut}
+use Rattle.access.specs.Access.{Open-image}
+use Rattle.access.proofs.Laws.{opened, shut}
 use Rattle.luwhenoka.specs.Answers.{listed}
 use Rattle.luwhenoka.specs.declared.ListingAnswer.{ListingAnswer}
 use Rattle.luwhenoka.proofs.Laws.Listings.{Counted-as, counted, uncounted, listing-16, listing-11, listing-head, listing-21, listing-15, listing-0}
@@ -18,10 +18,10 @@ use Rattle.luwhenoka.proofs.listings.luw_listing.Statement.{statement}
 use Rattle.luwhenoka.proofs.listings.luw_listing.Tie as tie
 
 -- what was refused, with the output as it was
-kept : {r : ListingAnswer} (n : ℕ) (out : List ℕ) → r ≡ record { number = n; runs = 0 }
-    → listed r out ≡ record { number = n; runs = 0; output = out }
+kept : {r : ListingAnswer} (n : ℕ) (out : List ℕ) → r ≡ record { status = n; runs = 0 }
+    → listed r out ≡ record { status = n; runs = 0; output = out }
 unfolding listed
-kept n out e = ap (λ (r : ListingAnswer). record { number = r .number; runs = r .runs; output = out }) e
+kept n out e = ap (λ (r : ListingAnswer). record { status = r .status; runs = r .runs; output = out }) e
 
 -- where the length had been found to fit, and the call's own start
 abbrev sized : tie.After-h → tie.Else1
@@ -37,7 +37,7 @@ ends c = omega (arith, began (c .before) .fits .b)
 fits : (c : tie.Else1) → length-ok 12 (began c .args .img .now) ≡ true
 fits c = sym (c .before .length-fits .ensures) ∙ not-false _ (c .if1 .left)
 
-headed : (c : tie.After-h) → Opened (began (sized c) .args .img .now) (c .h .given .0 .0)
+headed : (c : tie.After-h) → Open-image (began (sized c) .args .img .now) (c .h .given .0 .0)
 headed c = opened _ (fits (sized c)) (sym (c .h .given .1) ∙ c .before .before .open-head .ensures)
 
 head-fits : (c : tie.After-h) → head-ok 12 (began (sized c) .args .img .now) ≡ true
@@ -88,7 +88,7 @@ returns-5 c =
     let n = passed runs in
     kept 15 _ (c .refused5 .ensures)
     ∙ listing-15 _ _ _ _ (fits (span .before)) (span .if2 .left) (ends span) (head-fits head) (n .fit)
-    (omega (arith, n .number, test .if3 .taken))
+    (omega (arith, n .status, test .if3 .taken))
 
 write-runs-requires : tie.Need-write-runs-requires
 unfolding runs-over
@@ -96,7 +96,7 @@ write-runs-requires c κs =
     let test = c .before in
     let runs = test .before .before in
     let n = passed runs in
-    (headed (runs .before .before .before .before), (n .fit, omega (arith, n .number, test .if3 .left)))
+    (headed (runs .before .before .before .before), (n .fit, omega (arith, n .status, test .if3 .left)))
 
 returns-6 : tie.Need-returns-6
 unfolding listed written runs-over
@@ -107,9 +107,9 @@ returns-6 c =
     let head = runs .before .before .before .before in
     let span = head .before .before .before in
     let n = passed runs in
-    (λ j. record { number = 0; runs = n .number j; output = wrote .write-runs .ensures j })
+    (λ j. record { status = 0; runs = n .status j; output = wrote .write-runs .ensures j })
     ∙ listing-0 _ _ _ _ (fits (span .before)) (span .if2 .left) (ends span) (head-fits head) (n .fit)
-    (omega (arith, n .number, test .if3 .left))
+    (omega (arith, n .status, test .if3 .left))
 
 pub luw-listing-spec : {M : Type 1} → statement M
 luw-listing-spec =

@@ -1,4 +1,4 @@
--- `page::heads::read_head` meets its contract: each number is read at its place. Assumes nothing.
+-- `page::heads::read_head` meets its contract: each number is read at its offset. Assumes nothing.
 use native.Mathlib.Omega.{arith}
 use Rattle.page.specs.Layout.{head-of}
 use Rattle.page.proofs.heads.read_head.Statement.{statement}

@@ -6,14 +6,14 @@ use native.Mathlib.Omega.{arith}
 use lib.IntN.{ℤ, pos}
 use mir.Syntax.{w32, w64}
 use Rattle.page.specs.Layout.{start-at, pair-at, child-at, entry-at}
-use Rattle.page.specs.Decoded.{shown-at}
+use Rattle.page.specs.Decoded.{slot-at}
 use Rattle.page.proofs.Laws.Signed.{result-is}
 use Rattle.page.proofs.Laws.Filled.{Filled, filled-none, filled-more}
 use Rattle.page.proofs.Laws.Decoded.{shown-entries}
 use Rattle.page.proofs.read.read_page.Statement.{statement}
 use Rattle.page.proofs.read.read_page.Tie as tie
 
--- what the four arrays have once i places are read
+-- what the four arrays have once i slots are read
 record Got (s : List ℕ) (i : ℕ) (ts : List ℕ) (us vs : List ℤ) (ws : List ℕ) : Type 0 where
   within : i ≤ 24
   starts : Filled 25 0 (λ j. start-at s j) i ts
@@ -57,15 +57,15 @@ loop-again c =
     }
 
 returns : tie.Need-returns Inv-loop μ-loop
-unfolding shown-at entry-at
+unfolding slot-at entry-at
 returns c =
     let at = c .before .before .before in
     let s : List ℕ = at .before .before .args .s .now in
     let g = at .loop .inv in
     record {
       level = c .before .level-of .ensures;
-      number = c .number-of .ensures;
-      entries = shown-entries _ s (c .number-of .ensures) (λ i h.
+      len = c .entry-count .ensures;
+      entries = shown-entries _ s (c .entry-count .ensures) (λ i h.
           let l : i < at .loop .i = omega arith in
           λ j. record {
             start = g .starts .holds i l j;

@@ -13,7 +13,7 @@ use Rattle.page.specs.Entries.{entry}
 use Rattle.page.specs.declared.Page.{Page}
 use Rattle.lists.specs.Lists.{listed}
 use Rattle.page.specs.Layout.{with-entry}
-use Rattle.page.specs.Decoded.{shown-at, shown}
+use Rattle.page.specs.Decoded.{slot-at, entry-list}
 use Rattle.page.proofs.Laws.Signed.{result-is}
 use Rattle.page.proofs.Laws.Trees.{page-bytes, page-none, page-listed-more, page-listed}
 use Rattle.page.proofs.write.write_page.Statement.{statement}
@@ -21,9 +21,9 @@ use Rattle.page.proofs.write.write_page.Tie as tie
 
 -- the page once i entries are written
 record Written (p : Page) (i : ℕ) (s : List ℕ) : Type 0 where
-  within : i ≤ p .number
+  within : i ≤ p .len
   size : length s ≡ 512
-  bytes : s ≡ page-bytes 12 (p .level) (p .number) (listed i (λ j. shown-at p j))
+  bytes : s ≡ page-bytes 12 (p .level) (p .len) (listed i (λ j. slot-at p j))
 
 abbrev Inv-loop : tie.InvT-loop
 Inv-loop s₀ p number i₀ s i = Written p i s
@@ -35,7 +35,7 @@ loop-holds : tie.Need-loop-holds Inv-loop μ-loop
 unfolding listed
 loop-holds c =
     let p = c .before .before .before .before .before .args .t2 in
-    record { within = omega arith; size = omega arith; bytes = c .before .before .write-blank .ensures ∙ sym (page-none 12 (p .level) (p .number)) }
+    record { within = omega arith; size = omega arith; bytes = c .before .before .write-blank .ensures ∙ sym (page-none 12 (p .level) (p .len)) }
 
 -- an entry's signed numbers are copied as their bits
 step : (p : Page) (i : ℕ) {s t : List ℕ} → i < 24 → mag (getD (p .sums) i (pos 0)) < 2 ^ hbits w64 → mag (getD (p .counts) i (pos 0)) < 2 ^ hbits w32
@@ -45,13 +45,13 @@ step : (p : Page) (i : ℕ) {s t : List ℕ} → i < 24 → mag (getD (p .sums) 
     (record { sum = toZ w64 (ofZ w64 (getD (p .sums) i (pos 0))); count = toZ w32 (ofZ w32 (getD (p .counts) i (pos 0))) })
     (getD (p .children) i 0))
     s
-    → s ≡ page-bytes 12 (p .level) (p .number) (listed i (λ j. shown-at p j))
-    → t ≡ page-bytes 12 (p .level) (p .number) (listed (i + 1) (λ j. shown-at p j))
-unfolding shown-at
+    → s ≡ page-bytes 12 (p .level) (p .len) (listed i (λ j. slot-at p j))
+    → t ≡ page-bytes 12 (p .level) (p .len) (listed (i + 1) (λ j. slot-at p j))
+unfolding slot-at
 step p i h a b e f =
     let sum : toZ w64 (ofZ w64 (getD (p .sums) i (pos 0))) ≡ getD (p .sums) i (pos 0) = result-is w64 a refl in
     let count : toZ w32 (ofZ w32 (getD (p .counts) i (pos 0))) ≡ getD (p .counts) i (pos 0) = result-is w32 b refl in
-    page-listed-more 12 (p .level) (p .number) i (λ j. shown-at p j) h e
+    page-listed-more 12 (p .level) (p .len) i (λ j. slot-at p j) h e
     (λ j. entry (getD (p .starts) i 0) (record { sum = sum j; count = count j }) (getD (p .children) i 0)) f
 
 loop-again : tie.Need-loop-again Inv-loop μ-loop
@@ -71,14 +71,14 @@ same-length : tie.Need-same-length Inv-loop μ-loop
 same-length c = omega arith
 
 returns : tie.Need-returns Inv-loop μ-loop
-unfolding shown
+unfolding entry-list
 returns c =
     let at = c .before in
     let p = at .before .before .before .before .before .before .args .t2 in
-    let e : at .loop .i ≡ p .number = omega arith in
+    let e : at .loop .i ≡ p .len = omega arith in
     at .loop .inv .bytes
-    ∙ ap (λ k. page-bytes 12 (p .level) (p .number) (listed k (λ j. shown-at p j))) e
-    ∙ page-listed 12 (p .level) (p .number) (λ j. shown-at p j)
+    ∙ ap (λ k. page-bytes 12 (p .level) (p .len) (listed k (λ j. slot-at p j))) e
+    ∙ page-listed 12 (p .level) (p .len) (λ j. slot-at p j)
 
 pub write-page-spec : {M : Type 1} → statement M
 write-page-spec =

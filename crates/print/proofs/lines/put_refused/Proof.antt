@@ -25,7 +25,7 @@ behind-which : (c : tie.After-put-decimal2) → c .put-decimal2 .result + 1 ≤ 
 behind-which c =
     let refused = c .before .before .before .before in
     let line = refused .before .before .before .before .before .before .before .before .before in
-    put-room 20 1 (c .put-decimal2 .ensures) (length-decimal (line .before .before .before .before .args .number)) (behind-refused refused)
+    put-room 20 1 (c .put-decimal2 .ensures) (length-decimal (line .before .before .before .before .args .status)) (behind-refused refused)
 
 returns : tie.Need-returns
 unfolding refused-text

@@ -43,7 +43,7 @@ pub +put-decimal-spec : {M : Type 1} → statement M
     (λ c κs.
     let others = c .before .before .before in
     let before = length-before _ (others .before .before .if1 .left) (omega arith) in
-    omega (arith, others .put-decimal .ensures .place, others .put-decimal .kept .0))
+    omega (arith, others .put-decimal .ensures .offset, others .put-decimal .kept .0))
     (λ c. search needs)
     -- returns-2
     (λ c.

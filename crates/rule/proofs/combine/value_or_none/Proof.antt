@@ -13,8 +13,8 @@ use Rattle.rule.proofs.combine.value_or_none.Tie as tie
 is-none-requires : tie.Need-is-none-requires
 is-none-requires c κs = search needs
 
-in-range-requires : tie.Need-in-range-requires
-in-range-requires c κs = search needs
+value-ok-requires : tie.Need-value-ok-requires
+value-ok-requires c κs = search needs
 
 returns : tie.Need-returns
 unfolding value-or-none
@@ -23,7 +23,7 @@ returns c =
     let n : SFits w32 (s .args .p .count) = search needs in
     let v : SFits w64 (s .args .p .sum) = search needs in
     ap₂ _||_ (c .before .before .before .before .is-none .ensures)
-    (ap₂ _&&_ (rw (toZ-ofZ v) at (c .before .before .in-range .ensures)) (same-bits w32 n (sfits-lit tt)))
+    (ap₂ _&&_ (rw (toZ-ofZ v) at (c .before .before .value-ok .ensures)) (same-bits w32 n (sfits-lit tt)))
 
 pub value-or-none-spec : {M : Type 1} → statement M
-value-or-none-spec = tie.close (tie.spec is-none-requires in-range-requires returns)
+value-or-none-spec = tie.close (tie.spec is-none-requires value-ok-requires returns)

@@ -10,11 +10,11 @@ entry-at-requires c κs =
     let pre = c .before .before .pre in
     let k = pre .ready .1 in
     let same = c .page-at .ensures in
-    (lent-size (pre .holds) (k .treed) same, omega (arith, k .inside, lent-read (pre .holds) (k .treed) same .few))
+    (lent-size (pre .holds) (k .tree-page) same, omega (arith, k .inside, lent-read (pre .holds) (k .tree-page) same .few))
 
 returns : tie.Need-returns
-returns c X h l k = c .entry-at .ensures ∙ lent-entry h (k .treed) (c .before .page-at .ensures) _ (k .inside)
+returns c X h l k = c .entry-at .ensures ∙ lent-entry h (k .tree-page) (c .before .page-at .ensures) _ (k .inside)
 
 pub entry-of-spec : {M : Type 1} → statement M
 entry-of-spec =
-    tie.close (tie.spec (λ c κs. let pre = c .before .pre in lent-within (pre .holds) (pre .ready .1 .treed)) entry-at-requires returns)
+    tie.close (tie.spec (λ c κs. let pre = c .before .pre in lent-within (pre .holds) (pre .ready .1 .tree-page)) entry-at-requires returns)

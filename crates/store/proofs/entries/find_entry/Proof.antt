@@ -5,29 +5,29 @@ use Rattle.store.proofs.entries.find_entry.Statement.{statement}
 use Rattle.store.proofs.entries.find_entry.Tie as tie
 
 page-at-requires : tie.Need-page-at-requires
-page-at-requires c κs = let pre = c .before .pre in lent-within (pre .holds) (pre .ready .1 .treed)
+page-at-requires c κs = let pre = c .before .pre in lent-within (pre .holds) (pre .ready .1 .tree-page)
 
-number-of-requires : tie.Need-number-of-requires
-number-of-requires c κs = let pre = c .before .before .pre in lent-size (pre .holds) (pre .ready .1 .treed) (c .page-at .ensures)
+entry-count-requires : tie.Need-entry-count-requires
+entry-count-requires c κs = let pre = c .before .before .pre in lent-size (pre .holds) (pre .ready .1 .tree-page) (c .page-at .ensures)
 
 find-requires : tie.Need-find-requires
 find-requires c κs =
     let lent = c .before in
     let pre = lent .before .before .pre in
-    lent-searched (pre .holds) (pre .ready .1) (lent .page-at .ensures) (c .number-of .ensures)
+    lent-searched (pre .holds) (pre .ready .1) (lent .page-at .ensures) (c .entry-count .ensures)
 
 entry-at-requires : tie.Need-entry-at-requires
 entry-at-requires c κs =
     let lent = c .before .before in
     let pre = lent .before .before .pre in
     let same = lent .page-at .ensures in
-    (lent-size (pre .holds) (pre .ready .1 .treed) same, lent-inside (pre .holds) (pre .ready .1) same (c .find .ensures))
+    (lent-size (pre .holds) (pre .ready .1 .tree-page) same, lent-inside (pre .holds) (pre .ready .1) same (c .find .ensures))
 
 returns : tie.Need-returns
 returns c X h l k =
     let found = c .before in
     let counted = found .before in
-    lent-found h k (counted .before .page-at .ensures) (counted .number-of .ensures) (found .find .ensures) (c .entry-at .ensures)
+    lent-found h k (counted .before .page-at .ensures) (counted .entry-count .ensures) (found .find .ensures) (c .entry-at .ensures)
 
 pub find-entry-spec : {M : Type 1} → statement M
-find-entry-spec = tie.close (tie.spec page-at-requires number-of-requires (λ c. search needs) find-requires entry-at-requires returns)
+find-entry-spec = tie.close (tie.spec page-at-requires entry-count-requires (λ c. search needs) find-requires entry-at-requires returns)

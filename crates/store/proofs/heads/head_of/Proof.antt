@@ -4,8 +4,8 @@ use native.Mathlib.Omega.{arith}
 use lib.ListN.{length}
 use Rattle.page.specs.Layout.{head-of}
 use Rattle.image.specs.Images.{page-at}
-use Rattle.lent.proofs.Laws.{page-length}
-use Rattle.store.proofs.Holding.{holds-length, holds-head}
+use Rattle.access.proofs.Laws.{page-length}
+use Rattle.store.proofs.Encoding.{holds-length, holds-head}
 use Rattle.store.proofs.heads.head_of.Statement.{statement}
 use Rattle.store.proofs.heads.head_of.Tie as tie
 

@@ -1,7 +1,7 @@
 -- `store::heads::set_head` meets its contract: the head's bytes are patched into the image. Assumes nothing.
 use native.Mathlib.Omega.{arith}
 use Rattle.page.specs.Widths.{Head-fits}
-use Rattle.store.proofs.Holding.{holds-length, holds-with-head}
+use Rattle.store.proofs.Encoding.{holds-length, holds-with-head}
 use Rattle.store.proofs.heads.set_head.Statement.{statement}
 use Rattle.store.proofs.heads.set_head.Tie as tie
 

@@ -4,7 +4,7 @@ use mathlib.Core.List.{List}
 use Prim.Native.Nat.{ℕ}
 use Rattle.page.specs.Decoded.{Read}
 use Rattle.image.specs.Images.{page-at}
-use Rattle.store.proofs.Holding.{some-long, some-size, holds-tree}
+use Rattle.store.proofs.Encoding.{some-long, some-size, holds-tree}
 use Rattle.store.proofs.pages.load.Statement.{statement}
 use Rattle.store.proofs.pages.load.Tie as tie
 

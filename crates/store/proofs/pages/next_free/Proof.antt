@@ -2,7 +2,7 @@
 use mathlib.Core.Path.{ap, _∙_}
 use Rattle.page.specs.Layout.{next-of}
 use Rattle.image.specs.Images.{page-at}
-use Rattle.store.proofs.Holding.{some-long, some-size, holds-next}
+use Rattle.store.proofs.Encoding.{some-long, some-size, holds-next}
 use Rattle.store.proofs.pages.next_free.Statement.{statement}
 use Rattle.store.proofs.pages.next_free.Tie as tie
 

@@ -1,10 +1,10 @@
 -- `store::pages::save` meets its contract: the struct's numbers have their widths, so the tree page is read back. Assumes nothing.
 use native.Mathlib.Omega.{arith}
-use Rattle.page.specs.Decoded.{shown}
+use Rattle.page.specs.Decoded.{entry-list}
 use Rattle.page.proofs.Laws.Decoded.{length-shown}
 use Rattle.image.specs.Images.{tree, cell-bytes}
-use Rattle.image.proofs.Cells.{kept-tree}
-use Rattle.store.proofs.Holding.{some-long, holds-put}
+use Rattle.image.proofs.Cells.{canonical-tree}
+use Rattle.store.proofs.Encoding.{some-long, holds-put}
 use Rattle.store.proofs.Widths.{shown-fits}
 use Rattle.store.proofs.pages.save.Statement.{statement}
 use Rattle.store.proofs.pages.save.Tie as tie
@@ -16,8 +16,8 @@ returns c X h w =
     let start = written .before .before .before in
     let page = start .args .page in
     let n = length-shown page in
-    holds-put h (tree (page .level) (shown page)) w
-    (kept-tree 12 (page .level) (shown page) (omega arith) (omega arith) (omega arith) (shown-fits page _ (start .good .1 .1 .0)))
+    holds-put h (tree (page .level) (entry-list page)) w
+    (canonical-tree 12 (page .level) (entry-list page) (omega arith) (omega arith) (omega arith) (shown-fits page _ (start .good .1 .1 .0)))
     (written .write-page-at .ensures)
 
 pub save-spec : {M : Type 1} → statement M

@@ -2,9 +2,9 @@
 use mathlib.Core.Path.{refl, subst}
 use borrow.Author.Needs.{needs}
 use native.Mathlib.Omega.{arith}
-use Rattle.steps.specs.Supply.{counted}
-use Rattle.store.specs.Holding.{Holds}
-use Rattle.store.specs.Ready.{Countable}
+use Rattle.steps.specs.Supply.{count-change}
+use Rattle.store.specs.Encoding.{Encodes}
+use Rattle.store.specs.Preconditions.{Countable}
 use Rattle.store.proofs.Supplying.{by-head, Headed, some-headed, counted-is}
 use Rattle.store.proofs.root.count_change.Statement.{statement}
 use Rattle.store.proofs.root.count_change.Tie as tie
@@ -13,13 +13,13 @@ headed : (c : tie.After-head-of) → Headed (c .before .before .before .args .im
 headed c = some-headed (c .before .before .before .pre) (c .head-of .ensures)
 
 returns : tie.Need-returns
-unfolding counted
+unfolding count-change
 returns c X h r =
     let set = c .before .before in
     let read = set .before .before .before in
-    by-head (λ Y. Holds (read .before .before .before .args .img .now) Y → Holds (set .set-head .last .0) (counted Y))
+    by-head (λ Y. Encodes (read .before .before .before .args .img .now) Y → Encodes (set .set-head .last .0) (count-change Y))
     (read .head-of .ensures X h tt)
-    (λ k. subst (Holds _) (counted-is _) (set .set-head .ensures _ k (record { pages = refl }))) h
+    (λ k. subst (Encodes _) (counted-is _) (set .set-head .ensures _ k (record { pages = refl }))) h
 
 pub count-change-spec : {M : Type 1} → statement M
 count-change-spec =

@@ -3,7 +3,7 @@ use mathlib.Core.Path.{refl}
 use borrow.Author.Needs.{needs}
 use native.Mathlib.Omega.{arith}
 use Rattle.steps.specs.Supply.{with-root}
-use Rattle.store.specs.Holding.{Holds}
+use Rattle.store.specs.Encoding.{Encodes}
 use Rattle.store.proofs.Supplying.{by-head, some-headed}
 use Rattle.store.proofs.root.set_root.Statement.{statement}
 use Rattle.store.proofs.root.set_root.Tie as tie
@@ -20,7 +20,7 @@ returns c X h any =
     let set = c .before .before in
     let read = set .before .before in
     let args = read .before .before .before .args in
-    by-head (λ Y. Holds (args .img .now) Y → Holds (set .set-head .last .0) (with-root (args .height) (args .p) Y))
+    by-head (λ Y. Encodes (args .img .now) Y → Encodes (set .set-head .last .0) (with-root (args .height) (args .p) Y))
     (read .head-of .ensures X h tt)
     (λ k. set .set-head .ensures _ k (record { pages = refl })) h
 

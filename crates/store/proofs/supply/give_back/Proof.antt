@@ -4,8 +4,8 @@ use mathlib.Core.Path.{refl, subst}
 use borrow.Author.Needs.{needs}
 use native.Mathlib.Omega.{arith}
 use Rattle.steps.specs.Supply.{with-supply, given-back}
-use Rattle.store.specs.Holding.{Holds}
-use Rattle.store.specs.Ready.{Givable}
+use Rattle.store.specs.Encoding.{Encodes}
+use Rattle.store.specs.Preconditions.{Givable}
 use Rattle.store.proofs.Supplying.{by-head, Headed, some-headed, given-back-is}
 use Rattle.store.proofs.supply.give_back.Statement.{statement}
 use Rattle.store.proofs.supply.give_back.Tie as tie
@@ -31,10 +31,10 @@ returns c X h r =
     let set = freed .before .before .before .before in
     let read = set .before .before .before in
     let args = read .before .before .before .args in
-    by-head (λ Y. Holds (args .img .now) Y → Givable (args .p) Y → Holds (freed .set-free .last .0) (given-back (args .p) Y))
+    by-head (λ Y. Encodes (args .img .now) Y → Givable (args .p) Y → Encodes (freed .set-free .last .0) (given-back (args .p) Y))
     (read .head-of .ensures X h tt)
     (λ k g.
-    subst (Holds _) (given-back-is (args .p) _)
+    subst (Encodes _) (given-back-is (args .p) _)
     (freed .set-free .ensures _ (set .set-head .ensures _ k (record { pages = refl }))
     (record { least = g .within .least; below = g .within .below })))
     h r

@@ -1,0 +1,63 @@
+-- `booking::input::check_input` meets its contract: the first test that fails gives the status. Assumes nothing.
+use mathlib.Core.Path.{_≡_, refl, sym, _∙_}
+use mathlib.Core.Bool.{Bool}
+use native.Mathlib.Omega.{arith}
+use lib.ListN.{length}
+use lib.Dec.{leb, ltb}
+use borrow.Author.Needs.{needs}
+use borrow.Author.Tests.{not-true, not-false}
+use mir.Facts.{toZ-ofZ}
+use Rattle.image.specs.Images.{pages-in}
+use Rattle.calls.specs.Refusals.{first}
+use Rattle.booking.proofs.Laws.Early.{Tests, rows-are, span-less}
+use Rattle.booking.proofs.input.check_input.Statement.{statement}
+use Rattle.booking.proofs.input.check_input.Tie as tie
+
+tests : (c : tie.After-value-ok) {whole room span fits : Bool} → c .before .length-fits .result ≡ whole
+    → leb (pages-in 12 (c .before .before .before .before .args .img .now)) (length (c .before .before .before .before .args .scratch .now)) ≡ room
+    → ltb (c .before .before .before .before .args .s) (c .before .before .before .before .args .e) ≡ span
+    → c .value-ok .result ≡ fits
+    → Tests (c .before .before .before .before .args .v) (c .before .before .before .before .args .s) (c .before .before .before .before .args .e) (c .before .before .before .before .args .img .now) (c .before .before .before .before .args .scratch .now) whole room span fits
+tests c a b d f =
+    let start = c .before .before .before .before in
+    record {
+      whole-is = sym (c .before .length-fits .ensures) ∙ a;
+      room-is = b;
+      span-is = span-less _ _ (omega (arith, start .fits .e)) ∙ d;
+      fits-is = sym (rw (toZ-ofZ (start .fits .v)) at (c .value-ok .ensures)) ∙ f;
+    }
+
+returns : tie.Need-returns
+unfolding first
+returns c = rows-are _ _ _ _ _ (tests (c .before) (not-true _ (c .if1 .taken)) refl refl refl)
+
+returns-2 : tie.Need-returns-2
+unfolding first pages-in
+returns-2 c =
+    rows-are _ _ _ _ _ (tests (c .before .before) (not-false _ (c .before .if1 .left)) (not-true _ (c .if2 .taken)) refl refl)
+
+returns-3 : tie.Need-returns-3
+unfolding first pages-in
+returns-3 c =
+    let room = c .before in
+    rows-are _ _ _ _ _
+    (tests (room .before .before) (not-false _ (room .before .if1 .left)) (not-false _ (room .if2 .left)) (not-true _ (c .if3 .taken)) refl)
+
+returns-4 : tie.Need-returns-4
+unfolding first pages-in
+returns-4 c =
+    let span = c .before in
+    let room = span .before in
+    rows-are _ _ _ _ _
+    (tests (room .before .before) (not-false _ (room .before .if1 .left)) (not-false _ (room .if2 .left)) (not-false _ (span .if3 .left)) (not-true _ (c .if4 .taken)))
+
+returns-5 : tie.Need-returns-5
+unfolding first pages-in
+returns-5 c =
+    let span = c .before in
+    let room = span .before in
+    rows-are _ _ _ _ _
+    (tests (room .before .before) (not-false _ (room .before .if1 .left)) (not-false _ (room .if2 .left)) (not-false _ (span .if3 .left)) (not-false _ (c .if4 .left)))
+
+pub check-input-spec : {M : Type 1} → statement M
+check-input-spec = tie.close (tie.spec (λ c κs. search needs) (λ c κs. search needs) returns returns-2 returns-3 returns-4 returns-5)

@@ -1,0 +1,91 @@
+-- `booking::state::check_state` meets its contract: a law for each way out. Assumes nothing.
+use Prim.Native.Nat.{_<_}
+use mathlib.Core.Path.{_≡_, sym, ap, _∙_}
+use mathlib.Core.Bool.{true}
+use native.Mathlib.Omega.{arith}
+use lib.ListN.{length}
+use borrow.Author.Needs.{needs}
+use borrow.Author.Tests.{not-true, not-false, eq-eqb, ne-eqb}
+use Rattle.rule.specs.Time.{effect-end}
+use Rattle.page.specs.Layout.{head-of}
+use Rattle.image.specs.Images.{page-at}
+use Rattle.image.specs.Sound.{sound}
+use Rattle.calls.specs.Calls.{head}
+use Rattle.access.specs.Access.{Page-in}
+use Rattle.image.proofs.Sizes.{sized}
+use Rattle.access.proofs.Laws.{page-length}
+use Rattle.booking.proofs.Laws.Late.{late-21, late-22, late-23, late-24, late-0}
+use Rattle.booking.proofs.state.check_state.Statement.{statement}
+use Rattle.booking.proofs.state.check_state.Tie as tie
+
+within : (c : tie.After-shared-slice-known) → Page-in (c .before .args .img .now) 0
+within c =
+    let z = sized 12 _ (c .before .pre .0) in
+    omega (arith, z .size, z .least)
+
+passed : (c : tie.Else1) → sound 12 (c .before .before .before .args .img .now) ≡ true
+passed c = sym (c .before .sound .ensures) ∙ not-false _ (c .if1 .left)
+
+read : (c : tie.After-read-head) → c .read-head .result ≡ head 12 (c .before .before .before .before .before .args .img .now)
+unfolding head
+read c = c .read-head .ensures ∙ ap head-of (c .before .page-at .ensures)
+
+returns : tie.Need-returns
+returns c = late-21 _ _ _ _ (sym (c .before .sound .ensures) ∙ not-true _ (c .if1 .taken))
+
+returns-2 : tie.Need-returns-2
+returns-2 c =
+    let head = c .before .before in
+    late-22 _ _ _ _ (passed (head .before .before)) (read head) (c .if2 .taken)
+
+returns-3 : tie.Need-returns-3
+returns-3 c =
+    let side = c .before .before in
+    let head = side .before .before in
+    late-23 _ _ _ _ (passed (head .before .before)) (read head) (side .if2 .left) (eq-eqb _ _ (c .if3 .taken))
+
+-- where the effect ends, which is behind its start
+later : (c : tie.After-effect-end) → c .before .before .before .before .before .before .before .before .before .before .args .s < c .effect-end .result
+unfolding effect-end
+later c =
+    let start = c .before .before .before .before .before .before .before .before .before .before in
+    omega (arith, c .effect-end .ensures, start .pre .1, start .fits .e)
+
+returns-4 : tie.Need-returns-4
+returns-4 c =
+    let end = c .before .before in
+    let full = end .before in
+    let side = full .before .before in
+    let head = side .before .before in
+    late-24 _ _ _ _ (passed (head .before .before)) (read head) (side .if2 .left) (ne-eqb _ _ (full .if3 .left)) (end .effect-end .ensures)
+    (sym (c .if4 .taken) ∙ c .before .lacks-pages .ensures)
+
+returns-5 : tie.Need-returns-5
+returns-5 c =
+    let end = c .before .before in
+    let full = end .before in
+    let side = full .before .before in
+    let head = side .before .before in
+    late-0 _ _ _ _ (passed (head .before .before)) (read head) (side .if2 .left) (ne-eqb _ _ (full .if3 .left)) (end .effect-end .ensures)
+    (sym (c .if4 .left) ∙ c .before .lacks-pages .ensures)
+
+lacks-pages-requires : tie.Need-lacks-pages-requires
+unfolding head
+lacks-pages-requires c κs =
+    let head = c .before .before .before .before .before in
+    (record { sound = passed (head .before .before); shown = read head }, later c)
+
+pub check-state-spec : {M : Type 1} → statement M
+check-state-spec =
+    tie.close
+    (tie.spec
+    (λ c κs. c .before .pre .0)
+    returns
+    (λ c κs. within (c .before .before))
+    (λ c κs. omega (arith, ap length (c .page-at .ensures) ∙ page-length _ 0 (within (c .before .before .before))))
+    returns-2
+    returns-3
+    (λ c κs. search needs)
+    lacks-pages-requires
+    returns-4
+    returns-5)

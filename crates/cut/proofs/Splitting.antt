@@ -1,0 +1,110 @@
+-- A page that gained an entry, written as one page or as two. Assumes nothing.
+use Prim.Native.Nat.{ℕ, suc, _+_, _≤_, _<_}
+use mathlib.Core.Path.{_≡_, refl, sym, ap, _∙_, subst}
+use mathlib.Core.Bool.{Bool, true, false, cond}
+use mathlib.Core.List.{List, [], _∷_}
+use native.Mathlib.Numerals.{add-one}
+use native.Mathlib.Omega.{arith}
+use lib.ListN.{length, take, drop, length-append, length-drop}
+use lib.Seq.{length-take-le}
+use borrow.Author.Tests.{le-leb, lt-leb}
+use Rattle.page.specs.declared.Entry.{Entry}
+use Rattle.page.specs.declared.Page.{Page}
+use Rattle.page.specs.Entries.{entry, at, inserted}
+use Rattle.page.specs.Layout.{capacity}
+use Rattle.page.specs.Decoded.{entry-list}
+use Rattle.image.specs.Images.{Image, tree}
+use Rattle.steps.specs.Supply.{put, spare, taken}
+use Rattle.steps.specs.Cut.{Cutting, not-split, split, split-if-full}
+use Rattle.edit.specs.Contents.{Has-entries}
+use Rattle.edit.proofs.Edits.{has-len, splice-inserted}
+use Rattle.page.proofs.Laws.Decoded.{length-shown}
+use Rattle.store.specs.Encoding.{Encodes}
+use Rattle.store.specs.Preconditions.{In-image, Takable}
+use Rattle.store.proofs.Supplying.{within-taken}
+use Rattle.cut.specs.declared.SplitOutcome.{SplitOutcome}
+use Rattle.cut.specs.declared.SplitOutcome.the-variants.{Same, Split}
+use Rattle.cut.specs.Answers.{became, inserted-after, Cut-as}
+
+-- what holds of both holds of either
+pub either : {A : Type 0} (P : A → Type 0) (b : Bool) (x y : A) → P x → P y → P (cond b x y)
+either P true x y p q = p
+either P false x y p q = q
+
+-- the answer that a match has told, and the same cutting in other words
+pub told : {e : Entry} {c : Cutting} {g g′ : SplitOutcome} {after : List ℕ} → g ≡ g′ → Cut-as e c g after → Cut-as e c g′ after
+told {e} {c} {after = after} same m = subst (λ r. Cut-as e c r after) same m
+
+pub cut-as : {e : Entry} {c c′ : Cutting} {g : SplitOutcome} {after : List ℕ} → c ≡ c′ → Cut-as e c g after → Cut-as e c′ g after
+cut-as {e} {g = g} {after} same m = subst (λ c. Cut-as e c g after) same m
+
+pub has-tree : {l : ℕ} {es : List Entry} {r : Page} → Has-entries l es r → tree (r .level) (entry-list r) ≡ tree l es
+has-tree s = λ j. tree (s .level j) (s .entries j)
+
+-- ---- the two halves
+
+module _ {l : ℕ} (page : Page) {half : Page} (n : page .len ≡ 25) where
+  pub left-len : Has-entries l (take 12 (entry-list page)) half → half .len ≡ 12
+  left-len s =
+      let long : length (entry-list page) ≡ page .len = length-shown page in
+      has-len s ∙ length-take-le 12 (entry-list page) (omega arith)
+
+  pub right-len : Has-entries l (drop 12 (entry-list page)) half → half .len ≡ 13
+  right-len s =
+      let long : length (entry-list page) ≡ page .len = length-shown page in
+      omega (arith, has-len s, length-drop 12 (entry-list page))
+
+-- the taken page is one of the image's
+pub spare-within : {q : ℕ} {X : Image} → q ≡ spare X → Takable X → In-image q (taken X)
+spare-within {X = X} n t = within-taken (subst (λ k. In-image k X) (sym n) (t .within))
+
+-- ---- one page or two
+
+abbrev decided : Entry → ℕ → List Entry → Image → Bool → Cutting
+decided e level es X b = cond b (not-split level e es X) (split 12 level e es X)
+
+module _ (e : Entry) (level : ℕ) (es : List Entry) (X : Image) {after : List ℕ} where
+  -- up to 24 entries are saved
+  pub saved-as : length es ≤ 24 → Encodes after (put (e .child) (tree level es) X) → Cut-as e (split-if-full 12 level e es X) Same after
+  unfolding split-if-full not-split became
+  saved-as few h = cut-as (ap (decided e level es X) (sym (le-leb (length es) (capacity 12) few))) (record { becomes = refl; holds = h })
+
+  -- "the page keeps 12, a taken page gets 13, the parent gains an entry with the same pair"
+  pub split-as : {q start : ℕ} {left right : Page} → Has-entries level (take 12 es) left → Has-entries level (drop 12 es) right
+      → q ≡ spare X → start ≡ at (entry-list right) 0 .start
+      → Encodes after (put q (tree (right .level) (entry-list right)) (put (e .child) (tree (left .level) (entry-list left)) (taken X)))
+      → Cut-as e (split 12 level e es X) (Split start q) after
+  unfolding split became
+  split-as {q} {start} l r n s h =
+      let first : start ≡ at (drop 12 es) 0 .start = s ∙ ap (λ xs. at xs 0 .start) (r .entries) in
+      record {
+        becomes = λ j. e ∷ entry (first j) (e .pair) (n j) ∷ [];
+        holds = subst (Encodes after) (λ j. put (n j) (has-tree r j) (put (e .child) (has-tree l j) (taken X))) h;
+      }
+
+  pub halved-as : {r : SplitOutcome} → 24 < length es → Cut-as e (split 12 level e es X) r after → Cut-as e (split-if-full 12 level e es X) r after
+  unfolding split-if-full
+  halved-as many m = cut-as (ap (decided e level es X) (sym (lt-leb (length es) (capacity 12) many))) m
+
+-- ---- an entry that becomes two
+
+length-inserted : {A : Type 0} (i : ℕ) (x : A) (xs : List A) → i ≤ length xs → length (inserted i x xs) ≡ suc (length xs)
+unfolding inserted
+length-inserted i x xs h = omega (arith, length-append (take i xs) (x ∷ drop i xs), length-take-le i xs h, length-drop i xs)
+
+module _ (page : Page) (i : ℕ) (new : Entry) {r : Page} (s : Has-entries (page .level) (inserted (i + 1) new (entry-list page)) r)
+    (h : i < page .len) where
+  pub inserted-after-len : r .len ≡ suc (page .len)
+  inserted-after-len =
+      let n : length (entry-list page) ≡ page .len = length-shown page in
+      has-len s ∙ length-inserted (i + 1) new (entry-list page) (omega arith) ∙ ap suc n
+
+  -- the new one stands behind its old one, with the same pair
+  pub inserted-after-entries : (start child : ℕ) → new ≡ entry start (at (entry-list page) i .pair) child
+      → entry-list r ≡ inserted-after i start child (entry-list page)
+  unfolding inserted-after became
+  inserted-after-entries start child same =
+      let n : length (entry-list page) ≡ page .len = length-shown page in
+      s .entries
+      ∙ (λ j. inserted (add-one i j) (same j) (entry-list page))
+      ∙ sym (splice-inserted i (at (entry-list page) i) (entry start (at (entry-list page) i .pair) child) (entry-list page) (omega arith) refl)

@@ -1,0 +1,60 @@
+// Places in the tree: the root's, and the one under an entry of a page.
+use page::Head;
+use page::PageContext;
+use page::at::entry_count;
+use page::at::pair_at;
+use page::at::start_at;
+use rule::limits::END;
+use rule::numbers::magnitude;
+ghost use mathlib.Core.Path.{_≡_};
+ghost use Prim.Native.Nat.{_≤_, _<_};
+ghost use lib.ListN.{length};
+ghost use Rattle.page.specs.Fit.{root-context, end-at, context-below};
+ghost use Rattle.page.specs.Layout.{entry-count};
+ghost use Rattle.fit.specs.Contexts.{Bounded};
+
+// The root's context: "(root: height − 1)", "(root: 0)", "(root: END)".
+pub fn root_context(h: Head) -> PageContext
+    requires { ⌜ 1 ≤ h .height ⌝ }
+    ensures { λ r. ⌜ r ≡ root-context h ⌝ }
+{
+    PageContext {
+        level: h.height - 1,
+        is_root: true,
+        lo: 0,
+        hi: END,
+        sums: 0,
+        counts: 0,
+    }
+}
+
+// Where the i-th entry ends: at the next one's start, the last at the page's own end.
+pub fn end_at(s: &[u8], hi: u32, i: usize) -> u32
+    requires { ⌜ length (now s) ≡ 512 ⌝ }
+    requires { ⌜ (i < 24) × (entry-count (now s) ≤ 24) ⌝ }
+    ensures { λ r. ⌜ r ≡ end-at (now (s .entry)) hi i ⌝ }
+{
+    if i + 1 < entry_count(s) as usize {
+        start_at(s, i + 1)
+    } else {
+        hi
+    }
+}
+
+// The context of the page under the i-th entry of an inner page: the entry's absolute sum and count are added up along the path.
+pub fn context_below(s: &[u8], at: PageContext, i: usize) -> PageContext
+    requires { ⌜ length (now s) ≡ 512 ⌝ }
+    requires { ⌜ (i < 24) × (entry-count (now s) ≤ 24) ⌝ }
+    requires { ⌜ (1 ≤ at .level) × Bounded at ⌝ }
+    ensures { λ r. ⌜ r ≡ context-below 12 (now (s .entry)) at i ⌝ }
+{
+    let p = pair_at(s, i);
+    PageContext {
+        level: at.level - 1,
+        is_root: false,
+        lo: start_at(s, i),
+        hi: end_at(s, at.hi, i),
+        sums: at.sums + magnitude(p.sum),
+        counts: at.counts + magnitude(p.count as i64),
+    }
+}

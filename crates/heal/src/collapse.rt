@@ -1,0 +1,39 @@
+// "An inner root with one entry combines its pair into its child's entries, is given back, and the child becomes root."
+use crate::load::pushed;
+use store::entries::entry_count_in;
+use store::entries::entry_of;
+use store::heads::head_of;
+use store::pages::save;
+use store::root::set_root;
+use store::supply::give_back;
+ghost use Rattle.rule.specs.Pairs.{combine};
+ghost use Rattle.steps.specs.Heal.{collapse-root, collapse-if-single};
+ghost use Rattle.store.specs.Encoding.{Encodes, Pre, Post};
+ghost use Rattle.heal.specs.Healable.{Collapsible, Collapsible-if-single};
+
+// The root has one entry, whose page becomes root.
+fn collapse_root(img: &mut [u8], kind: u32)
+    requires { ⌜ Pre (now img) Collapsible ⌝ }
+    ensures { λ _. ⌜ Post (now (img .entry)) Collapsible (λ X. Encodes (now (img .exit)) (collapse-root (combine kind) X)) ⌝ }
+{
+    let h = head_of(img);
+    let e = entry_of(img, h.root, 0);
+    let page = pushed(img, kind, e);
+    save(img, e.child, page);
+    give_back(img, h.root);
+    set_root(img, h.height - 1, e.child);
+}
+
+pub(crate) fn collapse_if_single(img: &mut [u8], kind: u32)
+    requires { ⌜ Pre (now img) Collapsible-if-single ⌝ }
+    ensures { λ _. ⌜ Post (now (img .entry)) Collapsible-if-single
+        (λ X. Encodes (now (img .exit)) (collapse-if-single (combine kind) X)) ⌝ }
+{
+    let h = head_of(img);
+    if h.height < 2 {
+        return;
+    }
+    if entry_count_in(img, h.root) == 1 {
+        collapse_root(img, kind);
+    }
+}

@@ -1,0 +1,287 @@
+-- From an entry of a sound image to the page below: what may be read there, and where the count goes on. Assumes nothing.
+use Prim.Native.Nat.{ℕ, zero, suc, _+_, _*_, _-_, _≤_, _<_}
+use mathlib.Core.Path.{_≡_, refl, sym, ap, _∙_, subst⁻¹}
+use mathlib.Core.Bool.{Bool, true, false, cond}
+use mathlib.Core.List.{List}
+use native.Mathlib.Omega.{arith}
+use lib.Dec.{eqb, leb}
+use lib.ListN.{length}
+use borrow.Author.Tests.{eq-eqb, ne-eqb}
+use Rattle.page.specs.declared.Entry.{Entry}
+use Rattle.page.specs.Entries.{at as entry-in, index-of}
+use Rattle.page.specs.Layout.{capacity, level-of, entry-count, start-at, entry-at, entries-of}
+use Rattle.page.specs.Fit.{context-below, most-height}
+use Rattle.page.proofs.Laws.Trees.{length-entries-of, at-entries-of}
+use Rattle.fit.proofs.Laws.Pages.{PageFit, entry-first}
+use Rattle.image.specs.Images.{Image, tree, entries-in, page-at, image-of}
+use Rattle.soundness.proofs.Tree.{tree-parts}
+use Rattle.page.proofs.Laws.Indices.{index-within, index-started}
+use Rattle.store.specs.declared.Found.{Found}
+use Rattle.store.specs.Encoding.{Pre-level, Post-level}
+use Rattle.store.specs.Preconditions.{Searchable, found-in}
+use Rattle.store.proofs.Encoding.{holds-length}
+use Rattle.soundness.proofs.Tree.{tree-top}
+use Rattle.steps.specs.Supply.{entries}
+use Rattle.image.proofs.Cells.{cell-tree}
+use Rattle.page_need.specs.declared.Need.{Need}
+use Rattle.page_need.specs.Needs.{need, add-needs, leaf-need, page-need, one-cut, parted-cuts, both-cuts}
+use Rattle.page_need.specs.Leads.{Small, Fit-from, Leads}
+use Rattle.page_need.proofs.Counts.{page-need-adds}
+
+-- ---- a page
+
+module _ {img : List ℕ} {t l p : ℕ} (k : Fit-from img t l p) where
+  page-is-fit : PageFit 12 (k .head) (k .at) (page-at 12 img p)
+  page-is-fit = tree-top 12 (k .head) img l (k .at) p (k .fit)
+
+  entries-read : entries (image-of 12 img) p ≡ entries-of 12 (page-at 12 img p)
+  unfolding entries image-of entries-in
+  entries-read = ap entries-in (cell-tree 12 (page-at 12 img p) (omega (arith, page-is-fit .level, k .level, k .low)))
+
+  number-read : length (entries (image-of 12 img) p) ≡ entry-count (page-at 12 img p)
+  number-read = ap length entries-read ∙ length-entries-of 12 (page-at 12 img p) ∙ omega (arith, page-is-fit .most)
+
+  page-read : image-of 12 img .page p ≡ tree l (entries (image-of 12 img) p)
+  unfolding image-of
+  page-read =
+      let s : List ℕ = page-at 12 img p in
+      let level : level-of s ≡ l = page-is-fit .level ∙ k .level in
+      cell-tree 12 s (omega (arith, k .low)) ∙ (λ j. tree (level j) (sym entries-read j))
+
+  start-read : (i : ℕ) → i < length (entries (image-of 12 img) p)
+      → start-at (page-at 12 img p) i ≡ entry-in (entries (image-of 12 img) p) i .start
+  unfolding entry-at
+  start-read i n =
+      let s : List ℕ = page-at 12 img p in
+      let most : entry-count s ≤ 24 = page-is-fit .most in
+      let here = at-entries-of 12 s i (omega (arith, number-read)) (omega (arith, number-read)) in
+      ap (λ (e : Entry). e .start) (sym here ∙ ap (λ es. entry-in es i) (sym entries-read))
+
+  -- the page can be searched for t
+  pub fit-searchable : Searchable l p t (image-of 12 img)
+  fit-searchable =
+      let f = page-is-fit in
+      let n = number-read in
+      let some : 1 ≤ length (entries (image-of 12 img) p) = omega (arith, entry-first f (omega arith)) in
+      record {
+        tree-page =
+            record {
+              within = record { least = k .least; below = omega (arith, holds-length (k .holds), k .size, k .inside) };
+              page = page-read;
+            };
+        some = some;
+        rising = λ i m. omega (arith, start-read i (omega arith), start-read (suc i) m, f .rising i (omega arith));
+        first = omega (arith, start-read 0 some, f .first, k .begun);
+      }
+
+-- the i-th entry of a page leads on
+entry-leads : {img : List ℕ} {t : ℕ} (l : ℕ) {p : ℕ} → Fit-from img t l p → (i : ℕ) → i < entry-count (page-at 12 img p)
+    → start-at (page-at 12 img p) i ≤ t
+    → Leads img t l (entry-at 12 (page-at 12 img p) i)
+unfolding Leads entry-at context-below
+entry-leads zero k i lt begun = tt
+entry-leads {img} (suc l) {p} k i lt begun =
+    record {
+      head = k .head;
+      at = context-below 12 (page-at 12 img p) (k .at) i;
+      size = k .size;
+      holds = k .holds;
+      least = page-is-fit k .children i lt .inner (omega (arith, k .level)) .0;
+      inside = page-is-fit k .children i lt .inner (omega (arith, k .level)) .1;
+      level = omega (arith, k .level);
+      low = omega (arith, k .low);
+      begun = begun;
+      fit = tree-parts 12 (k .head) img l (k .at) p (k .fit) .1 i lt;
+    }
+
+module _ {img : List ℕ} {t l p : ℕ} (k : Fit-from img t l p) {m : Found} (e : m ≡ found-in t (entries (image-of 12 img) p)) where
+  pub found-most : m .count ≤ 24
+  unfolding found-in
+  found-most = omega (arith, ap (λ (n : Found). n .count) e, number-read k, page-is-fit k .most)
+
+  pub found-leads : Leads img t l (m .entry)
+  unfolding found-in
+  found-leads =
+      let s = page-at 12 img p in
+      let i = index-of t (entries-of 12 s) in
+      let f = page-is-fit k in
+      let r : i < entry-count s = index-within 12 s t (f .most) (entry-first f (omega arith)) in
+      let same : m .entry ≡ entry-at 12 s i =
+      ap (λ (n : Found). n .entry) e
+      ∙ (ap (λ es. entry-in es (index-of t es)) (entries-read k) ∙ at-entries-of 12 s i r (omega (arith, f .most))) in
+      subst⁻¹ (Leads img t l) same (entry-leads l k i r (index-started 12 s t (f .most) (omega (arith, f .first, k .begun))))
+
+-- ---- an entry
+
+pub leads-low : (img : List ℕ) (t l : ℕ) (e : Entry) → Leads img t l e → l ≤ most-height
+unfolding Leads
+leads-low img t zero e k = omega arith
+leads-low img t (suc l) e k = omega (arith, k .low)
+
+-- an inner one
+pub leads-on : (img : List ℕ) (t l : ℕ) (e : Entry) → Leads img t l e → ¬ (l ≡ 0) → Fit-from img t (l - 1) (e .child)
+unfolding Leads
+leads-on img t zero e k h = absurd (h refl)
+leads-on img t (suc l) e k h =
+    let d : suc l - 1 ≡ l = omega arith in
+    subst⁻¹ (λ n. Fit-from img t n (e .child)) d k
+
+-- what is read there: any search that find_entry's contract allows
+module _ {img : List ℕ} {t l p : ℕ} (k : Fit-from img t l p) where
+  pub fit-some : Pre-level img (λ v. Searchable v p t)
+  fit-some = record { image = image-of 12 img; holds = k .holds; ready = (l, fit-searchable k) }
+
+  pub fit-found : {f : Found} → Post-level img (λ v. Searchable v p t) (λ v X. f ≡ found-in t (entries X p))
+      → f ≡ found-in t (entries (image-of 12 img) p)
+  fit-found each = each (image-of 12 img) (k .holds) l (fit-searchable k)
+
+-- for a later instant too
+pub later-fit : {img : List ℕ} {s t l p : ℕ} → Fit-from img s l p → s < t → Fit-from img t l p
+later-fit k lt =
+    record {
+      head = k .head;
+      at = k .at;
+      holds = k .holds;
+      size = k .size;
+      least = k .least;
+      inside = k .inside;
+      level = k .level;
+      low = k .low;
+      begun = omega (arith, k .begun);
+      fit = k .fit;
+    }
+
+-- ---- the counts, level by level
+
+module _ (half t : ℕ) (X : Image) where
+  pub one-leaf : (l : ℕ) (e : Entry) {r : Need} → l ≡ 0 → r ≡ leaf-need t e → r ≡ one-cut half t l e X
+  unfolding one-cut
+  one-leaf zero e z h = h
+  one-leaf (suc l) e z h = absurd (omega arith)
+
+  pub one-inner : (l : ℕ) (e : Entry) {m : Found} {n r : Need} → ¬ (l ≡ 0) → m ≡ found-in t (entries X (e .child))
+      → n ≡ one-cut half t (l - 1) (m .entry) X
+      → r ≡ page-need half (m .count) n → r ≡ one-cut half t l e X
+  unfolding one-cut found-in
+  one-inner zero e z a b c = absurd (z refl)
+  one-inner (suc l) e {m = m} z a b c =
+      let d : suc l - 1 ≡ l = omega arith in
+      c
+      ∙ (ap (page-need half (m .count)) (b ∙ ap (λ i. one-cut half t i (m .entry) X) d)
+      ∙ ap (λ (k : Found). page-need half (k .count) (one-cut half t l (k .entry) X)) a)
+
+module _ (half s t : ℕ) (X : Image) where
+  pub apart-is : (l : ℕ) (x y : Entry) {a b r : Need} → a ≡ one-cut half s l x X → b ≡ one-cut half t l y X → r ≡ add-needs a b
+      → r ≡ parted-cuts half s t l x y X
+  apart-is l x y a b c = c ∙ (λ j. add-needs (a j) (b j))
+
+  pub both-leaf : (l : ℕ) (e : Entry) {a b r : Need} → l ≡ 0 → a ≡ leaf-need s e → b ≡ leaf-need t e → r ≡ add-needs a b
+      → r ≡ both-cuts half s t l e X
+  unfolding both-cuts
+  both-leaf zero e z a b c = c ∙ (λ j. add-needs (a j) (b j))
+  both-leaf (suc l) e z a b c = absurd (omega arith)
+
+  -- the two go on to the same entry
+  pub both-same : (l : ℕ) (e : Entry) {m k : Found} {n r : Need} → ¬ (l ≡ 0) → m ≡ found-in s (entries X (e .child))
+      → k ≡ found-in t (entries X (e .child))
+      → m .index ≡ k .index → n ≡ both-cuts half s t (l - 1) (m .entry) X → r ≡ page-need half (m .count) n → r ≡ both-cuts half s t l e X
+  unfolding both-cuts found-in
+  both-same zero e z a b h c d = absurd (z refl)
+  both-same (suc l) e {m = m} z a b h c d =
+      let es = entries X (e .child) in
+      let v : suc l - 1 ≡ l = omega arith in
+      let w : index-of s es ≡ index-of t es = sym (ap (λ (y : Found). y .index) a) ∙ (h ∙ ap (λ (y : Found). y .index) b) in
+      d
+      ∙ (ap (page-need half (m .count)) (c ∙ ap (λ i. both-cuts half s t i (m .entry) X) v)
+      ∙ (ap (λ (y : Found). page-need half (y .count) (both-cuts half s t l (y .entry) X)) a
+      ∙ ap
+      (λ g. page-need half (length es)
+      (cond g (both-cuts half s t l (entry-in es (index-of s es)) X) (parted-cuts half s t l (entry-in es (index-of s es)) (entry-in es (index-of t es)) X)))
+      (sym (eq-eqb (index-of s es) (index-of t es) w))))
+
+  -- or part there
+  pub both-apart : (l : ℕ) (e : Entry) {m k : Found} {n r : Need} → ¬ (l ≡ 0) → m ≡ found-in s (entries X (e .child))
+      → k ≡ found-in t (entries X (e .child))
+      → ¬ (m .index ≡ k .index) → n ≡ parted-cuts half s t (l - 1) (m .entry) (k .entry) X → r ≡ page-need half (m .count) n
+      → r ≡ both-cuts half s t l e X
+  unfolding both-cuts found-in
+  both-apart zero e z a b h c d = absurd (z refl)
+  both-apart (suc l) e {m} {k} z a b h c d =
+      let es = entries X (e .child) in
+      let v : suc l - 1 ≡ l = omega arith in
+      let w : ¬ (index-of s es ≡ index-of t es) = λ q. h (ap (λ (y : Found). y .index) a ∙ (q ∙ sym (ap (λ (y : Found). y .index) b))) in
+      d
+      ∙ (ap (page-need half (m .count)) (c ∙ ap (λ i. parted-cuts half s t i (m .entry) (k .entry) X) v)
+      ∙ ((λ j. page-need half (a j .count) (parted-cuts half s t l (a j .entry) (b j .entry) X))
+      ∙ ap
+      (λ g. page-need half (length es)
+      (cond g (both-cuts half s t l (entry-in es (index-of s es)) X) (parted-cuts half s t l (entry-in es (index-of s es)) (entry-in es (index-of t es)) X)))
+      (sym (ne-eqb (index-of s es) (index-of t es) w))))
+
+-- ---- no count is large
+
+page-need-pages : (half n : ℕ) (m : Need) → page-need half n m .pages ≤ suc (m .pages)
+unfolding page-need
+page-need-pages half n m = go (leb (n + m .adds) (capacity half))
+  where
+    go : (b : Bool) → cond b (need 0 (m .pages)) (need 1 (suc (m .pages))) .pages ≤ suc (m .pages)
+    go true = omega arith
+    go false = omega arith
+
+leaf-adds : (t : ℕ) (e : Entry) → leaf-need t e .adds ≤ 1
+unfolding leaf-need
+leaf-adds t e = go (eqb (e .start) t)
+  where
+    go : (b : Bool) → cond b 0 1 ≤ 1
+    go true = omega arith
+    go false = omega arith
+
+module _ (half t : ℕ) (X : Image) where
+  one-most : (l : ℕ) (e : Entry) → (one-cut half t l e X .adds ≤ 1) × (one-cut half t l e X .pages ≤ l)
+  unfolding one-cut leaf-need
+  one-most zero e = (leaf-adds t e, omega arith)
+  one-most (suc l) e =
+      let es = entries X (e .child) in
+      let x = entry-in es (index-of t es) in
+      (page-need-adds half (length es) (one-cut half t l x X), omega (arith, page-need-pages half (length es) (one-cut half t l x X), one-most l x .1))
+
+module _ (half s t : ℕ) (X : Image) where
+  both-most : (l : ℕ) (e : Entry) → (both-cuts half s t l e X .adds ≤ 2) × (both-cuts half s t l e X .pages ≤ 2 * l)
+  unfolding both-cuts add-needs leaf-need
+  both-most zero e = (omega (arith, leaf-adds s e, leaf-adds t e), omega arith)
+  both-most (suc l) e =
+      let es = entries X (e .child) in
+      let x = entry-in es (index-of s es) in
+      let y = entry-in es (index-of t es) in
+      let below = cond (eqb (index-of s es) (index-of t es)) (both-cuts half s t l x X) (add-needs (one-cut half s l x X) (one-cut half t l y X)) in
+      let few : below .pages ≤ 2 * l =
+      go (both-cuts half s t l x X) (one-cut half s l x X) (one-cut half t l y X) (eqb (index-of s es) (index-of t es)) (both-most l x .1)
+      (one-most half s X l x .1) (one-most half t X l y .1) in
+      (omega (arith, page-need-adds half (length es) below), omega (arith, page-need-pages half (length es) below))
+    where
+      go : (a b d : Need) (c : Bool) → a .pages ≤ 2 * l → b .pages ≤ l → d .pages ≤ l → cond c a (add-needs b d) .pages ≤ 2 * l
+      go a b d true f g h = f
+      go a b d false f g h = omega arith
+
+module _ (half : ℕ) (X : Image) (l : ℕ) (e : Entry) (low : l ≤ most-height) {n : Need} where
+  pub small-one : (t : ℕ) → n ≡ one-cut half t l e X → Small n
+  small-one t h =
+      let b = one-most half t X l e in
+      record { adds = omega (arith, ap (λ (m : Need). m .adds) h); pages = omega (arith, ap (λ (m : Need). m .pages) h) }
+
+  pub small-both : (s t : ℕ) → n ≡ both-cuts half s t l e X → Small n
+  small-both s t h =
+      let b = both-most half s t X l e in
+      record { adds = omega (arith, ap (λ (m : Need). m .adds) h); pages = omega (arith, ap (λ (m : Need). m .pages) h) }
+
+pub small-leaf : (t : ℕ) (e : Entry) {n : Need} → n ≡ leaf-need t e → Small n
+unfolding leaf-need
+small-leaf t e h =
+    record { adds = omega (arith, ap (λ (m : Need). m .adds) h, leaf-adds t e); pages = omega (arith, ap (λ (m : Need). m .pages) h) }
+
+pub small-apart : (half s t : ℕ) (X : Image) (l : ℕ) (x y : Entry) {n : Need} → l ≤ most-height → n ≡ parted-cuts half s t l x y X → Small n
+unfolding add-needs
+small-apart half s t X l x y low h =
+    let c = one-most half s X l x in
+    let d = one-most half t X l y in
+    record { adds = omega (arith, ap (λ (m : Need). m .adds) h); pages = omega (arith, ap (λ (m : Need). m .pages) h) }

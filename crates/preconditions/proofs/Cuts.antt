@@ -1,0 +1,201 @@
+-- Every image before a cut of a change that no row turns back can be cut. Assumes nothing.
+use Prim.Native.Nat.{ℕ, zero, suc, _+_, _≤_, _<_}
+use mathlib.Core.Path.{_≡_, refl, sym, ap, _∙_, subst₂, subst⁻¹}
+use mathlib.Core.Bool.{cond}
+use mathlib.Core.List.{List, [], _∷_}
+use native.Mathlib.Omega.{arith}
+use lib.ListN.{length, length-map}
+use borrow.Author.Tests.{ne-eqb, lt-leb}
+use Rattle.lists.proofs.Edits.{length-splice}
+use Rattle.rule.specs.Time.{END}
+use Rattle.rule.specs.Pairs.{none, combine}
+use Rattle.page.specs.declared.Entry.{Entry}
+use Rattle.page.specs.Fit.{most-height}
+use Rattle.page.specs.Layout.{capacity}
+use Rattle.page.specs.Entries.{entry, index-of}
+use Rattle.image.specs.Images.{Image}
+use Rattle.lists.specs.Lists.{times}
+use Rattle.steps.specs.Supply.{entries}
+use Rattle.steps.specs.Cut.{Cutting as CuttingX, cut-entry, root-entry, cut as cut-x}
+use Rattle.steps.specs.Change.{cut-names}
+use Rattle.store.specs.Preconditions.{entry-for, Takable}
+use Rattle.cut.specs.Cuttable.{from-root, Page-cuttable, Entry-cuttable, Root-cuttable, Cuttable}
+use Rattle.tree.specs.Tree.{Node, Subtree, flat}
+use Rattle.tree.specs.Supply.{Supply, without-next}
+use Rattle.tree.specs.Cut.{Cutting, not-split, split, split-if-full, cut-node, State, root-node, grow-if-split, cut}
+use Rattle.tree.specs.Shape.{Leaf}
+use Rattle.tree.specs.Conserved.{times-spare}
+use Rattle.tree.proofs.Conservation.Cut.{inner, inner-nodes, cut-case}
+use Rattle.refinement.specs.Represents.{Supplied, Stocked, Full}
+use Rattle.refinement.proofs.Taking.{firsts, later-held}
+use Rattle.refinement.proofs.Stepped.{Stepped, steady-of, held-is}
+use Rattle.refinement.proofs.Split.{Entry-cut}
+use Rattle.refinement.proofs.Cut.{CutIs, once-there, cut-node-is, cut-is}
+use Rattle.refinement.proofs.Paths.{there, entries-are, at-flat, has-index, stocked-on, stores-on}
+use Rattle.refinement.proofs.Formed.{formed-full}
+use Rattle.invariant.specs.Invariant.{Structure}
+use Rattle.invariant.proofs.To.Known.{structure-once}
+use Rattle.invariant.proofs.To.Height.{height-most}
+use Rattle.preconditions.proofs.Paths.{Known, known-searchable, known-below, structure-known}
+use Rattle.preconditions.proofs.Spares.{Single, next-mark, takable}
+
+-- ---- the supply, level by level
+
+-- from the image that the cut of an entry leaves, if the high mark then stays within the image
+grew-takable : {l : ℕ} {e : Entry} {X : Image} {S : Supply} {before W : ℕ → ℕ} {r : CuttingX} {r′ : Cutting (Subtree l)}
+    → Entry-cut l e X S before W r r′
+    → Single (λ q. times-spare q S)
+    → without-next (r′ .supply) .mark ≤ X .head .pages
+    → Takable (r .image)
+grew-takable {S = S} {r′ = r′} g single h =
+    let k : (q : ℕ) → times q (firsts (g .took) S) + times-spare q (r′ .supply) ≡ times-spare q S =
+    λ q. rw (g .rest) (later-held q (g .took) S) in
+    takable (g .supplied) (λ q. omega (arith, single q, k q)) (omega (arith, steady-of (g .head) .pages))
+
+module _ (t l : ℕ) (x : Node (Subtree (suc l))) (S : Supply) where
+  -- the high mark is never lower than what the pages below left
+  inner-mark : inner 12 t l x S .supply .mark ≤ cut-node 12 t (suc l) x S .supply .mark
+  unfolding not-split split
+  inner-mark =
+      let R = inner 12 t l x S .supply in
+      cut-case 12 t l x S (λ C. R .mark ≤ C .supply .mark) (omega arith) (next-mark R)
+
+  -- "25 entries split": the page takes one more
+  splits : Stocked (suc l) x → 1 < length (inner 12 t l x S .became) → 24 ≤ length (x .subtree)
+      → cut-node 12 t (suc l) x S .supply ≡ without-next (inner 12 t l x S .supply)
+  unfolding cut-node split-if-full split
+  splits k two full =
+      let r = inner 12 t l x S in
+      let es = inner-nodes 12 t l x S in
+      let n : length es + 1 ≡ length (r .became) + length (x .subtree) =
+      length-splice (index-of t (flat (x .subtree))) (r .became) (x .subtree) (has-index l t x k) in
+      ap (λ b. cond b (not-split x es (r .supply)) (split-if-full 12 x es (r .supply)) .supply) (ne-eqb (length (r .became)) 1 (λ e. omega arith))
+      ∙ ap (λ b. cond b (not-split x es (r .supply)) (split 12 x es (r .supply)) .supply) (lt-leb (length es) (capacity 12) (omega arith))
+
+-- ---- the pages on the path
+
+module _ {kind changes : ℕ} (t : ℕ) {X : Image} {S : Supply} (s : Supplied X S) (single : Single (λ q. times-spare q S)) where
+  module _ (l : ℕ) (x : Node (Subtree (suc l))) {lo hi sums counts : ℕ} (k : Known 12 kind changes t X S l lo hi sums counts x) where
+    abbrev p : ℕ
+    p = x .entry .child
+
+    abbrev y : Node (Subtree l)
+    y = there l t (x .subtree)
+
+    entry-there : entry-for t p X ≡ y .entry
+    entry-there = rw (entries-are l X x (k .shown)) (at-flat l (x .subtree) (index-of t (flat (x .subtree))))
+
+    grew : CutIs 12 t l y X S
+    grew =
+        let n = k .stocked in
+        cut-node-is 12 t l y X S (stores-on l t x n X (k .shown)) (stocked-on l t x n) s (once-there t l x S n (k .once))
+
+    -- where the entry below becomes two in a page of 24, a page can be taken
+    abbrev Room : Entry → Type 0
+    Room e = 1 < length (cut-entry 12 t l e X .became) → 24 ≤ length (entries X p) → Takable (cut-entry 12 t l e X .image)
+
+    page-room : cut-node 12 t (suc l) x S .supply .mark ≤ X .head .pages → Room (y .entry)
+    page-room m two full =
+        let a : length (cut-entry 12 t l (y .entry) X .became) ≡ length (inner 12 t l x S .became) =
+        ap length (grew .same) ∙ length-map (inner 12 t l x S .became) (λ z. z .entry) in
+        let n : length (entries X p) ≡ length (x .subtree) = ap length (entries-are l X x (k .shown)) ∙ length-map (x .subtree) (λ z. z .entry) in
+        let e = splits t l x S (k .stocked) (omega arith) (omega arith) in
+        grew-takable grew single (omega (arith, ap (λ (R : Supply). R .mark) e))
+
+    page-cuttable : l < 255 → cut-node 12 t (suc l) x S .supply .mark ≤ X .head .pages → Page-cuttable l p t X
+    page-cuttable low m = record { searchable = known-searchable k; low = low; room = subst⁻¹ Room entry-there (page-room m) }
+
+  entry-cuttable : (l : ℕ) (x : Node (Subtree (suc l))) {lo hi sums counts : ℕ} → Known 12 kind changes t X S l lo hi sums counts x → l < 255
+      → cut-node 12 t (suc l) x S .supply .mark ≤ X .head .pages
+      → Entry-cuttable (suc l) (x .entry) t X
+  unfolding Entry-cuttable
+  entry-cuttable zero x k low m = (page-cuttable zero x k low m, tt)
+  entry-cuttable (suc l) x k low m = (
+    page-cuttable (suc l) x k low m,
+    subst⁻¹ (λ e. Entry-cuttable (suc l) e t X) (entry-there (suc l) x k)
+        (entry-cuttable l (there (suc l) t (x .subtree)) (known-below k .known) (omega arith) (omega (arith, inner-mark t (suc l) x S))),
+  )
+
+-- ---- from the root
+
+-- a new root takes a page
+grown-mark : (l : ℕ) (es : List (Node (Subtree (suc l)))) (R : Supply) → R .mark ≤ grow-if-split l es R .supply .mark
+unfolding grow-if-split
+grown-mark l [] R = omega arith
+grown-mark l (x ∷ []) R = omega arith
+grown-mark l (x ∷ y ∷ es) R = next-mark R
+
+grown-two : (l : ℕ) (es : List (Node (Subtree (suc l)))) (R : Supply) → 1 < length es → grow-if-split l es R .supply ≡ without-next R
+unfolding grow-if-split
+grown-two l [] R h = absurd (omega arith)
+grown-two l (x ∷ []) R h = absurd (omega arith)
+grown-two l (x ∷ y ∷ es) R h = refl
+
+module _ {kind changes : ℕ} (t : ℕ) (X : Image) (Y : State) (g : Structure 12 kind changes X Y) where
+  abbrev l : ℕ
+  l = Y .tree .level
+
+  abbrev x₀ : Node (Subtree (suc l))
+  x₀ = root-node (Y .tree)
+
+  abbrev r₀ : Cutting (Subtree (suc l))
+  r₀ = cut-node 12 t (suc l) x₀ (Y .supply)
+
+  low : X .head .height ≤ most-height
+  low = height-most X Y g
+
+  full : Full Y
+  full = formed-full 12 Leaf (omega arith) Y (g .formed)
+
+  single : Single (λ q. times-spare q (Y .supply))
+  single zero = omega (arith, held-is 0 Y, g .head-apart)
+  single (suc q) = omega (arith, held-is (suc q) Y, g .once (suc q) (omega arith))
+
+  root-grew : CutIs 12 t (suc l) x₀ X (Y .supply)
+  unfolding Full
+  root-grew = cut-node-is 12 t (suc l) x₀ X (Y .supply) (g .shown .below) full (g .shown .supplied) (structure-known (omega arith) t g .once)
+
+  root-entry-is : root-entry X ≡ x₀ .entry
+  unfolding root-entry root-node
+  root-entry-is = ap (λ (p : ℕ). entry 0 none p) (g .shown .root)
+
+  from-root-is : from-root t X ≡ cut-entry 12 t (suc l) (x₀ .entry) X
+  from-root-is = λ j. cut-entry 12 t (g .shown .height j) (root-entry-is j) X
+
+  -- the supply after the cut, where t is no END
+  cut-supply : t < END → cut 12 t Y .supply ≡ grow-if-split l (r₀ .became) (r₀ .supply) .supply
+  unfolding cut
+  cut-supply h = ap (λ b. cond b Y (grow-if-split l (r₀ .became) (r₀ .supply)) .supply) (lt-leb END t h)
+
+  abbrev Root-room : CuttingX → Type 0
+  Root-room r = 1 < length (r .became) → Takable (r .image)
+
+  root-room : grow-if-split l (r₀ .became) (r₀ .supply) .supply .mark ≤ X .head .pages → Root-room (cut-entry 12 t (suc l) (x₀ .entry) X)
+  root-room m two =
+      let k : length (cut-entry 12 t (suc l) (x₀ .entry) X .became) ≡ length (r₀ .became) =
+      ap length (root-grew .same) ∙ length-map (r₀ .became) (λ z. z .entry) in
+      let e = grown-two l (r₀ .became) (r₀ .supply) (omega arith) in
+      grew-takable root-grew single (omega (arith, ap (λ (R : Supply). R .mark) e))
+
+  root-cuttable : t < END → cut 12 t Y .supply .mark ≤ X .head .pages → Root-cuttable t X
+  root-cuttable h m =
+      let c = ap (λ (R : Supply). R .mark) (cut-supply h) in
+      record {
+        low = omega (arith, low);
+        entry =
+            subst₂ (λ n e. Entry-cuttable n e t X) (sym (g .shown .height)) (sym root-entry-is)
+            (entry-cuttable t (g .shown .supplied) single l x₀ (structure-known (omega arith) t g) (omega (arith, low, g .shown .height))
+            (omega (arith, grown-mark l (r₀ .became) (r₀ .supply))));
+        room = subst⁻¹ Root-room from-root-is (root-room (omega arith));
+      }
+
+  after : Stepped X (cut-x 12 t X) Y (cut 12 t Y) (cut-names 12 (combine 1) t X)
+  after = cut-is 12 (combine 1) t X Y (g .shown) (structure-once g) full
+
+  -- An image as it is before a cut can be cut, if the high mark then stays within the image.
+  pub cuttable : cut-x 12 t X .head .mark ≤ X .head .pages → Cuttable t X
+  cuttable m = record { root = λ h. root-cuttable h (omega (arith, after .shown .supplied .mark)) }
+
+  -- so it does if the image after the cut has the structure
+  pub structure-cuttable : {Z : State} → Structure 12 kind changes (cut-x 12 t X) Z → Cuttable t X
+  structure-cuttable h = cuttable (omega (arith, h .ranges .mark-most, after .steady .pages))

@@ -1,0 +1,15 @@
+pub mod Below
+pub mod Moves
+pub mod Taking
+pub mod Paths
+pub mod Stepped
+pub mod Split
+pub mod Cut
+pub mod Combine
+pub mod Order
+pub mod Rebalance
+pub mod Collapse
+pub mod Past
+pub mod Heal
+pub mod Formed
+pub mod Fresh
