@@ -1,3 +1,3 @@
--- `Laws` has what a fit length and a fit head give, `Fresh` the bytes of a fresh image, piece by piece.
+-- `Laws` has what a fit length and a fit head give, `FreshImage` the bytes of a fresh image, piece by piece.
 pub mod Laws
-pub mod Fresh
+pub mod FreshImage

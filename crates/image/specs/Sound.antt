@@ -6,7 +6,7 @@ use mathlib.Core.List.{List, [], _∷_}
 use lib.ListN.{length}
 use lib.Dec.{eqb}
 use Rattle.lists.specs.Lists.{concat-map}
-unfoldable pub use Rattle.lists.specs.Lists.{times, all-of}
+use Rattle.lists.specs.Lists.{times, all-of}
 use Rattle.fields.specs.Bytes.{every}
 use Rattle.page.specs.declared.Head.{Head}
 use Rattle.page.specs.Layout.{entry-count, child-at, entries-of, next-of, free-ok, never-used-ok, head-of}

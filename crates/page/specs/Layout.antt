@@ -4,7 +4,7 @@ use mathlib.Core.Bool.{Bool, _&&_}
 use mathlib.Core.List.{List, [], _∷_, _++_}
 use lib.ListN.{length}
 use lib.Dec.{eqb}
-unfoldable pub use Rattle.lists.specs.Lists.{listed, joined}
+use Rattle.lists.specs.Lists.{listed, concat-map}
 use Rattle.rule.specs.declared.Pair.{Pair}
 use Rattle.fields.specs.Bytes.{part, patch, unused, all-are}
 use Rattle.fields.specs.Numbers.{u32-at, i32-at, i64-at, u32-bytes, i32-bytes, i64-bytes}
@@ -75,8 +75,8 @@ unfoldable pub tree-bytes : ℕ → ℕ → List Entry → List ℕ
 tree-bytes half level es =
     let past = capacity half - length es in
     u32-bytes level ++ (u32-bytes (length es) ++ (unused 24
-    ++ (joined (λ e. u32-bytes (e .start)) es ++ (unused (4 * past)
-    ++ (joined entry-bytes es ++ unused (16 * past))))))
+    ++ (concat-map (λ e. u32-bytes (e .start)) es ++ (unused (4 * past)
+    ++ (concat-map entry-bytes es ++ unused (16 * past))))))
 
 -- "Free page: level field 255, next free page (0 ends the chain), rest FF."
 abbrev pub free-level : ℕ
@@ -113,6 +113,6 @@ head-of s =
 
 unfoldable pub head-bytes : ℕ → Head → List ℕ
 head-bytes half h =
-    joined u32-bytes
+    concat-map u32-bytes
     (h .pages ∷ h .height ∷ h .root ∷ h .free ∷ h .chain ∷ h .mark ∷ h .kind ∷ h .window ∷ h .changes ∷ [])
     ++ unused (page-size half - 36)

@@ -15,7 +15,6 @@ use Rattle.fit.proofs.Laws.Paths.{Path, root-path, path-bounded, below-path}
 use Rattle.image.specs.Images.{page-at}
 use Rattle.image.specs.Instant as image
 use Rattle.image.specs.Instant.{stopped, leaf-answer, above, look, look-up}
-use Rattle.lookup.specs.declared.LookupAnswer.{LookupAnswer}
 use Rattle.lookup.specs.declared.LookupAnswer.the-variants.{Answered, Unfit}
 use Rattle.access.specs.Access.{Page-in, Open-image}
 use Rattle.access.proofs.Laws.{opened-ranges, opened-within}

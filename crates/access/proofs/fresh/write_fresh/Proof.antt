@@ -5,7 +5,7 @@ use native.Mathlib.Omega.{arith}
 use Rattle.fields.specs.Bytes.{unused}
 use Rattle.image.specs.Images.{pages-in}
 use Rattle.image.proofs.Sizes.{Sized, sized}
-use Rattle.access.proofs.Fresh.{fresh-written}
+use Rattle.access.proofs.FreshImage.{fresh-written}
 use Rattle.access.proofs.fresh.write_fresh.Statement.{statement}
 use Rattle.access.proofs.fresh.write_fresh.Tie as tie
 
