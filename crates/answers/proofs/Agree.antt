@@ -89,7 +89,8 @@ span-is a b e =
     record { before = ltb-true a b (k .0); within = leb-true b END (k .1) }
 
 -- pairs that agree at every instant of a span have one listing over it, whatever the span
-pub listing-of-same : (f g : ℕ → Pair) (a b : ℕ) (out : List ℕ) → ((t : ℕ) → a ≤ t → t < b → b ≤ END → f t ≡ g t) → listing-of f a b out ≡ listing-of g a b out
+pub listing-of-same : (f g : ℕ → Pair) (a b : ℕ) (out : List ℕ) → ((t : ℕ) → a ≤ t → t < b → b ≤ END → f t ≡ g t)
+    → listing-of f a b out ≡ listing-of g a b out
 unfolding listing-of first outcome
 listing-of-same f g a b out e = go (span-ok a b) refl
   where
@@ -103,19 +104,27 @@ listing-of-same f g a b out e = go (span-ok a b) refl
         λ j. outcome (first ((15, too-short out (r j)) ∷ [])) (r j) out
 
 -- of a length in range, with a fit head and only fit pages met
-module _ (half a b : ℕ) (img : List ℕ) (x : length-ok half img ≡ true) (span : Span a b) (z : head-ok half img && walk-over half img a b .fit ≡ true) where
+module _ (half a b : ℕ) (img : List ℕ) (x : length-ok half img ≡ true) (span : Span a b)
+    (z : head-ok half img && walk-over half img a b .fit ≡ true) where
   -- every instant of the span is answered
   pub span-answered : (t : ℕ) → a ≤ t → t < b → Answered half t img
   span-answered t l g =
       let k = and-eq-true-iff (head-ok half img) (walk-over half img a b .fit) .0 z in
-      record { length-fits = x; before-end = omega (arith, span .within); head-fits = k .0; look-fits = looks-fit half img a b span (k .1) t l g }
+      record {
+        length-fits = x;
+        before-end = omega (arith, span .within);
+        head-fits = k .0;
+        look-fits =
+            looks-fit half img a b span (k .1) t l g;
+      }
 
   -- and the runs are those of what the instants answer
   pub span-runs : runs-over half a b img ≡ runs-of (λ t. instant half t img .pair) a b
   span-runs =
       let k = and-eq-true-iff (head-ok half img) (walk-over half img a b .fit) .0 z in
       runs-agree half img a b span (k .1)
-      ∙ runs-of-same (λ t. look-up half img t .pair) (λ t. instant half t img .pair) a b (span .before) (λ t l g. sym (instant-pair half t img (span-answered t l g)))
+      ∙ runs-of-same (λ t. look-up half img t .pair) (λ t. instant half t img .pair) a b (span .before)
+      (λ t l g. sym (instant-pair half t img (span-answered t l g)))
 
 -- Where 16 and 21 don't turn it back, a listing is that of the plain rule, over what instants answer: by what these rows ask, and by the
 -- status.
@@ -136,7 +145,8 @@ module _ (half a b : ℕ) (img out : List ℕ) where
       asked : (length-ok half img ≡ true) × (span-ok a b ≡ true → head-ok half img && walk-over half img a b .fit ≡ true)
       asked =
           unfold listing listing-status in
-          passed (length-ok half img) (span-ok a b) (head-ok half img && walk-over half img a b .fit) (too-short out (runs-over half a b img)) n m
+          passed (length-ok half img) (span-ok a b) (head-ok half img && walk-over half img a b .fit)
+          (too-short out (runs-over half a b img)) n m
 
 -- two images in which the instants of a span have the same pairs have the same listing over it
 pub same-listings : (half half′ a b : ℕ) (img img′ out : List ℕ)

@@ -1,4 +1,5 @@
--- Demand 1 over the definitions: what a refused call leaves, the pages that an instant reports, and that no average is beyond. Assumes nothing.
+-- Demand 1 over the definitions: what a refused call leaves, the pages that an instant reports, and that no average is beyond. Assumes
+-- nothing.
 use Prim.Native.Nat.{ℕ, _-_, _≤_}
 use mathlib.Core.Path.{_≡_, refl, ap, _∙_}
 use mathlib.Core.Logic.{_≢_}
@@ -21,7 +22,8 @@ use Rattle.image.specs.Instant.{look-up}
 use Rattle.steps.specs.Change.{lacks-pages}
 use Rattle.calls.specs.Refusals.{first, scratch-ok, cleared, scratch-after}
 use Rattle.calls.specs.Changes.{withdraws}
-use Rattle.calls.specs.Calls.{head, head-ok, format, book-input-rows, book-status, book, instant, instant-status, average-at, listing, audit-input-rows, audit}
+use Rattle.calls.specs.Calls.{head, head-ok, format, book-input-rows, book-status, book, instant, instant-status, average-at, listing}
+use Rattle.calls.specs.Calls.{audit-input-rows, audit}
 use Rattle.calls.specs.Demands.{Demand-1}
 use Rattle.fit.proofs.Laws.Heads.{fit-ranges}
 use Rattle.answers.proofs.Rows.{kept, book-scratch, audit-scratch}
@@ -34,7 +36,8 @@ unread : (half t : ℕ) (img : List ℕ) → instant half t img .status ≢ 0 �
 unfolding instant instant-status first
 unread half t img n m = go (length-ok half img) (leb END t) (head-ok half img && look-up half img t .fit) refl n m
   where
-    go : (x y z : Bool) → leb END t ≡ y → first ((16, not x) ∷ (12, y) ∷ (21, not z) ∷ []) ≢ 0 → first ((16, not x) ∷ (12, y) ∷ (21, not z) ∷ []) ≢ 21
+    go : (x y z : Bool) → leb END t ≡ y → first ((16, not x) ∷ (12, y) ∷ (21, not z) ∷ []) ≢ 0
+        → first ((16, not x) ∷ (12, y) ∷ (21, not z) ∷ []) ≢ 21
         → cond (x && (ltb t END && head-ok half img)) (look-up half img t .pages) 0 ≡ 0
     go false y z e n m = refl
     go true true z e n m = ap (λ c. cond (c && head-ok half img) (look-up half img t .pages) 0) (le-ltb t END (leb-true END t e))
@@ -55,7 +58,8 @@ average-within kind p f = go (eqb kind 1) (leZ (p .count) (pos 0)) (ltb most-sum
     go true false false d f e = let no : _≡_ {A = ℕ} 0 1 = cc in omega arith
 
 -- kind 1: what an instant answers is at most what a fit page can show
-pub look-up-sum : (half t : ℕ) (img : List ℕ) → Answered half t img → eqb (head half img .kind) 1 ≡ true → natAbs (look-up half img t .pair .sum) ≤ most-sum
+pub look-up-sum : (half t : ℕ) (img : List ℕ) → Answered half t img → eqb (head half img .kind) 1 ≡ true
+    → natAbs (look-up half img t .pair .sum) ≤ most-sum
 unfolding look-up head head-ok root-context
 look-up-sum half t img f one =
     let h : Head = head half img in
@@ -68,10 +72,12 @@ never-beyond : (half t : ℕ) (img : List ℕ) → average-at half t img .averag
 unfolding average-at
 never-beyond half t img = go (eqb (instant half t img .status) 0) refl
   where
-    go : (c : Bool) → eqb (instant half t img .status) 0 ≡ c → cond c (average (head half img .kind) (instant half t img .pair)) Nothing ≢ Beyond
+    go : (c : Bool) → eqb (instant half t img .status) 0 ≡ c
+        → cond c (average (head half img .kind) (instant half t img .pair)) Nothing ≢ Beyond
     go true d e =
         let f = answered half t img (eqb-true (instant half t img .status) 0 d) in
-        let same : natAbs (instant half t img .pair .sum) ≡ natAbs (look-up half img t .pair .sum) = ap (λ (q : Pair). natAbs (q .sum)) (instant-pair half t img f) in
+        let same : natAbs (instant half t img .pair .sum) ≡ natAbs (look-up half img t .pair .sum) =
+        ap (λ (q : Pair). natAbs (q .sum)) (instant-pair half t img f) in
         average-within (head half img .kind) (instant half t img .pair) (λ one. omega (arith, look-up-sum half t img f one)) e
     go false d e = let no : _≡_ {A = ℕ} 0 1 = cc in omega arith
 
@@ -88,10 +94,13 @@ demand-1 half =
       of-listing = λ a b img out n. (kept _ _ out n, kept _ _ 0 n);
       of-scratch =
           λ side v s e img scratch. (
-            book-scratch (not (length-ok half img)) (not (scratch-ok (pages-in half img) scratch)) (not (span-ok s e)) (not (value-ok v)) (not (sound half img))
+            book-scratch (not (length-ok half img)) (not (scratch-ok (pages-in half img) scratch)) (not (span-ok s e))
+                (not (value-ok v)) (not (sound half img))
                 (withdraws side && not (eqb (head half img .kind) 1)) (eqb (head half img .changes) most-changes)
-                (lacks-pages half s (effect-end e (head half img .window)) (image-of half img)) scratch (cleared (pages-in half img) scratch),
-            audit-scratch (not (length-ok half img)) (not (scratch-ok (pages-in half img) scratch)) (not (sound half img)) scratch (cleared (pages-in half img) scratch),
+                (lacks-pages half s (effect-end e (head half img .window)) (image-of half img)) scratch
+                (cleared (pages-in half img) scratch),
+            audit-scratch (not (length-ok half img)) (not (scratch-ok (pages-in half img) scratch)) (not (sound half img)) scratch
+                (cleared (pages-in half img) scratch),
           );
       of-pages =
           λ t img. (

@@ -32,7 +32,8 @@ use Rattle.soundness.proofs.Trails.{all-visits, found-short}
 -- ---- a walk, by the pages that it finds fit
 
 module _ (half : ℕ) (h : Head) (img : List ℕ) where
-  found-length : (n : ℕ) (f : ℕ → List Visit) → length (found-fit half h img (each-in-turn n f)) ≡ total n (λ i. length (found-fit half h img (f i)))
+  found-length : (n : ℕ) (f : ℕ → List Visit)
+      → length (found-fit half h img (each-in-turn n f)) ≡ total n (λ i. length (found-fit half h img (f i)))
   unfolding each-in-turn found-fit total
   found-length zero f = refl
   found-length (suc n) f =
@@ -45,7 +46,8 @@ module _ (half : ℕ) (h : Head) (img : List ℕ) where
 
   module _ (a b : ℕ) where
     walk-few : (l : ℕ) (at : Page-context) (p : ℕ)
-        → length (walk half h img a b l at p .runs) ≤ capacity half * length (found-fit half h img (visits half h img (entries-over a b) l at p))
+        → length (walk half h img a b l at p .runs) ≤ capacity half
+        * length (found-fit half h img (visits half h img (entries-over a b) l at p))
     unfolding walk walk-page visits found-fit finds-fit entries-over stopped leaf-run
     walk-few zero at p = go (page-fit half h at s) refl
       where
@@ -60,11 +62,13 @@ module _ (half : ℕ) (h : Head) (img : List ℕ) where
         go true e =
             let few : length (in-turn (entry-count s) found .runs) ≤ 1 * total (entry-count s) (λ _. 1) =
             turn-le (entry-count s) found (λ _. 1) 1
-            (λ i. picked-le (overlaps a b (start-at s i) (end-at s (at .hi) i)) (leaf-run a (start-at s i) (pair-at half s i)) 1 (omega arith)) in
+            (λ i.
+            picked-le (overlaps a b (start-at s i) (end-at s (at .hi) i)) (leaf-run a (start-at s i) (pair-at half s i)) 1 (omega arith)) in
             omega (arith, few, total-ones (entry-count s) (λ _. 1) (λ i l. refl), page-fit-is half h at s .0 e .most)
         go false e = omega arith
     walk-few (suc l) at p =
-        go (λ i. walk-few l (context-below half (page-at half img p) at i) (child-at half (page-at half img p) i)) (page-fit half h at (page-at half img p))
+        go (λ i. walk-few l (context-below half (page-at half img p) at i) (child-at half (page-at half img p) i))
+        (page-fit half h at (page-at half img p))
       where
         s : List ℕ
         s = page-at half img p
@@ -96,7 +100,8 @@ module _ (half : ℕ) (h : Head) (img : List ℕ) where
             (cond c (p ∷ found-fit half h img (cond c (each-in-turn (entry-count s) looks) []))
             (found-fit half h img (cond c (each-in-turn (entry-count s) looks) [])))
         go r true =
-            let all : length (in-turn (entry-count s) found .runs) ≤ capacity half * total (entry-count s) (λ i. length (found-fit half h img (looks i))) =
+            let all : length (in-turn (entry-count s) found .runs) ≤ capacity half
+            * total (entry-count s) (λ i. length (found-fit half h img (looks i))) =
             turn-le (entry-count s) found (λ i. length (found-fit half h img (looks i))) (capacity half)
             (λ i. both (overlaps a b (start-at s i) (end-at s (at .hi) i)) i (rw length-under (r i))) in
             let more : capacity half * length (found-fit half h img (each-in-turn (entry-count s) looks))
@@ -144,14 +149,17 @@ rows-enough true true true false f e = omega arith
 answered : (half a b : ℕ) (img out : List ℕ) → listing half a b img out .runs ≤ capacity half * (pages-in half img - 1)
 unfolding listing listing-status
 answered half a b img out =
-    rows-answer (length-ok half img) (span-ok a b) (head-ok half img && walk-over half img a b .fit) (too-short out (runs-over half a b img))
+    rows-answer (length-ok half img) (span-ok a b) (head-ok half img && walk-over half img a b .fit)
+    (too-short out (runs-over half a b img))
     (length (runs-over half a b img)) (capacity half * (pages-in half img - 1))
     (λ z. shown half a b img (and-eq-true-iff (head-ok half img) (walk-over half img a b .fit) .0 z .0))
 
-enough : (half a b : ℕ) (img out : List ℕ) → 16 * (capacity half * (pages-in half img - 1)) ≤ length out → listing half a b img out .status ≢ 15
+enough : (half a b : ℕ) (img out : List ℕ) → 16 * (capacity half * (pages-in half img - 1)) ≤ length out
+    → listing half a b img out .status ≢ 15
 unfolding listing listing-status too-short
 enough half a b img out room =
-    rows-enough (length-ok half img) (span-ok a b) (head-ok half img && walk-over half img a b .fit) (too-short out (runs-over half a b img))
+    rows-enough (length-ok half img) (span-ok a b) (head-ok half img && walk-over half img a b .fit)
+    (too-short out (runs-over half a b img))
     (λ z.
     le-ltb (length out) (16 * length (runs-over half a b img))
     (omega (arith, room, shown half a b img (and-eq-true-iff (head-ok half img) (walk-over half img a b .fit) .0 z .0))))

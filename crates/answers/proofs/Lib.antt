@@ -1,9 +1,7 @@
--- `Rows` has what the rows of refusals decide, `Tiles` runs that tile a span, `Indices` the entry of a fit page that has an instant.
--- `Look` has what a lookup
--- says of the pages on its path, `Walk` that a walk's runs tile its span with what lookups find, `Calls` what the calls make of both.
--- `Demand` has demand 1,
--- `Agree` that instant and listing agree on every image, `Sound` that a sound image answers everywhere. `Few` has how many runs
--- a walk finds, `Short` how many pages it looks at.
+-- `Rows` has what the rows of refusals decide, `Tiles` runs that tile a span, `Indices` the entry of a fit page that has an instant. `Look`
+-- has what a lookup says of the pages on its path, `Walk` that a walk's runs tile its span with what lookups find, `Calls` what the calls
+-- make of both. `Demand` has demand 1, `Agree` that instant and listing agree on every image, `Sound` that a sound image answers
+-- everywhere. `Few` has how many runs a walk finds, `Short` how many pages it looks at.
 pub mod Rows
 pub mod Tiles
 pub mod Indices

@@ -46,12 +46,14 @@ went-on false r e = absurd (false≢true e)
 module _ (half : ℕ) (h : Head) (img : List ℕ) (t : ℕ) where
   -- ---- one page, by the entry that is found in it
 
-  module _ (at : Page-context) (p i : ℕ) (fits : page-fit half h at (page-at half img p) ≡ true) (at-i : index-of t (entries-of half (page-at half img p)) ≡ i) where
+  module _ (at : Page-context) (p i : ℕ) (fits : page-fit half h at (page-at half img p) ≡ true)
+      (at-i : index-of t (entries-of half (page-at half img p)) ≡ i) where
     leaf-is : look half h img t zero at p ≡ leaf-answer (pair-at half (page-at half img p) i)
     unfolding look
     leaf-is =
         let s : List ℕ = page-at half img p in
-        ap (λ c. cond c (leaf-answer (pair-at half s (index-of t (entries-of half s)))) stopped) fits ∙ ap (λ k. leaf-answer (pair-at half s k)) at-i
+        ap (λ c. cond c (leaf-answer (pair-at half s (index-of t (entries-of half s)))) stopped) fits
+        ∙ ap (λ k. leaf-answer (pair-at half s k)) at-i
 
     inner-is : (l : ℕ) → look half h img t (suc l) at p
         ≡ above (combine (h .kind)) (pair-at half (page-at half img p) i)
@@ -59,14 +61,16 @@ module _ (half : ℕ) (h : Head) (img : List ℕ) (t : ℕ) where
     unfolding look
     inner-is l =
         let s : List ℕ = page-at half img p in
-        let a : ℕ → Lookup = λ k. above (combine (h .kind)) (pair-at half s k) (look half h img t l (context-below half s at k) (child-at half s k)) in
+        let a : ℕ → Lookup =
+        λ k. above (combine (h .kind)) (pair-at half s k) (look half h img t l (context-below half s at k) (child-at half s k)) in
         ap (λ c. cond c (a (index-of t (entries-of half s))) stopped) fits ∙ ap a at-i
 
     pub found-leaf : Found (look half h img t zero at p) (pair-at half (page-at half img p) i)
     unfolding leaf-answer
     found-leaf = record { fit = ap (λ (r : Lookup). r .fit) leaf-is; pair = ap (λ (r : Lookup). r .pair) leaf-is }
 
-    pub found-inner : (l : ℕ) {q : Pair} → Found (look half h img t l (context-below half (page-at half img p) at i) (child-at half (page-at half img p) i)) q
+    pub found-inner : (l : ℕ) {q : Pair}
+        → Found (look half h img t l (context-below half (page-at half img p) at i) (child-at half (page-at half img p) i)) q
         → Found (look half h img t (suc l) at p) (combine (h .kind) (pair-at half (page-at half img p) i) q)
     unfolding above
     found-inner l {q} b =
@@ -117,7 +121,12 @@ module _ (half : ℕ) (h : Head) (img : List ℕ) (t : ℕ) where
         let i : ℕ = index-of t (entries-of half s) in
         let top = look-top zero at p e in
         let v = found-leaf at p i top refl in
-        omega (arith, ap (λ (q : Pair). natAbs (q .sum)) (v .pair), page-fit-is half h at s .0 top .pairs i (inside at s top) .total one .sums)
+        omega (
+          arith,
+          ap (λ (q : Pair). natAbs (q .sum)) (v .pair),
+          page-fit-is half h at s .0 top .pairs i (inside at s top) .total
+              one .sums,
+        )
     look-sum one (suc l) at p e =
         let s : List ℕ = page-at half img p in
         let i : ℕ = index-of t (entries-of half s) in

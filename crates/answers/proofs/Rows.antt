@@ -32,7 +32,8 @@ asked true false true e = record { length-fits = refl; before-end = refl; pages-
 
 pub book-scratch : {A : Type 0} (b16 b17 b11 b13 b21 b22 b23 b24 : Bool) (had done : A)
     → cond (eqb (first ((16, b16) ∷ (17, b17) ∷ (11, b11) ∷ (13, b13) ∷ [])) 0) done had
-    ≡ cond (keeps-scratch (first ((16, b16) ∷ (17, b17) ∷ (11, b11) ∷ (13, b13) ∷ (21, b21) ∷ (22, b22) ∷ (23, b23) ∷ (24, b24) ∷ []))) had done
+    ≡ cond (keeps-scratch
+    (first ((16, b16) ∷ (17, b17) ∷ (11, b11) ∷ (13, b13) ∷ (21, b21) ∷ (22, b22) ∷ (23, b23) ∷ (24, b24) ∷ []))) had done
 unfolding first keeps-scratch
 book-scratch true b17 b11 b13 b21 b22 b23 b24 had done = refl
 book-scratch false true b11 b13 b21 b22 b23 b24 had done = refl

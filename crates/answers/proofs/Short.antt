@@ -19,7 +19,8 @@ use Rattle.calls.specs.Calls.{head, head-ok, listing-status}
 use Rattle.calls.specs.Walks.{Short-walk, Short-walks, listing-looks}
 use Rattle.fit.proofs.Laws.Heads.{fit-ranges}
 use Rattle.soundness.proofs.Sound.{the-head}
-use Rattle.soundness.proofs.Trails.{length-pages, up-to-fewer, all-visits, trail-once, trail-in, trail-short, trail-fit-short, audit-short, audit-fits, audit-tree}
+use Rattle.soundness.proofs.Trails.{length-pages, up-to-fewer, all-visits, trail-once, trail-in, trail-short, trail-fit-short, audit-short}
+use Rattle.soundness.proofs.Trails.{audit-fits, audit-tree}
 use Rattle.soundness.proofs.Looks.{looks-inside, looks-once}
 
 any : (half : ℕ) (img : List ℕ) (into : Page-context → List ℕ → ℕ → Bool) → head-ok half img ≡ true → Short-walk half img into
@@ -71,7 +72,8 @@ module _ (half t : ℕ) (h : Head) (img : List ℕ) where
   unfolding visits entry-of
   way-short zero at p = omega arith
   way-short (suc l) at p =
-      go (λ i. way-short l (context-below half (page-at half img p) at i) (child-at half (page-at half img p) i)) (page-fit half h at (page-at half img p))
+      go (λ i. way-short l (context-below half (page-at half img p) at i) (child-at half (page-at half img p) i))
+      (page-fit half h at (page-at half img p))
     where
       s : List ℕ
       s = page-at half img p
@@ -80,7 +82,8 @@ module _ (half t : ℕ) (h : Head) (img : List ℕ) where
       below i = visits half h img (entry-of half t) l (context-below half s at i) (child-at half s i)
 
       go : ((i : ℕ) → length (below i) ≤ suc l) → (c : Bool)
-          → suc (length (cond c (each-in-turn (entry-count s) (λ i. cond (eqb i (index-of t (entries-of half s))) (below i) [])) [])) ≤ suc (suc l)
+          → suc (length (cond c (each-in-turn (entry-count s) (λ i. cond (eqb i (index-of t (entries-of half s))) (below i) [])) []))
+          ≤ suc (suc l)
       go r true = omega (arith, one-of (suc l) (index-of t (entries-of half s)) below r (entry-count s))
       go r false = omega arith
 

@@ -11,10 +11,12 @@ use Rattle.rule.proofs.Laws.{same-pair-is}
 use Rattle.image.specs.Listing.{Run, join-after, join}
 use Rattle.calls.specs.Book.{runs-after, runs-of}
 
--- The runs of [a, b): the first starts at a, each ends where the next one starts and the last at b, and every instant of a run has its pair by Q.
+-- The runs of [a, b): the first starts at a, each ends where the next one starts and the last at b, and every instant of a run has its pair
+-- by Q.
 pub data Tiles (Q : ℕ → Pair → Type 0) : ℕ → ℕ → List Run → Type 0 where
   done : {a : ℕ} → Tiles Q a a []
-  more : {a m b : ℕ} {r : Run} {rs : List Run} → r .start ≡ a → a < m → ((t : ℕ) → a ≤ t → t < m → Q t (r .pair)) → Tiles Q m b rs → Tiles Q a b (r ∷ rs)
+  more : {a m b : ℕ} {r : Run} {rs : List Run} → r .start ≡ a → a < m → ((t : ℕ) → a ≤ t → t < m → Q t (r .pair)) → Tiles Q m b rs
+      → Tiles Q a b (r ∷ rs)
 
 module _ {Q : ℕ → Pair → Type 0} where
   pub tiles-none : {a b : ℕ} → a ≡ b → Tiles Q a b []
@@ -67,7 +69,8 @@ module _ (f : ℕ → Pair) where
       let en : n ≡ suc (d + k) = omega arith in
       ap (runs-after f t) en
       ∙ runs-more t (d + k) (runs-after f u k) (runs-skip d (suc t) (d + k) k u refl (omega arith) (λ i l m. s i (omega arith) m))
-      ∙ ap (λ c. cond c (runs-after f u k) (record { start = suc t; pair = f (suc t) } ∷ runs-after f u k)) (same-pair-is (f t) (f (suc t)) .1 (s t (omega arith) (omega arith)))
+      ∙ ap (λ c. cond c (runs-after f u k) (record { start = suc t; pair = f (suc t) } ∷ runs-after f u k))
+      (same-pair-is (f t) (f (suc t)) .1 (s t (omega arith) (omega arith)))
 
 -- instants with the same pairs have the same runs
 runs-after-same : (f g : ℕ → Pair) (t k : ℕ) → ((i : ℕ) → t ≤ i → i ≤ t + k → f i ≡ g i) → runs-after f t k ≡ runs-after g t k
@@ -88,7 +91,8 @@ runs-of-same f g a b l e =
 
 -- ---- joined
 
-join-more : (p : Pair) (r : Run) (rs R : List Run) → join-after (r .pair) rs ≡ R → join-after p (r ∷ rs) ≡ cond (same-pair p (r .pair)) R (r ∷ R)
+join-more : (p : Pair) (r : Run) (rs R : List Run) → join-after (r .pair) rs ≡ R
+    → join-after p (r ∷ rs) ≡ cond (same-pair p (r .pair)) R (r ∷ R)
 unfolding join-after
 join-more p r rs R e = go (same-pair p (r .pair)) refl
   where

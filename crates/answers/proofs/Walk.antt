@@ -67,7 +67,8 @@ module _ (a b lo hi : ℕ) where
   unfolding overlaps nothing
   entry-tiles {Q} w l s e f = go (overlaps a b lo hi) refl e
     where
-      go : (c : Bool) → overlaps a b lo hi ≡ c → cond c w nothing .fit ≡ true → Tiles Q (within a b lo) (within a b hi) (cond c w nothing .runs)
+      go : (c : Bool) → overlaps a b lo hi ≡ c → cond c w nothing .fit ≡ true
+          → Tiles Q (within a b lo) (within a b hi) (cond c w nothing .runs)
       go true d e =
           let k = simp and-eq-true-iff at d in
           f (ltb-true lo b (k .0)) (ltb-true a hi (k .1)) e
@@ -123,7 +124,8 @@ module _ (half : ℕ) (h : Head) (img : List ℕ) (a b : ℕ) (some : 1 ≤ half
       (λ t u w. found-leaf half h img t at p i top (found-at f t i m (omega arith) (omega arith))))
   walk-tiles (suc v) at p e =
       let s : List ℕ = page-at half img p in
-      let below : ℕ → Walked = λ i. under (combine (h .kind)) (pair-at half s i) (walk half h img a b v (context-below half s at i) (child-at half s i)) in
+      let below : ℕ → Walked =
+      λ i. under (combine (h .kind)) (pair-at half s i) (walk half h img a b v (context-below half s at i) (child-at half s i)) in
       let top = walk-top half h img a b (suc v) at p e in
       let f = page-fit-is half h at s .0 top in
       page-tiles half h a b some l at s below e

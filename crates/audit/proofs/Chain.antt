@@ -28,5 +28,6 @@ module _ (half : ℕ) (img : List ℕ) where
       → chain-ends half img left p ≡ chain-ends half img (left - 1) (next-of (page-at half img p))
   chain-on n left p e l h = sym (chain-more n left p e l) ∙ ap (λ t. t && chain-ends half img (left - 1) (next-of (page-at half img p))) h
 
-  pub chain-stops : (n left p : ℕ) → pages-in half img ≡ n → 0 < left → leads-to-free half img n p ≡ false → false ≡ chain-ends half img left p
+  pub chain-stops : (n left p : ℕ) → pages-in half img ≡ n → 0 < left → leads-to-free half img n p ≡ false
+      → false ≡ chain-ends half img left p
   chain-stops n left p e l h = fails (chain-ends half img (left - 1) (next-of (page-at half img p))) h ∙ chain-more n left p e l

@@ -68,7 +68,8 @@ module _ {img : List ℕ} {h : Head} {a : PageCount} (w : Walked img h a) where
     fit-tree : tree-fit 12 h img (root-context h .level) (root-context h) (h .root) ≡ true
     fit-tree = counted-fit 12 h img (root-context h) (h .root) k (sym (w .answer) ∙ z) .0
 
-    same-count : eqb (length (tree-pages 12 img (root-context h .level) (h .root)) + h .chain) (h .mark - 1) ≡ eqb (k + h .chain) (h .mark - 1)
+    same-count : eqb (length (tree-pages 12 img (root-context h .level) (h .root)) + h .chain) (h .mark - 1) ≡
+        eqb (k + h .chain) (h .mark - 1)
     same-count = ap (λ n. eqb (n + h .chain) (h .mark - 1)) (counted-fit 12 h img (root-context h) (h .root) k (sym (w .answer) ∙ z) .1)
 
     pub unsound-count : eqb (k + h .chain) (h .mark - 1) ≡ false → false ≡ sound 12 img
@@ -78,5 +79,6 @@ module _ {img : List ℕ} {h : Head} {a : PageCount} (w : Walked img h a) where
         → u ≡ every (h .pages - h .mark) (λ i. never-used-ok (page-at 12 img (h .mark + i))) → (c && u) ≡ sound 12 img
     sound-rest s v x =
         let n = opened-ranges (w .opened) .pages-is in
-        passes fit-tree (passes (same-count ∙ s) (ap₂ _&&_ v (x ∙ ap (λ k. every (k - h .mark) (λ i. never-used-ok (page-at 12 img (h .mark + i)))) n)))
+        passes fit-tree
+        (passes (same-count ∙ s) (ap₂ _&&_ v (x ∙ ap (λ k. every (k - h .mark) (λ i. never-used-ok (page-at 12 img (h .mark + i)))) n)))
         ∙ sound-parts (w .opened)

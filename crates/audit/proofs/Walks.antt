@@ -48,7 +48,8 @@ module _ (half : ℕ) (h : Head) (img : List ℕ) (at : Page-context) (p : ℕ) 
   unfolding page-count
   counted-fit k e = fit-of _ _ k e
 
-  pub fit-counted : {k : ℕ} → tree-fit half h img (at .level) at p ≡ true → length (tree-pages half img (at .level) p) ≡ k → Fit k ≡ page-count half h img at p
+  pub fit-counted : {k : ℕ} → tree-fit half h img (at .level) at p ≡ true → length (tree-pages half img (at .level) p) ≡ k
+      → Fit k ≡ page-count half h img at p
   unfolding page-count
   fit-counted e l = ap₂ (λ t n. cond t (Fit n) Unfit) (sym e) (sym l)
 
@@ -66,10 +67,12 @@ module _ (half : ℕ) (h : Head) (img : List ℕ) (at : Page-context) (p : ℕ) 
   page-unfit e = unfit-counted (λ t. true≢false (sym (top-fit half h img (at .level) at p t) ∙ e))
 
   -- the test of the page's bytes as the code has them
-  pub tested : {s : List ℕ} {r t : Bool} → s ≡ page-at half img p → r ≡ page-fit half h at s → r ≡ t → page-fit half h at (page-at half img p) ≡ t
+  pub tested : {s : List ℕ} {r t : Bool} → s ≡ page-at half img p → r ≡ page-fit half h at s → r ≡ t
+      → page-fit half h at (page-at half img p) ≡ t
   tested d e f = ap (page-fit half h at) (sym d) ∙ sym e ∙ f
 
-  tree-leaf : (l : ℕ) → l ≡ 0 → page-fit half h at (page-at half img p) ≡ true → (tree-fit half h img l at p ≡ true) × (length (tree-pages half img l p) ≡ 1)
+  tree-leaf : (l : ℕ) → l ≡ 0 → page-fit half h at (page-at half img p) ≡ true
+      → (tree-fit half h img l at p ≡ true) × (length (tree-pages half img l p) ≡ 1)
   unfolding tree-fit tree-pages
   tree-leaf zero z e = (e, refl)
   tree-leaf (suc l) z e = absurd (omega arith)
@@ -84,7 +87,8 @@ module _ (half : ℕ) (h : Head) (img : List ℕ) (at : Page-context) (p : ℕ) 
 pub standing-within : {img : List ℕ} {h : Head} {at : Page-context} {p : ℕ} → Standing img h at p → Page-in img p
 standing-within w = omega (arith, w .size, w .below)
 
-pub standing-size : {img : List ℕ} {h : Head} {at : Page-context} {p : ℕ} {s : List ℕ} → Standing img h at p → s ≡ page-at 12 img p → length s ≡ 512
+pub standing-size : {img : List ℕ} {h : Head} {at : Page-context} {p : ℕ} {s : List ℕ} → Standing img h at p
+    → s ≡ page-at 12 img p → length s ≡ 512
 standing-size w d = ap length d ∙ page-length _ _ (standing-within w)
 
 pub standing-bounded : {img : List ℕ} {h : Head} {at : Page-context} {p : ℕ} → Standing img h at p → Bounded at
@@ -137,11 +141,13 @@ pub record Passing (img : List ℕ) (h : Head) (at : Page-context) (p n pages i 
   pub fit : page-fit 12 h at (page-at 12 img p) ≡ true
   pub len : n ≡ entry-count (page-at 12 img p)
   pub within : i ≤ n
-  pub each : (j : ℕ) → j < i → tree-fit 12 h img (at .level - 1) (context-below 12 (page-at 12 img p) at j) (child-at 12 (page-at 12 img p) j) ≡ true
+  pub each : (j : ℕ) → j < i
+      → tree-fit 12 h img (at .level - 1) (context-below 12 (page-at 12 img p) at j) (child-at 12 (page-at 12 img p) j) ≡ true
   pub count : pages ≡ suc (total i (λ j. length (tree-pages 12 img (at .level - 1) (child-at 12 (page-at 12 img p) j))))
   pub most : pages ≤ 1 + 1024 * i
 
-pub passing-none : {img : List ℕ} {h : Head} {at : Page-context} {p n : ℕ} → Standing img h at p → 1 ≤ at .level → page-fit 12 h at (page-at 12 img p) ≡ true
+pub passing-none : {img : List ℕ} {h : Head} {at : Page-context} {p n : ℕ} → Standing img h at p → 1 ≤ at .level
+    → page-fit 12 h at (page-at 12 img p) ≡ true
     → n ≡ entry-count (page-at 12 img p) → Passing img h at p n 1 0
 unfolding total
 passing-none w l f e =

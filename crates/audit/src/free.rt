@@ -36,7 +36,7 @@ fn leads_to_free(img: &[u8], n: u32, p: u32) -> bool
 }
 
 // Whether the chain from its first page on ends after k free pages: one that returns to itself never ends.
-pub fn chain_ends(img: &[u8], n: u32, k: u32, first: u32) -> bool
+pub(crate) fn chain_ends(img: &[u8], n: u32, k: u32, first: u32) -> bool
     requires { ⌜ length (now img) ≡ 512 * n ⌝ }
     ensures { λ r. ⌜ r ≡ chain-ends 12 (now (img .entry)) k first ⌝ }
 {

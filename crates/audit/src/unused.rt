@@ -9,7 +9,7 @@ ghost use Rattle.page.specs.Layout.{never-used-ok};
 ghost use Rattle.image.specs.Images.{page-at};
 
 // Whether the pages from the high mark on, up to n, are all FF: one test of all their bytes.
-pub fn never_used(img: &[u8], n: u32, mark: u32) -> bool
+pub(crate) fn never_used(img: &[u8], n: u32, mark: u32) -> bool
     requires { ⌜ (length (now img) ≡ 512 * n) × (mark ≤ n) ⌝ }
     ensures { λ r. ⌜ r ≡ every (n - mark) (λ i. never-used-ok (page-at 12 (now (img .entry)) (mark + i))) ⌝ }
 {

@@ -12,7 +12,7 @@ ghost use Rattle.audit.specs.Walks.{Standing, Inner, page-count, page-co
 
 // The tree pages from page p in its context down, if all are fit: it ends at the first that is not. A page is fit in no two contexts, so
 // none is found fit twice; only the last look, at an unfit page, may be at one that was met before.
-pub fn audit_page(img: &[u8], h: Head, at: PageContext, p: u32) -> PageCount
+pub(crate) fn audit_page(img: &[u8], h: Head, at: PageContext, p: u32) -> PageCount
     requires { ⌜ Standing (now img) h at p ⌝ }
     ensures { λ r. ⌜ r ≡ page-count 12 h (now (img .entry)) at p ⌝ }
 {

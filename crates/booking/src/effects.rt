@@ -6,7 +6,7 @@ ghost use Rattle.rule.specs.Time.{value-ok};
 ghost use Rattle.calls.specs.Changes.{effect};
 ghost use Rattle.booking.specs.Sides.{side-of};
 
-pub fn effect(withdraws: bool, v: i64) -> Pair
+pub(crate) fn effect(withdraws: bool, v: i64) -> Pair
     requires { ⌜ value-ok v ≡ true ⌝ }
     ensures { λ r. ⌜ r ≡ effect (side-of withdraws) v ⌝ }
 {

@@ -12,7 +12,7 @@ ghost use Rattle.calls.specs.Refusals.{first};
 ghost use Rattle.calls.specs.Calls.{book-input-rows};
 
 // 16, 17, 11 or 13, in this order, or 0.
-pub fn check_input(img: &[u8], scratch: &[u8], v: i64, s: u32, e: u32) -> u32
+pub(crate) fn check_input(img: &[u8], scratch: &[u8], v: i64, s: u32, e: u32) -> u32
     ensures { λ r. ⌜ r ≡ first (book-input-rows 12 v s e (now (img .entry)) (now (scratch .entry))) ⌝ }
 {
     let whole = length_fits(img);

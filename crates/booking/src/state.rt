@@ -19,7 +19,7 @@ ghost use Rattle.booking.specs.Sides.{side-of};
 ghost use Rattle.booking.specs.Rows.{state-check};
 
 // 21, 22, 23 or 24, in this order, or the head. Nothing is written yet: 24 is told by counting along the two paths.
-pub fn check_state(img: &[u8], withdraws: bool, s: u32, e: u32) -> StateCheck
+pub(crate) fn check_state(img: &[u8], withdraws: bool, s: u32, e: u32) -> StateCheck
     requires { ⌜ length-ok 12 (now img) ≡ true ⌝ }
     requires { ⌜ s < e ⌝ }
     ensures { λ r. ⌜ r ≡ state-check (side-of withdraws) s e (now (img .entry)) ⌝ }

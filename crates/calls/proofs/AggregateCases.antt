@@ -1,7 +1,8 @@
 -- The aggregate's cases hold: each is computed. Assumes nothing.
 use mathlib.Core.Path.{refl}
 use mathlib.Core.Bool.{false≢true}
-use Rattle.calls.specs.Aggregate.{counts-at, counting, signed, sum-of, count-of, best-of, best-pair, aggregate-of, aggregate, same-booking, without, live-has, live-after, live-from, Matched}
+use Rattle.calls.specs.Aggregate.{counts-at, counting, signed, sum-of, count-of, best-of, best-pair, aggregate-of, aggregate}
+use Rattle.calls.specs.Aggregate.{same-booking, without, live-has, live-after, live-from, Matched}
 use Rattle.calls.specs.AggregateCases.{prescription, again, twice, three, Aggregate-cases}
 use Rattle.calls.proofs.Opened.{every-call}
 

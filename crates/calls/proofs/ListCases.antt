@@ -16,7 +16,8 @@ use Rattle.calls.specs.Trace.{Step, kept, accepted, Trace, formatted, ex
 use Rattle.calls.specs.Demands.{fixed-status, Booking, couples, Reordered, same, next, swap, then, Same-changes}
 use Rattle.calls.specs.BookCases.{one, windowed}
 use Rattle.calls.specs.AggregateCases.{entry}
-use Rattle.calls.specs.ListCases.{fresh-image, after-one, after-two, after-three, three-changes, greatest-one, greatest-book, struck, struck-too, List-cases}
+use Rattle.calls.specs.ListCases.{fresh-image, after-one, after-two, after-three, three-changes, greatest-one, greatest-book, struck}
+use Rattle.calls.specs.ListCases.{struck-too, List-cases}
 use Rattle.calls.proofs.Opened.{every-call}
 use Rattle.calls.proofs.Steps.{stayed, steps}
 
@@ -102,7 +103,12 @@ list-cases =
       last-of-day = λ h. omega (arith, h .1);
       first-of-day = λ h. omega (arith, h .0 .0 .0 .0 .0 .0);
       fed = refl;
-      claimed = λ h. (h .instant-end END (omega arith), h .instants 39 (omega arith) .1, h .average-end END (omega arith), h .averages 39 (omega arith));
+      claimed = λ h. (
+        h .instant-end END (omega arith),
+        h .instants 39 (omega arith) .1,
+        h .average-end END (omega arith),
+        h .averages 39 (omega arith),
+      );
       claimed-listing = λ h. h .listings 30 41 (replicate 34 9);
       claimed-greatest = λ h. h .averages 40 (omega arith);
       claimed-audit = λ h. (h .audits [], h .audits (7 ∷ 7 ∷ []));

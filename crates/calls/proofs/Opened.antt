@@ -8,22 +8,29 @@ use Rattle.fields.specs.Bytes.{part, patch, unused, all-are, every}
 use Rattle.fields.specs.Numbers.{num, digits, u32-at, i32-at, i64-at, u32-bytes, i32-bytes, i64-bytes}
 use Rattle.page.specs.Entries.{last-from, index-of, inserted, push}
 use Rattle.lists.specs.Lists.{splice}
-use Rattle.page.specs.Layout.{level-of, entry-count, start-at, pair-at, child-at, entry-at, entries-of, unused-ok, entry-bytes, tree-bytes, next-of, free-bytes, free-ok, never-used-ok, head-of, head-bytes}
+use Rattle.page.specs.Layout.{level-of, entry-count, start-at, pair-at, child-at, entry-at, entries-of, unused-ok, entry-bytes, tree-bytes}
+use Rattle.page.specs.Layout.{next-of, free-bytes, free-ok, never-used-ok, head-of, head-bytes}
 use Rattle.lists.specs.Lists.{listed, concat-map}
-use Rattle.page.specs.Fit.{root-context, end-at, context-below, fewest, entry-count-ok, starts-ok, child-ok, children-ok, pair-ok, pairs-ok, page-fit, ranges-ok, head-fit}
-use Rattle.image.specs.Images.{page-at, pages-in, length-ok, entries-in, next-in, cell-of, cell-bytes, image-of, image-bytes, fresh-page, fresh}
+use Rattle.page.specs.Fit.{root-context, end-at, context-below, fewest, entry-count-ok, starts-ok, child-ok, children-ok, pair-ok, pairs-ok}
+use Rattle.page.specs.Fit.{page-fit, ranges-ok, head-fit}
+use Rattle.image.specs.Images.{page-at, pages-in, length-ok, entries-in, next-in, cell-of, cell-bytes, image-of, image-bytes, fresh-page}
+use Rattle.image.specs.Images.{fresh}
 use Rattle.image.specs.Sound.{tree-fit, tree-pages, chain-pages, each-once, sound}
 use Rattle.lists.specs.Lists.{times, all-of}
 use Rattle.image.specs.Instant.{stopped, leaf-answer, above, look, look-up}
-use Rattle.image.specs.Listing.{run-bytes, nothing, stopped as stopped′, then, in-turn, under, leaf-run, walk-page, walk, join-after, join, walk-over}
+use Rattle.image.specs.Listing.{run-bytes, nothing, stopped as stopped′, then, in-turn, under, leaf-run, walk-page, walk, join-after, join}
+use Rattle.image.specs.Listing.{walk-over}
 use Rattle.steps.specs.Supply.{entries, put, with-supply, spare, taken, given-back, spares, pages-taken, with-root, count-change}
 use Rattle.steps.specs.Cut.{cut-leaf-entry, not-split, split, split-if-full, cut-entry, root-entry, grow-root, grow-if-split, cut}
 use Rattle.steps.specs.Combine.{inside, next-start, took, sent, combine-entries, combine-over, combine-page, combine-span}
-use Rattle.steps.specs.Heal.{heals, short, sibling, left-of, pushed, joint, redistribute, merge, collapse-root, collapse-if-single, rebalance, heal-page, heal}
-use Rattle.steps.specs.Change.{cuts, lacks-pages, path-from, path, change, cut-names, combine-names, siblings-used, heal-names, change-names}
+use Rattle.steps.specs.Heal.{heals, short, sibling, left-of, pushed, joint, redistribute, merge, collapse-root, collapse-if-single}
+use Rattle.steps.specs.Heal.{rebalance, heal-page, heal}
+use Rattle.steps.specs.Change.{cuts, lacks-pages, path-from, path, change, cut-names, combine-names, siblings-used, heal-names}
+use Rattle.steps.specs.Change.{change-names}
 use Rattle.calls.specs.Changes.{withdraws, effect}
 use Rattle.calls.specs.Refusals.{first, borrowed, scratch-ok, cleared, scratch-after}
-use Rattle.calls.specs.Calls.{head, head-ok, format-status, format, book-input-rows, book-status, changed, book, instant-status, instant, average-at, runs-over, too-short, written, listing-status, listing, audit-input-rows, audit}
+use Rattle.calls.specs.Calls.{head, head-ok, format-status, format, book-input-rows, book-status, changed, book, instant-status}
+use Rattle.calls.specs.Calls.{instant, average-at, runs-over, too-short, written, listing-status, listing, audit-input-rows, audit}
 
 -- To name this on an `unfolding` line is to open them all.
 unfoldable pub every-call : ℕ

@@ -22,9 +22,12 @@ use Rattle.image.proofs.Trails.{each-fits, one-unfit, look-up-fit, look-up-look
 use Rattle.steps.specs.Change.{lacks-pages}
 use Rattle.calls.specs.Refusals.{scratch-ok, borrowed}
 use Rattle.calls.specs.Changes.{Side, entering, withdrawing, withdraws}
-use Rattle.calls.specs.Calls.{head, head-ok, format, format-status, book, book-input-rows, book-status, instant, instant-status, average-at, listing, listing-status, runs-over, too-short, audit, audit-input-rows}
-use Rattle.calls.specs.Tables.{Exactly, Whole-pages, Fit-head, No-span, No-kind-or-window, Meets-unfit, Too-few-pages, format-cases, book-cases, instant-cases, listing-cases, audit-cases, Pages-told, Turned-back}
-use Rattle.calls.proofs.Reflects.{Reflects, passes, fails, restated, is-less, is-most, is-equal, is-true, is-false, is-not, is-above, is-least, both, either-fails, chosen, other}
+use Rattle.calls.specs.Calls.{head, head-ok, format, format-status, book, book-input-rows, book-status, instant, instant-status}
+use Rattle.calls.specs.Calls.{average-at, listing, listing-status, runs-over, too-short, audit, audit-input-rows}
+use Rattle.calls.specs.Tables.{Exactly, Whole-pages, Fit-head, No-span, No-kind-or-window, Meets-unfit, Too-few-pages, format-cases}
+use Rattle.calls.specs.Tables.{book-cases, instant-cases, listing-cases, audit-cases, Pages-told, Turned-back}
+use Rattle.calls.proofs.Reflects.{Reflects, passes, fails, restated, is-less, is-most, is-equal, is-true, is-false, is-not, is-above}
+use Rattle.calls.proofs.Reflects.{is-least, both, either-fails, chosen, other}
 use Rattle.calls.proofs.Cases.{no-row, next-row, third-case}
 
 -- ---- each row's test
@@ -51,7 +54,8 @@ module _ (half : ℕ) (img : List ℕ) where
   abbrev h : Head
   h = head-of (page-at half img 0)
 
-  unfit-among : (looks : List Visit) → ((v : Visit) × List·Memᴰ v looks × (finds-fit half h img v ≡ false)) → all-fit half h img looks ≡ false
+  unfit-among : (looks : List Visit) → ((v : Visit) × List·Memᴰ v looks × (finds-fit half h img v ≡ false))
+      → all-fit half h img looks ≡ false
   unfit-among looks k = go (all-fit half h img looks) refl
     where
       go : (c : Bool) → all-fit half h img looks ≡ c → c ≡ false
@@ -76,7 +80,8 @@ no-value v = is-above (natAbs v) 1000000
 no-kind-or-window : (kind window : ℕ) → Reflects (No-kind-or-window kind window) (not (kind-ok kind && window-ok window))
 unfolding No-kind-or-window kind-ok window-ok
 no-kind-or-window kind window =
-    either-fails (leb 1 kind && leb kind 3) (leb window 1000000000) (either-fails (leb 1 kind) (leb kind 3) (is-above 1 kind) (is-above kind 3))
+    either-fails (leb 1 kind && leb kind 3) (leb window 1000000000)
+    (either-fails (leb 1 kind) (leb kind 3) (is-above 1 kind) (is-above kind 3))
     (is-above window 1000000000)
 
 withdrawn : (side : Side) → Reflects (side ≡ withdrawing) (withdraws side)
@@ -93,7 +98,8 @@ too-few half s e X = is-less _ _
 module _ (half : ℕ) where
   format-tested : (kind window : ℕ) (img : List ℕ) → Exactly (format-cases half kind window img) (format half kind window img .status)
   unfolding format-cases format format-status
-  format-tested kind window img = (next-row 16 (is-not (whole-pages half img)) (next-row 14 (no-kind-or-window kind window) no-row)) .exactly
+  format-tested kind window img =
+      (next-row 16 (is-not (whole-pages half img)) (next-row 14 (no-kind-or-window kind window) no-row)) .exactly
 
   book-tested : (side : Side) (v : ℤ) (s e : ℕ) (img scratch : List ℕ)
       → Exactly (book-cases half side v s e img scratch) (book half side v s e img scratch .status)
@@ -126,16 +132,19 @@ module _ (half : ℕ) where
   audit-tested : (img scratch : List ℕ) → Exactly (audit-cases half img scratch) (audit half img scratch .status)
   unfolding audit-cases audit audit-input-rows
   audit-tested img scratch =
-      (next-row 16 (is-not (whole-pages half img)) (next-row 17 (scratch-short half img scratch) (next-row 21 (is-false (sound half img)) no-row))) .exactly
+      (next-row 16 (is-not (whole-pages half img))
+      (next-row 17 (scratch-short half img scratch) (next-row 21 (is-false (sound half img)) no-row))) .exactly
 
   -- ---- the pages that an instant tells
 
   -- at 21 with a fit head one of the pages that it looks at isn't fit
-  unfit-look : (t : ℕ) (img : List ℕ) → instant half t img .status ≡ 21 → Fit-head half img → all-fit half (h half img) img (instant-trail half t img) ≡ false
+  unfit-look : (t : ℕ) (img : List ℕ) → instant half t img .status ≡ 21 → Fit-head half img
+      → all-fit half (h half img) img (instant-trail half t img) ≡ false
   unfolding instant-cases Exactly Meets-unfit
   unfit-look t img e f =
       go
-      (third-case 16 12 21 (¬ Whole-pages half img) (END ≤ t) (Meets-unfit half img (instant-trail half t img)) (omega arith) (omega arith) (omega arith)
+      (third-case 16 12 21 (¬ Whole-pages half img) (END ≤ t) (Meets-unfit half img (instant-trail half t img)) (omega arith)
+      (omega arith) (omega arith)
       (instant-tested t img 21 .0 e))
     where
       go : (¬ Fit-head half img) ⊎ ((v : Visit) × List·Memᴰ v (instant-trail half t img) × (finds-fit half (h half img) img v ≡ false))

@@ -1,6 +1,5 @@
 -- Every call of document 01 as a function of its inputs: the status returned (document 01's number), the answer, and every byte of image,
--- output and
--- scratch afterwards, on every image and argument. Over half the capacity of a page, which is 12. Assumes nothing.
+-- output and scratch afterwards, on every image and argument. Over half the capacity of a page, which is 12. Assumes nothing.
 use Prim.Native.Nat.{ℕ, _*_}
 use mathlib.Core.Bool.{Bool, cond, not, _&&_}
 use mathlib.Core.List.{List, [], _∷_, _++_}

@@ -73,8 +73,8 @@ module _ (half : ℕ) where
   unfoldable pub format-cases : ℕ → ℕ → List ℕ → List Case
   format-cases kind window img = (16 when ¬ Whole-pages half img) ∷ (14 when No-kind-or-window kind window) ∷ []
 
-  -- 17: "scratch shorter than n bytes". 13: "value outside its range"; "A value is −1,000,000 to 1,000,000."
-  -- 21: "audit, change: image not sound". 22: "withdrawal, kind 2 or 3": a sound image has no other kind but 1. 23: "changes is 1,000,000,000".
+  -- 17: "scratch shorter than n bytes". 13: "value outside its range"; "A value is −1,000,000 to 1,000,000." 21: "audit, change: image not
+  -- sound". 22: "withdrawal, kind 2 or 3": a sound image has no other kind but 1. 23: "changes is 1,000,000,000".
   unfoldable pub book-cases : Side → ℤ → ℕ → ℕ → List ℕ → List ℕ → List Case
   book-cases side v s e img scratch =
       let h : Head = head-of (page-at half img 0) in

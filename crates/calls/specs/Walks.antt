@@ -66,4 +66,5 @@ pub record Few-runs (half : ℕ) : Type 0 where
   -- A listing answers no more, whatever it is handed,
   pub answered : (a b : ℕ) (img out : List ℕ) → listing half a b img out .runs ≤ capacity half * (pages-in half img - 1)
   -- and an output with room for so many is never too short.
-  pub enough : (a b : ℕ) (img out : List ℕ) → 16 * (capacity half * (pages-in half img - 1)) ≤ length out → listing half a b img out .status ≢ 15
+  pub enough : (a b : ℕ) (img out : List ℕ) → 16 * (capacity half * (pages-in half img - 1)) ≤ length out
+      → listing half a b img out .status ≢ 15

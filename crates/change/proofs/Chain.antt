@@ -39,7 +39,8 @@ module _ (kind s e : ℕ) (effect : Pair) where
       pub some-C : Pre i0 Start → Pre i2 (Span-combinable (task kind s e effect))
       some-C = some-then reach-B (λ X h c. c .for-C)
 
-      module _ {i3 : List ℕ} (d : Post i2 (Span-combinable (task kind s e effect)) (λ X. Encodes i3 (combine-span (combine kind) s e effect X))) where
+      module _ {i3 : List ℕ}
+          (d : Post i2 (Span-combinable (task kind s e effect)) (λ X. Encodes i3 (combine-span (combine kind) s e effect X))) where
         reach-C : Reach i0 i3 (after-C kind s e effect)
         reach-C = then reach-B (λ X h c. c .for-C) d
 

@@ -14,7 +14,8 @@ use Rattle.image.specs.Images.{Image, tree}
 use Rattle.steps.specs.Supply.{entries, put}
 use Rattle.steps.specs.Combine.{Combining, next-start, took, sent, combine-entries, combine-over, combine-page}
 use Rattle.combine_span.specs.declared.SpanEffect.{SpanEffect}
-use Rattle.combine_span.specs.SpanCombinable.{inside-by, meets-by, took-by, page-by, below-by, sent-by, Below-combinable, Page-combinable}
+use Rattle.combine_span.specs.SpanCombinable.{inside-by, meets-by, took-by, page-by, below-by, sent-by, Below-combinable}
+use Rattle.combine_span.specs.SpanCombinable.{Page-combinable}
 use Rattle.combine_span.specs.SpanCombinable.{Entry-combinable}
 
 -- ---- where an entry ends
@@ -99,7 +100,8 @@ spreading q level = combine-entries (combine (q .kind)) (q .s) (q .e) (q .effect
 abbrev pub written : ℕ → ℕ → Combining → Image
 written p level r = put p (tree level (r .became)) (r .image)
 
-pub page-whole : (q : SpanEffect) (level hi p : ℕ) (X : Image) → written p level (spreading q level hi (entries X p) X) ≡ page-by q level hi p X
+pub page-whole : (q : SpanEffect) (level hi p : ℕ) (X : Image)
+    → written p level (spreading q level hi (entries X p) X) ≡ page-by q level hi p X
 unfolding combine-page combine-over below-by
 page-whole q zero hi p X = refl
 page-whole q (suc l) hi p X = refl

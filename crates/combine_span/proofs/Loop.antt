@@ -68,7 +68,8 @@ module _ (q : SpanEffect) (level hi p : ℕ) where
     pub whole : after done (after (took-by q end x ∷ []) (spreading q level hi rest (sent-by q level end x image)))
         ≡ spreading q level hi (entries X p) X
 
-  looped-none : {page : Page} {img : List ℕ} {X : Image} → Encodes img X → Page-combinable q level hi p X → Has-entries level (entries X p) page
+  looped-none : {page : Page} {img : List ℕ} {X : Image} → Encodes img X → Page-combinable q level hi p X
+      → Has-entries level (entries X p) page
       → Turned page 0 img X
   looped-none {X = X} h r s =
       record {
@@ -122,7 +123,8 @@ module _ (q : SpanEffect) (level hi p : ℕ) where
         (next-of (t .image) (t .done) (t .rest) (t .holds) (t .shows) (t .passed) (t .ready) (t .whole) l)
 
     next-more : {x : Entry} {end : ℕ} (t : Next page i img X x end) {img′ : List ℕ} {page′ : Page}
-        → Encodes img′ (sent-by q level end x (t .image)) → Has-entries (page .level) (splice i (took-by q end x ∷ []) (entry-list page)) page′
+        → Encodes img′ (sent-by q level end x (t .image))
+        → Has-entries (page .level) (splice i (took-by q end x ∷ []) (entry-list page)) page′
         → Turned page′ (i + 1) img′ X
     next-more {x} {end} t h s =
         let y : Entry = took-by q end x in
@@ -138,7 +140,8 @@ module _ (q : SpanEffect) (level hi p : ℕ) where
           whole = (λ j. record { became = append-assoc (t .done) (y ∷ []) (left .became) j; image = left .image }) ∙ t .whole;
         }
 
-    looped-all : (t : Turned page i img X) → page .len ≤ i → put p (tree (page .level) (entry-list page)) (t .image) ≡ page-by q level hi p X
+    looped-all : (t : Turned page i img X) → page .len ≤ i
+        → put p (tree (page .level) (entry-list page)) (t .image) ≡ page-by q level hi p X
     looped-all t l = all-of X (t .image) (t .done) (t .rest) (t .shows) (t .passed) (t .whole) l
 
 -- ---- the loop
@@ -148,7 +151,8 @@ within-still : {p : ℕ} {img img′ : List ℕ} {X Y : Image} → Encodes img X
     → In-image p Y
 within-still h k same w = record { least = w .least; below = omega (arith, holds-length h, holds-length k) }
 
-replaced-len : (page : Page) (y : Entry) {page′ : Page} {l i : ℕ} → i < page .len → Has-entries l (splice i (y ∷ []) (entry-list page)) page′
+replaced-len : (page : Page) (y : Entry) {page′ : Page} {l i : ℕ} → i < page .len
+    → Has-entries l (splice i (y ∷ []) (entry-list page)) page′
     → page′ .len ≡ page .len
 unfolding splice
 replaced-len page y {i = i} l s =

@@ -32,7 +32,8 @@ module _ (P : Image → Type 0) (puts : (p : ℕ) (c : Cell) (X : Image) → P X
   split-if-full-keeps : (half level : ℕ) (e : Entry) (es : List Entry) (X : Image) → P X → P (split-if-full half level e es X .image)
   unfolding split-if-full not-split split
   split-if-full-keeps half level e es X h =
-      either (λ (c : Cutting). P (c .image)) (leb (length es) (capacity half)) (not-split level e es X) (split half level e es X) (puts _ _ _ h)
+      either (λ (c : Cutting). P (c .image)) (leb (length es) (capacity half)) (not-split level e es X) (split half level e es X)
+      (puts _ _ _ h)
       (puts _ _ _ (puts _ _ _ (takes _ h)))
 
   pub cut-keeps : (half t l : ℕ) (e : Entry) (X : Image) → P X → P (cut-entry half t l e X .image)
@@ -137,7 +138,8 @@ module _ (e : Entry) {level t : ℕ} {X : Image} {page : Page} {f : Found} (d : 
           room = λ n. r .room (omega (arith, two)) (omega (arith, loaded-len (k .loaded)));
         }
 
-    gained : inserted-after (f .index) start q (entry-list page) ≡ splice (index-of t (entries X (e .child))) (under .became) (entries X (e .child))
+    gained : inserted-after (f .index) start q (entry-list page) ≡
+        splice (index-of t (entries X (e .child))) (under .became) (entries X (e .child))
     unfolding inserted-after
     gained =
         let es = k .loaded .shows .entries in

@@ -55,8 +55,10 @@ height-kept half t l e X =
     cut-keeps (λ Y. Y .head .height ≡ h) (λ p c Y k. k) (height-taken h) half t l e X refl
 
 -- the new root is written
-pub grow-root-holds : (X : Image) (es : List Entry) {q : ℕ} {page : Page} {after : List ℕ} → q ≡ spare X → Has-entries (X .head .height) es page
-    → Encodes after (put q (tree (page .level) (entry-list page)) (with-root (X .head .height + 1) q (taken X))) → Encodes after (grow-root es X)
+pub grow-root-holds : (X : Image) (es : List Entry) {q : ℕ} {page : Page} {after : List ℕ} → q ≡ spare X
+    → Has-entries (X .head .height) es page
+    → Encodes after (put q (tree (page .level) (entry-list page)) (with-root (X .head .height + 1) q (taken X)))
+    → Encodes after (grow-root es X)
 unfolding grow-root
 grow-root-holds X es {after = after} n s h =
     subst (Encodes after) (λ j. put (n j) (has-tree s j) (with-root (add-one (X .head .height) j) (n j) (taken X))) h
@@ -99,7 +101,8 @@ module _ (t : ℕ) (X : Image) {h : Head} (read : h ≡ X .head) where
         ∙ sym (cut-inside t X l ∙ grown-two (from-root t X) (λ one. omega (arith, two))))
         m
 
-pub root-same : (t : ℕ) (X : Image) {after : List ℕ} → t < END → Cut-as (root-entry X) (from-root t X) Same after → Encodes after (cut 12 t X)
+pub root-same : (t : ℕ) (X : Image) {after : List ℕ} → t < END → Cut-as (root-entry X) (from-root t X) Same after
+    → Encodes after (cut 12 t X)
 unfolding became
 root-same t X {after} l r =
     subst (Encodes after) (sym (cut-inside t X l ∙ grown-one (from-root t X) (ap length (sym (r .becomes))))) (r .holds)

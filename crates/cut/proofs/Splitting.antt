@@ -82,7 +82,8 @@ module _ (e : Entry) (level : ℕ) (es : List Entry) (X : Image) {after : List �
         holds = subst (Encodes after) (λ j. put (n j) (has-tree r j) (put (e .child) (has-tree l j) (taken X))) h;
       }
 
-  pub halved-as : {r : SplitOutcome} → 24 < length es → Cut-as e (split 12 level e es X) r after → Cut-as e (split-if-full 12 level e es X) r after
+  pub halved-as : {r : SplitOutcome} → 24 < length es → Cut-as e (split 12 level e es X) r after
+      → Cut-as e (split-if-full 12 level e es X) r after
   unfolding split-if-full
   halved-as many m = cut-as (ap (decided e level es X) (sym (lt-leb (length es) (capacity 12) many))) m
 
@@ -107,4 +108,5 @@ module _ (page : Page) (i : ℕ) (new : Entry) {r : Page} (s : Has-entries (page
       let n : length (entry-list page) ≡ page .len = length-shown page in
       s .entries
       ∙ (λ j. inserted (add-one i j) (same j) (entry-list page))
-      ∙ sym (splice-inserted i (at (entry-list page) i) (entry start (at (entry-list page) i .pair) child) (entry-list page) (omega arith) refl)
+      ∙ sym (splice-inserted i (at (entry-list page) i) (entry start (at (entry-list page) i .pair) child) (entry-list page)
+      (omega arith) refl)

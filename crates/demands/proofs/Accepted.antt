@@ -22,7 +22,8 @@ use Rattle.demands.proofs.Book.Accepted.{passed}
 use Rattle.demands.proofs.Booked.{Wide, Left-by-change, booked}
 use Rattle.demands.proofs.Agree.{instant-end}
 
-module _ {half : ℕ} (side : Side) (v : ℤ) (s e : ℕ) {img img′ : List ℕ} (before : sound half img ≡ true) (c : Left-by-change half side v s e img img′) where
+module _ {half : ℕ} (side : Side) (v : ℤ) (s e : ℕ) {img img′ : List ℕ} (before : sound half img ≡ true)
+    (c : Left-by-change half side v s e img img′) where
   same-number : (t : ℕ) → instant half t img′ .status ≡ instant half t img .status
   same-number t = go (decLe END t)
     where
@@ -32,7 +33,8 @@ module _ {half : ℕ} (side : Side) (v : ℤ) (s e : ℕ) {img img′ : List ℕ
 
   -- inside the span and outside
   pair-by : (t : ℕ) (b : Bool) → t < END → covers s (effect-end e (head half img .window)) t ≡ b
-      → instant half t img′ .pair ≡ cond b (combine (head half img .kind) (instant half t img .pair) (effect side v)) (instant half t img .pair)
+      → instant half t img′ .pair ≡
+      cond b (combine (head half img .kind) (instant half t img .pair) (effect side v)) (instant half t img .pair)
   pair-by t b l k =
       sound-pair half img′ (c .sound) t l
       ∙ c .pairs t l

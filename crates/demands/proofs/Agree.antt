@@ -19,7 +19,8 @@ use Rattle.image.specs.Instant.{look-up}
 use Rattle.steps.specs.Change.{lacks-pages}
 use Rattle.calls.specs.Changes.{Side, withdraws}
 use Rattle.calls.specs.Refusals.{first, scratch-ok}
-use Rattle.calls.specs.Calls.{head, book-input-rows, book-status, book, instant-status, instant, average-at, audit-input-rows, audit, listing}
+use Rattle.calls.specs.Calls.{head, book-input-rows, book-status, book, instant-status, instant, average-at, audit-input-rows, audit}
+use Rattle.calls.specs.Calls.{listing}
 use Rattle.calls.specs.Book.{Book, book-pair, listing-of}
 use Rattle.calls.specs.Demands.{fixed-status, As-the-book}
 use Rattle.soundness.proofs.Sound.{sound-whole}
@@ -44,7 +45,8 @@ numbers b17 b11 b13 c22 c23 b24 e16 e21 e22 e23 = rw (e16, e21, e22, e23) (go b1
     fixed x17 x11 x13 x22 x23 = first ((17, x17) ∷ (11, x11) ∷ (13, x13) ∷ (22, x22) ∷ (23, x23) ∷ [])
 
     go : (x17 x11 x13 x22 x23 x24 : Bool)
-        → (number x17 x11 x13 x22 x23 x24 ≡ fixed x17 x11 x13 x22 x23) ⊎ ((fixed x17 x11 x13 x22 x23 ≡ 0) × (number x17 x11 x13 x22 x23 x24 ≡ 24))
+        → (number x17 x11 x13 x22 x23 x24 ≡ fixed x17 x11 x13 x22 x23)
+        ⊎ ((fixed x17 x11 x13 x22 x23 ≡ 0) × (number x17 x11 x13 x22 x23 x24 ≡ 24))
     go true x11 x13 x22 x23 x24 = inl refl
     go false true x13 x22 x23 x24 = inl refl
     go false false true x22 x23 x24 = inl refl
@@ -55,7 +57,8 @@ numbers b17 b11 b13 c22 c23 b24 e16 e21 e22 e23 = rw (e16, e21, e22, e23) (go b1
 
 -- ---- END, and what lies past it
 
-pub instant-end : (half : ℕ) (img : List ℕ) → sound half img ≡ true → (t : ℕ) → END ≤ t → (instant half t img .status ≡ 12) × (instant half t img .pair ≡ none)
+pub instant-end : (half : ℕ) (img : List ℕ) → sound half img ≡ true → (t : ℕ) → END ≤ t
+    → (instant half t img .status ≡ 12) × (instant half t img .pair ≡ none)
 unfolding instant
 instant-end half img fits t l =
     let n : instant-status half t img ≡ 12 =
@@ -72,7 +75,8 @@ module _ {half : ℕ} {img : List ℕ} {B : Book} (K : Trace-invariant half img 
       (number ≡ fixed) ⊎ ((fixed ≡ 0) × (number ≡ 24))
   unfolding book book-status book-input-rows fixed-status
   booking-is side v s e scratch =
-      numbers (not (scratch-ok (pages-in half img) scratch)) (not (span-ok s e)) (not (value-ok v)) (withdraws side && not (eqb (B .kind) 1))
+      numbers (not (scratch-ok (pages-in half img) scratch)) (not (span-ok s e)) (not (value-ok v))
+      (withdraws side && not (eqb (B .kind) 1))
       (eqb (length (B .items)) most-changes) (lacks-pages half s (effect-end e (head half img .window)) (image-of half img))
       passes-16 (ap not (K .sound)) (ap (λ k. withdraws side && not (eqb k 1)) (K .kind)) (ap (λ n. eqb n most-changes) (K .changes))
 

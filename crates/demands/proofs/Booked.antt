@@ -1,5 +1,5 @@
--- What a change that is accepted leaves of a sound image: a sound image of the same size, with the effect in exactly the pairs of its span, and the bytes of
--- every page that the five steps don't name. Assumes nothing.
+-- What a change that is accepted leaves of a sound image: a sound image of the same size, with the effect in exactly the pairs of its span,
+-- and the bytes of every page that the five steps don't name. Assumes nothing.
 use Prim.Native.Nat.{ℕ, zero, suc, _*_, _≤_, _<_}
 use mathlib.Core.Path.{_≡_, refl, sym, ap, _∙_}
 use mathlib.Core.Bool.{true, cond}
@@ -74,10 +74,12 @@ pub record Left-by-change (half : ℕ) (side : Side) (v : ℤ) (s e : ℕ) (img 
   pub changes : head half img′ .changes ≡ suc (head half img .changes)
   pub pairs : (t : ℕ) → t < END
       → look-up half img′ t .pair
-      ≡ cond (covers s (effect-end e (head half img .window)) t) (combine (head half img .kind) (look-up half img t .pair) (effect side v)) (look-up half img t .pair)
+      ≡ cond (covers s (effect-end e (head half img .window)) t)
+      (combine (head half img .kind) (look-up half img t .pair) (effect side v)) (look-up half img t .pair)
   pub frame : (p : ℕ) → ¬ List·Memᴰ p (named half side v s e img) → page-at half img′ p ≡ page-at half img p
 
-module _ {half : ℕ} (wide : Wide half) (side : Side) (v : ℤ) (s e : ℕ) (img : List ℕ) {scratch : List ℕ} (b : Bytes img) (a : Passed half side v s e img scratch) where
+module _ {half : ℕ} (wide : Wide half) (side : Side) (v : ℤ) (s e : ℕ) (img : List ℕ) {scratch : List ℕ} (b : Bytes img)
+    (a : Passed half side v s e img scratch) where
   some : 1 ≤ half
   some = omega (arith, wide .two)
 
@@ -151,7 +153,8 @@ module _ {half : ℕ} (wide : Wide half) (side : Side) (v : ℤ) (s e : ℕ) (im
   framed zero h = absurd (h (List·Memᴰ·head refl))
   framed (suc p) h = go (decLe (X .head .pages) (suc p)) (c .frame (suc p) h)
     where
-      go : Dec (X .head .pages ≤ suc p) → Z .page (suc p) ≡ X .page (suc p) → page-at half (image-bytes half Z) (suc p) ≡ page-at half img (suc p)
+      go : Dec (X .head .pages ≤ suc p) → Z .page (suc p) ≡ X .page (suc p)
+          → page-at half (image-bytes half Z) (suc p) ≡ page-at half img (suc p)
       go (yes r) same = far-page (suc p) r
       go (no r) same = kept-page (suc p) (omega arith) (omega arith) same
 
@@ -185,7 +188,8 @@ module _ {half : ℕ} (wide : Wide half) (side : Side) (v : ℤ) (s e : ℕ) (im
       }
 
 -- by the status that it returned
-pub booked : {half : ℕ} → Wide half → (side : Side) (v : ℤ) (s e : ℕ) (img scratch : List ℕ) → Bytes img → book half side v s e img scratch .status ≡ 0
+pub booked : {half : ℕ} → Wide half → (side : Side) (v : ℤ) (s e : ℕ) (img scratch : List ℕ) → Bytes img
+    → book half side v s e img scratch .status ≡ 0
     → Left-by-change half side v s e img (book half side v s e img scratch .image)
 booked {half} wide side v s e img scratch b n =
     rw (image-accepted half side v s e img scratch n)

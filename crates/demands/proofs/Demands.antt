@@ -29,7 +29,8 @@ module _ {half : ℕ} (wide : Wide half) where
         record {
           instants = λ t l. let r = instant-is (R .kept) t l in (r .0, r .1 ∙ pair-is t l);
           averages =
-              λ t l. average-is (R .kept) t l ∙ (λ i. record { status = 0; average = average (book-kind kind window cs i) (pair-is t l i) });
+              λ t l. average-is (R .kept) t l
+              ∙ (λ i. record { status = 0; average = average (book-kind kind window cs i) (pair-is t l i) });
           spans = λ a b out. listing-is (R .kept) a b out ∙ book-listing kind window a b out (R .spanned) (R .sided);
           sound-after = R .kept .sound;
           live = λ m t. aggregate-live kind window t (R .sided) m;
@@ -43,7 +44,8 @@ module _ {half : ℕ} (wide : Wide half) where
     demand-3-list (formatted before p) = as-the-book (reached wide (formatted before p) .kept)
     demand-3-list (extended T step) = (demand-3-list T, as-the-book (reached wide (extended T step) .kept))
 
-    demand-3-two : {img other : List ℕ} {cs ds : List Change} → Reached half kind window img cs → Reached half kind window other ds → Same-changes cs ds
+    demand-3-two : {img other : List ℕ} {cs ds : List Change} → Reached half kind window img cs
+        → Reached half kind window other ds → Same-changes cs ds
         → (out : List ℕ) → listing half 0 END img out ≡ listing half 0 END other out
     demand-3-two R Q S out =
         listing-is (R .kept) 0 END out

@@ -32,7 +32,8 @@ use Rattle.invariant.proofs.To.Sound.{head-read-back, invariant-sound, look-wri
 use Rattle.demands.proofs.Rows.{first-none}
 use Rattle.demands.proofs.Invariant.{Trace-invariant}
 
-module _ (half pages kind window : ℕ) (some : 1 ≤ half) (least : 2 ≤ pages) (most : pages ≤ 1024) (k : kind-ok kind ≡ true) (w : window-ok window ≡ true) where
+module _ (half pages kind window : ℕ) (some : 1 ≤ half) (least : 2 ≤ pages) (most : pages ≤ 1024) (k : kind-ok kind ≡ true)
+    (w : window-ok window ≡ true) where
   abbrev X : Image
   X = fresh pages kind window
 

@@ -1,4 +1,5 @@
--- What holds of an image and of its book after every list of calls, and that an accepted change keeps it: the image is sound, and each instant's pair is the book's. Assumes nothing.
+-- What holds of an image and of its book after every list of calls, and that an accepted change keeps it: the image is sound, and each
+-- instant's pair is the book's. Assumes nothing.
 use Prim.Native.Nat.{ℕ, suc, _<_}
 use mathlib.Core.Path.{_≡_, sym, ap, _∙_}
 use mathlib.Core.Bool.{true, cond}
@@ -28,7 +29,8 @@ pub record Trace-invariant (half : ℕ) (img : List ℕ) (B : Book) : Type 0 whe
 
 module _ {half : ℕ} (wide : Wide half) where
   module _ (side : Side) (v : ℤ) (s e : ℕ) {img : List ℕ} (scratch : List ℕ) {B : Book} (K : Trace-invariant half img B) where
-    pub kept-accepted : book half side v s e img scratch .status ≡ 0 → Trace-invariant half (book half side v s e img scratch .image) (entered 0 side v s e B)
+    pub kept-accepted : book half side v s e img scratch .status ≡ 0
+        → Trace-invariant half (book half side v s e img scratch .image) (entered 0 side v s e B)
     unfolding entered
     kept-accepted n =
         let c = booked wide side v s e img scratch (K .bytes) n in
@@ -42,6 +44,7 @@ module _ {half : ℕ} (wide : Wide half) where
               λ t below.
               c .pairs t below
               ∙ (λ i.
-              cond (covers s (effect-end e (K .window i)) t) (combine (K .kind i) (K .pairs t below i) (effect side v)) (K .pairs t below i))
+              cond (covers s (effect-end e (K .window i)) t) (combine (K .kind i) (K .pairs t below i) (effect side v))
+              (K .pairs t below i))
               ∙ sym (entered-onto side v s e B t);
         }

@@ -23,7 +23,8 @@ pub has-as : {l : ℕ} {es es′ : List Entry} {r : Page} → Has-entries l es r
 has-as s same = record { level = s .level; entries = s .entries ∙ same }
 
 -- an edit of an edited page
-pub has-then : {l : ℕ} {es : List Entry} (f : List Entry → List Entry) {q r : Page} → Has-entries l es q → Has-entries (q .level) (f (entry-list q)) r → Has-entries l (f es) r
+pub has-then : {l : ℕ} {es : List Entry} (f : List Entry → List Entry) {q r : Page} → Has-entries l es q
+    → Has-entries (q .level) (f (entry-list q)) r → Has-entries l (f es) r
 has-then f s t = record { level = t .level ∙ s .level; entries = t .entries ∙ ap f (s .entries) }
 
 -- an entry that becomes two is kept, with the second put in behind it

@@ -44,7 +44,16 @@ module _ {f : Pair → Pair → Pair} {pair : Pair} {p r : Page} {i : ℕ} (m : 
         starts = m .starts;
         children = m .children;
         slots =
-            rw (add-one i, paired-stored i q r, first-slots-put i e r (m .wide) h, m .slots, push-more f pair p i, same, m .starts, m .children);
+            rw (
+              add-one i,
+              paired-stored i q r,
+              first-slots-put i e r (m .wide) h,
+              m .slots,
+              push-more f pair p i,
+              same,
+              m .starts,
+              m .children,
+            );
       }
 
   pub pushed-all : i ≡ p .len → Has-entries (p .level) (push f pair (entry-list p)) r

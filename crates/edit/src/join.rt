@@ -8,7 +8,7 @@ ghost use Rattle.edit.specs.Contents.{Has-entries, first-slots};
 
 // The first slots of p, `kept` of them, and behind those the slots of q from `from` up to `end`.
 // Where p and q are one page, entries move within it: q is read as it was, so none is overwritten before it is moved.
-pub fn copy_range(p: Page, kept: usize, q: Page, from: usize, end: usize) -> Page
+pub(crate) fn copy_range(p: Page, kept: usize, q: Page, from: usize, end: usize) -> Page
     requires { ⌜ (from ≤ end) × (end ≤ 25) × (kept + end ≤ from + 25) ⌝ }
     ensures { λ r. ⌜ Has-entries (p .level) (first-slots kept p ++ drop from (first-slots end q)) r ⌝ }
 {

@@ -1,5 +1,5 @@
--- `Parts` has the laws of the parts of a check, `Pages` what a fit page is, fact by fact, `Spans` that the spans of its entries follow each other,
--- `Heads` what a fit head is, `Paths` that a walk down from one stays within bounds.
+-- `Parts` has the laws of the parts of a check, `Pages` what a fit page is, fact by fact, `Spans` that the spans of its entries follow each
+-- other, `Heads` what a fit head is, `Paths` that a walk down from one stays within bounds.
 pub mod Parts
 pub mod Pages
 pub mod Spans

@@ -16,7 +16,7 @@ fn child_ok(pages: u32, level: u32, child: u32) -> bool
 }
 
 // Whether the children of a page of n entries may stand there: no exit in the loop.
-pub fn children_ok(s: &[u8], n: usize, pages: u32, at: PageContext) -> bool
+pub(crate) fn children_ok(s: &[u8], n: usize, pages: u32, at: PageContext) -> bool
     requires { ⌜ Compared (now s) n ⌝ }
     ensures { λ r. ⌜ r ≡ children-ok 12 pages at (now (s .entry)) ⌝ }
 {

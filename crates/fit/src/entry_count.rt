@@ -18,7 +18,7 @@ fn fewest(at: PageContext) -> u32
 }
 
 // Whether the count of entries may stand in a page in a context: the page may be worn, so nothing may use the count before.
-pub fn entry_count_ok(s: &[u8], at: PageContext) -> bool
+pub(crate) fn entry_count_ok(s: &[u8], at: PageContext) -> bool
     requires { ⌜ length (now s) ≡ 512 ⌝ }
     ensures { λ r. ⌜ r ≡ entry-count-ok 12 at (now (s .entry)) ⌝ }
 {

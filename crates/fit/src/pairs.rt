@@ -27,7 +27,7 @@ fn pair_ok(h: Head, at: PageContext, p: Pair) -> bool
 }
 
 // Whether the pairs of a page of n entries may stand there: no exit in the loop.
-pub fn pairs_ok(s: &[u8], n: usize, h: Head, at: PageContext) -> bool
+pub(crate) fn pairs_ok(s: &[u8], n: usize, h: Head, at: PageContext) -> bool
     requires { ⌜ Compared (now s) n ⌝ }
     requires { ⌜ Bounded at ⌝ }
     ensures { λ r. ⌜ r ≡ pairs-ok 12 h at (now (s .entry)) ⌝ }

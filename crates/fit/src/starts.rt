@@ -24,7 +24,7 @@ fn rising(s: &[u8], n: usize) -> bool
 }
 
 // Whether the starts of a page of n entries are those of its context.
-pub fn starts_ok(s: &[u8], n: usize, at: PageContext) -> bool
+pub(crate) fn starts_ok(s: &[u8], n: usize, at: PageContext) -> bool
     requires { ⌜ Compared (now s) n ⌝ }
     ensures { λ r. ⌜ r ≡ starts-ok at (now (s .entry)) ⌝ }
 {

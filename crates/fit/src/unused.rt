@@ -12,7 +12,7 @@ ghost use Rattle.page.specs.Layout.{unused-ok};
 ghost use Rattle.fit.specs.Contexts.{Compared};
 
 // Whether every byte that a page of n entries doesn't use is FF.
-pub fn unused_ok(s: &[u8], n: usize) -> bool
+pub(crate) fn unused_ok(s: &[u8], n: usize) -> bool
     requires { ⌜ Compared (now s) n ⌝ }
     ensures { λ r. ⌜ r ≡ unused-ok 12 (now (s .entry)) ⌝ }
 {

@@ -37,7 +37,8 @@ module _ (f : ℕ → List Entry → List Entry)
   part-len =
       omega (arith, has-len s, has-len t, ap length part-is, length-append (f m (entry-list p)) (f (k - m) (entry-list q)))
 
-  pub part-joined : {r : Page} → Has-entries (a .level) (entry-list a ++ entry-list b) r → Has-entries (p .level) (f k (entry-list p ++ entry-list q)) r
+  pub part-joined : {r : Page} → Has-entries (a .level) (entry-list a ++ entry-list b) r
+      → Has-entries (p .level) (f k (entry-list p ++ entry-list q)) r
   part-joined j = record { level = j .level ∙ s .level; entries = j .entries ∙ (λ i. s .entries i ++ t .entries i) ∙ sym part-is }
 
 -- ---- one page
@@ -96,7 +97,8 @@ module _ {kind level p l : ℕ} {X : Image} {r : SiblingPair} (o : Siblings-read
       }
 
   -- what is made of all entries of the two
-  pub has-both : (f : List Entry → List Entry) {q : Page} → Has-entries (r .left .level) (f (entry-list (r .left) ++ entry-list (r .right))) q
+  pub has-both : (f : List Entry → List Entry) {q : Page}
+      → Has-entries (r .left .level) (f (entry-list (r .left) ++ entry-list (r .right))) q
       → Has-entries level (f (joint (combine kind) p l X)) q
   unfolding joint
   has-both f t =

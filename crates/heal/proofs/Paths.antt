@@ -55,9 +55,11 @@ module _ (kind t p : ℕ) (X : Image) {level : ℕ} (e : level ≡ 0 → ⊥) wh
     unfolding found-in
     inner-below r = subst⁻¹ (λ (m : Found). Page-healable kind t (level - 1) (m .entry .child) X) g (inner r .below)
 
-    pub inner-rebalances : Page-healable kind t level p X → Rebalanceable-if-short (level - 1) p (f .index) (f .entry .child) (left (f .entry .child))
+    pub inner-rebalances : Page-healable kind t level p X
+        → Rebalanceable-if-short (level - 1) p (f .index) (f .entry .child) (left (f .entry .child))
     unfolding found-in
-    inner-rebalances r = subst⁻¹ (λ (m : Found). Rebalanceable-if-short (level - 1) p (m .index) (m .entry .child) (left (m .entry .child))) g
+    inner-rebalances r =
+        subst⁻¹ (λ (m : Found). Rebalanceable-if-short (level - 1) p (m .index) (m .entry .child) (left (m .entry .child))) g
         (inner r .rebalances)
 
     pub inner-done : rebalance-if-short kind (level - 1) p (f .index) (f .entry .child) (left (f .entry .child))

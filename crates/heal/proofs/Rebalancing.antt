@@ -98,7 +98,8 @@ share-fits (suc i) n low high =
     (omega arith, (omega arith, omega arith))
 
 module _ {level p i l n : ℕ} {X : Image} (at-left : l ≡ left-of i) (has : n ≡ under p X (sibling i)) where
-  pub rebalance-redistributable : {k : ℕ} → k ≡ cond (eqb i 0) 12 (n - 1) → 12 < n → n ≤ 24 → Rebalanceable level p i X → Redistributable level p l k X
+  pub rebalance-redistributable : {k : ℕ} → k ≡ cond (eqb i 0) 12 (n - 1) → 12 < n → n ≤ 24 → Rebalanceable level p i X
+      → Redistributable level p l k X
   rebalance-redistributable {k} e low high s =
       let fits = share-fits i n low high in
       subst (λ l. Redistributable level p l k X) (sym at-left)
@@ -121,7 +122,8 @@ decided b kind level p i X =
     cond b (redistribute (combine kind) level p (left-of i) k X) (merge (combine kind) level p (left-of i) X)
 
 module _ (kind level p i : ℕ) (X : Image) {l n : ℕ} (at-left : l ≡ left-of i) (has : n ≡ under p X (sibling i)) where
-  pub rebalance-redistributed : {k : ℕ} → k ≡ cond (eqb i 0) 12 (n - 1) → 12 < n → redistribute (combine kind) level p l k X ≡ rebalance 12 (combine kind) level p i X
+  pub rebalance-redistributed : {k : ℕ} → k ≡ cond (eqb i 0) 12 (n - 1) → 12 < n
+      → redistribute (combine kind) level p l k X ≡ rebalance 12 (combine kind) level p i X
   unfolding rebalance
   rebalance-redistributed {k} e low =
       let m : ℕ = under p X (sibling i) in

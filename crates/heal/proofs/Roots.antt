@@ -45,7 +45,8 @@ module _ (kind : ℕ) (X : Image) where
       let e : high && eqb root-entries 1 ≡ false = ap (λ b. high && b) (ne-eqb root-entries 1 h) ∙ and-false high in
       ap (λ b. cond b (collapse-root (combine kind) X) X) (sym e)
 
-  pub collapsed-collapse-root : 1 < X .head .height → root-entries ≡ 1 → collapse-root (combine kind) X ≡ collapse-if-single (combine kind) X
+  pub collapsed-collapse-root : 1 < X .head .height → root-entries ≡ 1
+      → collapse-root (combine kind) X ≡ collapse-if-single (combine kind) X
   unfolding collapse-if-single
   collapsed-collapse-root h e =
       λ j. cond (sym (lt-ltb 1 (X .head .height) h) j && sym (eq-eqb root-entries 1 e) j) (collapse-root (combine kind) X) X

@@ -34,7 +34,8 @@ module _ (half : ℕ) (s : List ℕ) where
 
   pub cell-tree : level-of s < free-level → cell-of half s ≡ tree (level-of s) (entries-of half s)
   unfolding cell-of choice
-  cell-tree e = λ j. choice (ne-eqb (level-of s) free-level (λ z. omega arith) j) (ne-eqb (level-of s) never-used-level (λ z. omega arith) j)
+  cell-tree e = λ j. choice (ne-eqb (level-of s) free-level (λ z. omega arith) j)
+      (ne-eqb (level-of s) never-used-level (λ z. omega arith) j)
 
   -- and back: a tree page's cell is that of its level and entries, a free page's that of its next
   chosen-tree : (f n : Bool) {l : ℕ} {es : List Entry} → choice f n ≡ tree l es → (level-of s ≡ l) × (entries-of half s ≡ es)
@@ -72,7 +73,8 @@ bytes-cell half (tree level es) = bytes-tree half level es
 bytes-cell half (free next) = bytes-free half next
 bytes-cell half never-used = bytes-unused (page-size half)
 
-pub canonical-tree : (half level : ℕ) (es : List Entry) → length es ≤ capacity half → length es < 2 ^ 32 → level < free-level → Entries-fit es → Canonical half (tree level es)
+pub canonical-tree : (half level : ℕ) (es : List Entry) → length es ≤ capacity half → length es < 2 ^ 32 → level < free-level
+    → Entries-fit es → Canonical half (tree level es)
 unfolding cell-bytes
 canonical-tree half level es within narrow low fits =
     let s : List ℕ = tree-bytes half level es in
@@ -85,7 +87,11 @@ canonical-tree half level es within narrow low fits =
 pub canonical-free : (half next : ℕ) → next < 2 ^ 32 → Canonical half (free next)
 unfolding cell-bytes
 canonical-free half next narrow =
-    record { sized = length-free half next; again = cell-free half (free-bytes half next) (level-of-free half next) ∙ ap free (next-of-free half next narrow) }
+    record {
+      sized = length-free half next;
+      again = cell-free half (free-bytes half next) (level-of-free half next)
+          ∙ ap free (next-of-free half next narrow);
+    }
 
 pub canonical-never : (half : ℕ) → Canonical half never-used
 unfolding cell-bytes

@@ -1,4 +1,5 @@
--- The bytes of an image in which one page or the head changed: those of the image before with the page's bytes, or the head's, in their place. Assumes nothing.
+-- The bytes of an image in which one page or the head changed: those of the image before with the page's bytes, or the head's, in their
+-- place. Assumes nothing.
 use Prim.Native.Nat.{ℕ, zero, suc, _+_, _*_, _-_, _≤_, _<_}
 use mathlib.Core.Path.{_≡_, sym, ap, _∙_}
 use mathlib.Core.List.{List, _++_}
@@ -16,7 +17,8 @@ use Rattle.image.proofs.Rows.{rows, patch-rows}
 module _ (half : ℕ) (some : 1 ≤ half) where
   -- page p of Y is written, and the other pages are the same
   pub put-page : (X Y : Image) (p : ℕ) → X .head ≡ Y .head → ((q : ℕ) → (q ≡ p → ⊥) → X .page q ≡ Y .page q)
-      → ((q : ℕ) → 1 ≤ q → q < X .head .pages → Canonical half (X .page q)) → length (cell-bytes half (Y .page p)) ≡ page-size half → 1 ≤ p → p < X .head .pages
+      → ((q : ℕ) → 1 ≤ q → q < X .head .pages → Canonical half (X .page q))
+      → length (cell-bytes half (Y .page p)) ≡ page-size half → 1 ≤ p → p < X .head .pages
       → patch (image-bytes half X) (page-size half * p) (cell-bytes half (Y .page p)) ≡ image-bytes half Y
   unfolding image-bytes
   put-page X Y zero h same kept sized l b = absurd (omega arith)
@@ -26,11 +28,13 @@ module _ (half : ℕ) (some : 1 ≤ half) where
       let top : List ℕ = head-bytes half (X .head) in
       let f : ℕ → List ℕ = λ q. cell-bytes half (X .page (suc q)) in
       let g : ℕ → List ℕ = λ q. cell-bytes half (Y .page (suc q)) in
-      let e : size * suc p ≡ length top + size * p = mul-suc size p ∙ add-comm (size * p) size ∙ ap (λ k. k + size * p) (sym (length-head half (X .head) some)) in
+      let e : size * suc p ≡ length top + size * p = mul-suc size p ∙ add-comm (size * p) size
+      ∙ ap (λ k. k + size * p) (sym (length-head half (X .head) some)) in
       ap (λ o. patch (top ++ rows f n) o (g p)) e
       ∙ patch-append-right top (rows f n) (size * p) (g p)
       ∙ ap (λ r. top ++ r)
-      (patch-rows f g size n p (λ i m. kept (suc i) (omega arith) (omega arith) .sized) sized (λ i d. ap (cell-bytes half) (same (suc i) (λ z. d (omega arith)))) (omega arith))
+      (patch-rows f g size n p (λ i m. kept (suc i) (omega arith) (omega arith) .sized) sized
+      (λ i d. ap (cell-bytes half) (same (suc i) (λ z. d (omega arith)))) (omega arith))
       ∙ (λ j. head-bytes half (h j) ++ rows g (h j .pages - 1))
 
   -- the head is written, and n stays

@@ -47,13 +47,16 @@ module _ (f : ℕ → List ℕ) (k : ℕ) where
 rows-same : (f g : ℕ → List ℕ) (n : ℕ) → ((i : ℕ) → i < n → f i ≡ g i) → rows f n ≡ rows g n
 unfolding concat-map listed
 rows-same f g zero same = refl
-rows-same f g (suc n) same = rows-more f 0 n ∙ (λ j. rows-same f g n (λ i l. same i (omega arith)) j ++ same n (omega arith) j) ∙ sym (rows-more g 0 n)
+rows-same f g (suc n) same =
+    rows-more f 0 n ∙ (λ j. rows-same f g n (λ i l. same i (omega arith)) j ++ same n (omega arith) j) ∙ sym (rows-more g 0 n)
 
 -- the i-th piece is written
-pub patch-rows : (f g : ℕ → List ℕ) (k n i : ℕ) → ((j : ℕ) → j < n → length (f j) ≡ k) → length (g i) ≡ k → ((j : ℕ) → (j ≡ i → ⊥) → f j ≡ g j) → i < n
+pub patch-rows : (f g : ℕ → List ℕ) (k n i : ℕ) → ((j : ℕ) → j < n → length (f j) ≡ k) → length (g i) ≡ k
+    → ((j : ℕ) → (j ≡ i → ⊥) → f j ≡ g j) → i < n
     → patch (rows f n) (k * i) (g i) ≡ rows g n
 patch-rows f g k zero i each long same l = absurd (omega arith)
-patch-rows f g k (suc n) i each long same l = ap (λ r. patch r (k * i) (g i)) (rows-more f k n) ∙ go (decLt i n) (patch-rows f g k n i fewer long same) ∙ sym (rows-more g k n)
+patch-rows f g k (suc n) i each long same l =
+    ap (λ r. patch r (k * i) (g i)) (rows-more f k n) ∙ go (decLt i n) (patch-rows f g k n i fewer long same) ∙ sym (rows-more g k n)
   where
     fewer : (j : ℕ) → j < n → length (f j) ≡ k
     fewer j m = each j (omega arith)
@@ -63,7 +66,8 @@ patch-rows f g k (suc n) i each long same l = ap (λ r. patch r (k * i) (g i)) (
 
     go : Dec (i < n) → (i < n → patch (rows f n) (k * i) (g i) ≡ rows g n) → patch (rows f n ++ f n) (k * i) (g i) ≡ rows g n ++ g n
     go (yes m) before =
-        patch-append-left (rows f n) (f n) (k * i) (g i) (omega (arith, sum, long, mul-le-mul-left k m, mul-suc k i)) ∙ (λ j. before m j ++ same n (λ z. omega arith) j)
+        patch-append-left (rows f n) (f n) (k * i) (g i) (omega (arith, sum, long, mul-le-mul-left k m, mul-suc k i))
+        ∙ (λ j. before m j ++ same n (λ z. omega arith) j)
     go (no m) before =
         let d : n ≡ i = omega arith in
         let o : k * i ≡ length (rows f n) + 0 = ap (λ r. k * r) (sym d) ∙ sym sum ∙ sym (add-zero (length (rows f n))) in

@@ -24,7 +24,8 @@ sized half img ok =
     record { size = eqb-true _ _ (k .0); least = leb-true _ _ (k .1 .0); most = leb-true _ _ (k .1 .1) }
 
 -- each of its pages has all its bytes
-pub page-length : {half : ℕ} {img : List ℕ} → Sized half img → (p : ℕ) → p < pages-in half img → length (page-at half img p) ≡ page-size half
+pub page-length : {half : ℕ} {img : List ℕ} → Sized half img → (p : ℕ) → p < pages-in half img
+    → length (page-at half img p) ≡ page-size half
 unfolding page-at
 page-length {half} {img} z p l =
     length-part img (page-size half * p) (page-size half) (omega (arith, z .size, mul-le-mul-left (page-size half) l))

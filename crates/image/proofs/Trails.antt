@@ -1,5 +1,5 @@
--- What an instant and a listing find is told by the pages that they look at: all are fit, or one isn't; and an instant reports as many as it looks at.
--- Assumes nothing.
+-- What an instant and a listing find is told by the pages that they look at: all are fit, or one isn't; and an instant reports as many as
+-- it looks at. Assumes nothing.
 use Prim.Native.Nat.{ℕ, zero, suc, _-_, _≤_, _<_}
 use mathlib.Core.Path.{_≡_, refl, sym, ap, _∙_, subst⁻¹}
 use mathlib.Core.Bool.{Bool, true, false, cond, _&&_, and-eq-true-iff, and-assoc, false≢true}
@@ -20,7 +20,8 @@ use Rattle.image.specs.Images.{page-at}
 use Rattle.image.specs.Instant.{Lookup, stopped, leaf-answer, above, look, look-up}
 use Rattle.image.specs.Listing.{Walked, nothing, then, in-turn, under, leaf-run, walk-page, walk, walk-over}
 use Rattle.image.specs.Listing
-use Rattle.image.specs.Trail.{Visit, each-in-turn, finds-fit, all-fit, up-to-unfit, Ends-unfit, visits, trail, entry-of, entries-over, instant-trail, listing-trail}
+use Rattle.image.specs.Trail.{Visit, each-in-turn, finds-fit, all-fit, up-to-unfit, Ends-unfit, visits, trail, entry-of, entries-over}
+use Rattle.image.specs.Trail.{instant-trail, listing-trail}
 use Rattle.image.proofs.Found.{room, found-within}
 
 -- ---- one entry's part of what each gives in turn
@@ -50,7 +51,8 @@ module _ (half : ℕ) (h : Head) (img : List ℕ) where
   unfolding all-fit
   all-fit-append [] ys = refl
   all-fit-append (x ∷ xs) ys =
-      ap (λ c. finds-fit half h img x && c) (all-fit-append xs ys) ∙ sym (and-assoc (finds-fit half h img x) (all-fit half h img xs) (all-fit half h img ys))
+      ap (λ c. finds-fit half h img x && c) (all-fit-append xs ys)
+      ∙ sym (and-assoc (finds-fit half h img x) (all-fit half h img xs) (all-fit half h img ys))
 
   -- a walk that ends at the first unfit page has met one where the whole would
   pub all-fit-up-to : (vs : List Visit) → all-fit half h img (up-to-unfit half h img vs) ≡ all-fit half h img vs
@@ -65,7 +67,8 @@ module _ (half : ℕ) (h : Head) (img : List ℕ) where
 
   pub each-fits : {v : Visit} {vs : List Visit} → List·Memᴰ v vs → all-fit half h img vs ≡ true → finds-fit half h img v ≡ true
   unfolding all-fit
-  each-fits (List·Memᴰ·head {x = x} {xs = xs} e) a = ap (finds-fit half h img) e ∙ and-eq-true-iff (finds-fit half h img x) (all-fit half h img xs) .0 a .0
+  each-fits (List·Memᴰ·head {x = x} {xs = xs} e) a =
+      ap (finds-fit half h img) e ∙ and-eq-true-iff (finds-fit half h img x) (all-fit half h img xs) .0 a .0
   each-fits (List·Memᴰ·tail {x = x} {xs = xs} m) a = each-fits m (and-eq-true-iff (finds-fit half h img x) (all-fit half h img xs) .0 a .1)
 
   pub one-unfit : (vs : List Visit) → all-fit half h img vs ≡ false → (v : Visit) × List·Memᴰ v vs × (finds-fit half h img v ≡ false)
@@ -124,11 +127,13 @@ module _ (half : ℕ) (h : Head) (img : List ℕ) where
       }
   at-inner false comb q r v below e told = record { fit = λ j. sym e j && true; pages = λ j. length (v ∷ cond (sym e j) [] []) }
 
-  look-told : (t l : ℕ) (at : Page-context) (p : ℕ) → 1 ≤ fewest half at → Told (look half h img t l at p) (visits half h img (entry-of half t) l at p)
+  look-told : (t l : ℕ) (at : Page-context) (p : ℕ) → 1 ≤ fewest half at
+      → Told (look half h img t l at p) (visits half h img (entry-of half t) l at p)
   unfolding look visits finds-fit entry-of fewest context-below
   look-told t zero at p some = at-leaf (page-fit half h at (page-at half img p)) _ (record { at = at; page = p }) refl
   look-told t (suc l) at p some =
-      at-inner (page-fit half h at s) (combine (h .kind)) (pair-at half s i) (look half h img t l (context-below half s at i) (child-at half s i))
+      at-inner (page-fit half h at s) (combine (h .kind)) (pair-at half s i)
+      (look half h img t l (context-below half s at i) (child-at half s i))
       (record { at = at; page = p }) _ refl
       (λ fits. below fits (look-told t l (context-below half s at i) (child-at half s i) (child-some fits)))
     where
@@ -142,12 +147,16 @@ module _ (half : ℕ) (h : Head) (img : List ℕ) where
       child-some fits = room half h at s some fits
 
       below : page-fit half h at s ≡ true
-          → Told (look half h img t l (context-below half s at i) (child-at half s i)) (visits half h img (entry-of half t) l (context-below half s at i) (child-at half s i))
           → Told (look half h img t l (context-below half s at i) (child-at half s i))
-          (each-in-turn (entry-count s) (λ k. cond (entry-of half t at s k) (visits half h img (entry-of half t) l (context-below half s at k) (child-at half s k)) []))
+          (visits half h img (entry-of half t) l (context-below half s at i) (child-at half s i))
+          → Told (look half h img t l (context-below half s at i) (child-at half s i))
+          (each-in-turn (entry-count s)
+          (λ k. cond (entry-of half t at s k)
+          (visits half h img (entry-of half t) l (context-below half s at k) (child-at half s k)) []))
       below fits told =
           let f : ℕ → List Visit = λ k. visits half h img (entry-of half t) l (context-below half s at k) (child-at half s k) in
-          subst⁻¹ (Told (look half h img t l (context-below half s at i) (child-at half s i))) (each-one f i (entry-count s) (found-within half h at s some fits t)) told
+          subst⁻¹ (Told (look half h img t l (context-below half s at i) (child-at half s i)))
+          (each-one f i (entry-count s) (found-within half h at s some fits t)) told
 
   -- ---- a listing
 
@@ -162,7 +171,8 @@ module _ (half : ℕ) (h : Head) (img : List ℕ) where
   in-turn-fit f zero each = refl
   in-turn-fit f (suc n) each = λ j. in-turn-fit f n each j && each n j
 
-  chosen : (c : Bool) (w : Walked) (vs : List Visit) → w .fit ≡ all-fit half h img vs → cond c w nothing .fit ≡ all-fit half h img (cond c vs [])
+  chosen : (c : Bool) (w : Walked) (vs : List Visit) → w .fit ≡ all-fit half h img vs
+      → cond c w nothing .fit ≡ all-fit half h img (cond c vs [])
   unfolding nothing all-fit
   chosen true w vs e = e
   chosen false w vs e = refl
@@ -180,12 +190,15 @@ module _ (half : ℕ) (h : Head) (img : List ℕ) where
   leaf-told true w v e told = told ∙ (λ j. sym e j && true)
   leaf-told false w v e told = λ j. sym e j && true
 
-  walk-told : (a b l : ℕ) (at : Page-context) (p : ℕ) → walk half h img a b l at p .fit ≡ all-fit half h img (visits half h img (entries-over a b) l at p)
+  walk-told : (a b l : ℕ) (at : Page-context) (p : ℕ)
+      → walk half h img a b l at p .fit ≡ all-fit half h img (visits half h img (entries-over a b) l at p)
   unfolding walk walk-page visits finds-fit all-fit entries-over leaf-run under
   walk-told a b zero at p =
       let s : List ℕ = page-at half img p in
       leaf-told (page-fit half h at s) _ (record { at = at; page = p }) refl
-      (in-turn-fit _ (entry-count s) (λ i. chosen (overlaps a b (start-at s i) (end-at s (at .hi) i)) (leaf-run a (start-at s i) (pair-at half s i)) [] refl ∙ no-looks (overlaps a b (start-at s i) (end-at s (at .hi) i))))
+      (in-turn-fit _ (entry-count s)
+      (λ i. chosen (overlaps a b (start-at s i) (end-at s (at .hi) i)) (leaf-run a (start-at s i) (pair-at half s i)) [] refl
+      ∙ no-looks (overlaps a b (start-at s i) (end-at s (at .hi) i))))
     where
       no-looks : (c : Bool) → all-fit half h img (cond c [] []) ≡ true
       no-looks true = refl

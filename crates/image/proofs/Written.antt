@@ -26,7 +26,8 @@ bytes-written half X =
     bytes-append (head-bytes half (X .head)) (rows cell (X .head .pages - 1)) (bytes-head half (X .head))
     (bytes-joined cell (λ p. bytes-cell half (X .page (suc p))) (listed (X .head .pages - 1) (λ p. p)))
 
-module _ (half : ℕ) (X : Image) (some : 1 ≤ half) (one : 1 ≤ X .head .pages) (kept : (p : ℕ) → 1 ≤ p → p < X .head .pages → Canonical half (X .page p)) where
+module _ (half : ℕ) (X : Image) (some : 1 ≤ half) (one : 1 ≤ X .head .pages) (kept : (p : ℕ) → 1 ≤ p → p < X .head .pages
+    → Canonical half (X .page p)) where
   cell : ℕ → List ℕ
   cell p = cell-bytes half (X .page (suc p))
 
@@ -58,7 +59,8 @@ module _ (half : ℕ) (X : Image) (some : 1 ≤ half) (one : 1 ≤ X .head .page
   unfolding page-at
   head-written =
       (λ j. part (image-is j) (mul-zero (page-size half) j) (page-size half))
-      ∙ part-middle [] (head-bytes half (X .head)) (rows cell (X .head .pages - 1)) 0 (page-size half) refl (length-head half (X .head) some)
+      ∙ part-middle [] (head-bytes half (X .head)) (rows cell (X .head .pages - 1)) 0 (page-size half) refl
+      (length-head half (X .head) some)
 
   pub page-of-written : (p : ℕ) → 1 ≤ p → p < X .head .pages → page-at half (image-bytes half X) p ≡ cell-bytes half (X .page p)
   unfolding page-at cell

@@ -1,8 +1,7 @@
 -- A change that is not turned back takes a good state to a good one: each step finds the structure that the one before left, and the five
 -- together restore what holds only before and after a change. A clause of soundness that a cut undoes, such as that no two neighbouring
 -- leaf entries have equal totals, is a field of `Invariant`: it touches `invariant-change` here, and `sound-good`, `good-sound` and
--- `fresh-good`,
--- where `Invariant` meets soundness; no step and nothing that a step asks of its image. Assumes nothing.
+-- `fresh-good`, where `Invariant` meets soundness; no step and nothing that a step asks of its image. Assumes nothing.
 use Prim.Native.Nat.{ℕ, suc, _≤_, _<_}
 use mathlib.Core.Path.{_≡_, ap, subst⁻¹}
 use mathlib.Core.Bool.{false, cond}

@@ -164,7 +164,8 @@ module _ {half kind n : ℕ} (two : 2 ≤ half) {X : Image} {Y : State} (g : Str
     pub combine-step : Stepped X (combine-span-x rule s e p X) Y (combine-span rule s e p Y) (combine-names half rule s e X)
     combine-step = combine-is half rule s e p X Y (g .shown) (structure-once g) full (formed-gapless half Leaf Y (g .formed))
 
-    pub combine-keeps : Effective kind p → n < most-changes → Structure half kind (suc n) (combine-span-x rule s e p X) (combine-span rule s e p Y)
+    pub combine-keeps : Effective kind p → n < most-changes
+        → Structure half kind (suc n) (combine-span-x rule s e p X) (combine-span rule s e p Y)
     unfolding combine-span
     combine-keeps f few =
         kept g combine-step (combine-formed rule s e p Y (g .formed) leaf-pairless) (combine-bounds kind n s e p Y f (g .bounds)) few

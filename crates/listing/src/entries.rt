@@ -24,7 +24,7 @@ fn later(a: u32, b: u32) -> u32
 }
 
 // Whether the i-th entry of a fit page overlaps the span: only such an entry counts.
-pub fn meets(img: &[u8], q: SpanQuery, on: Cursor, i: usize) -> bool
+pub(crate) fn meets(img: &[u8], q: SpanQuery, on: Cursor, i: usize) -> bool
     requires { ⌜ Valid-cursor (now img) q on ⌝ }
     requires { ⌜ Valid-entry (now img) q on i ⌝ }
     ensures { λ r. ⌜ r ≡ meets q (bytes-at (now (img .entry)) on) on i ⌝ }
@@ -34,7 +34,7 @@ pub fn meets(img: &[u8], q: SpanQuery, on: Cursor, i: usize) -> bool
 }
 
 // Where the run of a leaf's i-th entry starts: the first run starts at a.
-pub fn run_start(img: &[u8], q: SpanQuery, on: Cursor, i: usize) -> u32
+pub(crate) fn run_start(img: &[u8], q: SpanQuery, on: Cursor, i: usize) -> u32
     requires { ⌜ Valid-cursor (now img) q on ⌝ }
     requires { ⌜ Valid-entry (now img) q on i ⌝ }
     ensures { λ r. ⌜ r ≡ max (q .a) (start-at (bytes-at (now (img .entry)) on) i) ⌝ }
@@ -43,7 +43,7 @@ pub fn run_start(img: &[u8], q: SpanQuery, on: Cursor, i: usize) -> u32
 }
 
 // The i-th entry's pair, combined with those above it.
-pub fn total_at(img: &[u8], q: SpanQuery, on: Cursor, i: usize) -> Pair
+pub(crate) fn total_at(img: &[u8], q: SpanQuery, on: Cursor, i: usize) -> Pair
     requires { ⌜ Valid-cursor (now img) q on ⌝ }
     requires { ⌜ Valid-entry (now img) q on i ⌝ }
     ensures { λ r. ⌜ r ≡ cursor-below q (bytes-at (now (img .entry)) on) on i .above ⌝ }
@@ -53,7 +53,7 @@ pub fn total_at(img: &[u8], q: SpanQuery, on: Cursor, i: usize) -> Pair
 }
 
 // The page below the i-th entry of an inner page.
-pub fn cursor_below(img: &[u8], q: SpanQuery, on: Cursor, i: usize) -> Cursor
+pub(crate) fn cursor_below(img: &[u8], q: SpanQuery, on: Cursor, i: usize) -> Cursor
     requires { ⌜ Valid-cursor (now img) q on ⌝ }
     requires { ⌜ Valid-entry (now img) q on i ⌝ }
     requires { ⌜ 1 ≤ on .at .level ⌝ }

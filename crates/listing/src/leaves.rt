@@ -55,7 +55,14 @@ fn leaf_entry(img: &[u8], out: &mut [u8], q: SpanQuery, on: Cursor, i: usize, ru
 }
 
 // The n entries of a fit leaf in turn.
-pub fn leaf_page(img: &[u8], out: &mut [u8], q: SpanQuery, on: Cursor, n: usize, run: Run) -> Run
+pub(crate) fn leaf_page(
+    img: &[u8],
+    out: &mut [u8],
+    q: SpanQuery,
+    on: Cursor,
+    n: usize,
+    run: Run,
+) -> Run
     requires { ⌜ Valid-cursor (now img) q on ⌝ }
     requires { ⌜ Entries n ≡ page-check (now img) q on ⌝ }
     requires { ⌜ on .at .level ≡ 0 ⌝ }

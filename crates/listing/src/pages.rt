@@ -28,7 +28,7 @@ fn found_fit(s: &[u8], q: SpanQuery, at: PageContext) -> bool
 }
 
 // A page is checked before anything in it is used.
-pub fn check_page(img: &[u8], q: SpanQuery, on: Cursor) -> PageCheck
+pub(crate) fn check_page(img: &[u8], q: SpanQuery, on: Cursor) -> PageCheck
     requires { ⌜ Valid-cursor (now img) q on ⌝ }
     requires { ⌜ Known-fit (now img) q on ⌝ }
     ensures { λ r. ⌜ r ≡ page-check (now (img .entry)) q on ⌝ }

@@ -14,7 +14,13 @@ ghost use Rattle.listing.specs.Cursors.{Valid-cursor, Valid-entry};
 ghost use Rattle.listing.specs.Walks.{page-walk, entry-walk, Room, Does};
 
 // From a page on: its entries in turn, up to the first unfit page. A page is fit in no two contexts, so none is found fit twice.
-pub fn walk_page(img: &[u8], out: &mut [u8], q: SpanQuery, on: Cursor, run: Run) -> WalkAnswer
+pub(crate) fn walk_page(
+    img: &[u8],
+    out: &mut [u8],
+    q: SpanQuery,
+    on: Cursor,
+    run: Run,
+) -> WalkAnswer
     requires { ⌜ Valid-cursor (now img) q on ⌝ }
     requires { ⌜ Room (q .writing) run (page-walk (now img) q on) (now out) ⌝ }
     ensures { λ r. ⌜ Does (q .writing) run (page-walk (now (img .entry)) q on) (now (out .entry)) r (now (out .exit)) ⌝ }

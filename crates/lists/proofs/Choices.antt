@@ -3,7 +3,8 @@ use mathlib.Core.Path.{_≡_, refl}
 use mathlib.Core.Bool.{Bool, true, false, cond, true≢false, false≢true}
 
 -- Two choices by one test are both the first or both the second.
-pub cond-both : {A B : Type 0} (P : A → B → Type 0) {x x′ : A} {y y′ : B} (a b : Bool) → a ≡ b → (a ≡ true → P x y) → (a ≡ false → P x′ y′) → P (cond a x x′) (cond b y y′)
+pub cond-both : {A B : Type 0} (P : A → B → Type 0) {x x′ : A} {y y′ : B} (a b : Bool) → a ≡ b → (a ≡ true → P x y)
+    → (a ≡ false → P x′ y′) → P (cond a x x′) (cond b y y′)
 cond-both P true true e f g = f refl
 cond-both P true false e f g = absurd (true≢false e)
 cond-both P false true e f g = absurd (false≢true e)

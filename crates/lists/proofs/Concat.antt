@@ -10,7 +10,8 @@ module _ {A : Type 0} (f : A → List ℕ) where
   pub concat-map-append : (xs ys : List A) → concat-map f (xs ++ ys) ≡ concat-map f xs ++ concat-map f ys
   unfolding concat-map
   concat-map-append [] ys = refl
-  concat-map-append (x ∷ xs) ys = ap (λ l. f x ++ l) (concat-map-append xs ys) ∙ sym (append-assoc (f x) (concat-map f xs) (concat-map f ys))
+  concat-map-append (x ∷ xs) ys =
+      ap (λ l. f x ++ l) (concat-map-append xs ys) ∙ sym (append-assoc (f x) (concat-map f xs) (concat-map f ys))
 
   pub concat-map-one : (x : A) → concat-map f (x ∷ []) ≡ f x
   unfolding concat-map
@@ -23,4 +24,5 @@ module _ {A : Type 0} (f : A → List ℕ) where
   pub concat-map-length : (g : ℕ → A) (n : ℕ) → length (concat-map f (listed n g)) ≡ total n (λ i. length (f (g i)))
   unfolding concat-map listed total
   concat-map-length g zero = refl
-  concat-map-length g (suc n) = omega (arith, ap length (concat-map-more g n), length-append (concat-map f (listed n g)) (f (g n)), concat-map-length g n)
+  concat-map-length g (suc n) =
+      omega (arith, ap length (concat-map-more g n), length-append (concat-map f (listed n g)) (f (g n)), concat-map-length g n)

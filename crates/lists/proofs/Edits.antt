@@ -28,7 +28,8 @@ module _ {A B : Type 0} (f : A → B) where
   map-splice i zs xs =
       map-append (take i xs) (zs ++ drop (suc i) xs)
       ∙ ap (λ (r : List B). r ++ map f (zs ++ drop (suc i) xs)) (map-take i xs)
-      ∙ ap (λ (r : List B). take i (map f xs) ++ r) (map-append zs (drop (suc i) xs) ∙ ap (λ (r : List B). map f zs ++ r) (map-drop (suc i) xs))
+      ∙ ap (λ (r : List B). take i (map f xs) ++ r)
+      (map-append zs (drop (suc i) xs) ∙ ap (λ (r : List B). map f zs ++ r) (map-drop (suc i) xs))
 
 module _ {A : Type 0} where
   pub splice-same : (i : ℕ) (xs : List A) (d : A) → i < length xs → splice i (getD xs i d ∷ []) xs ≡ xs
@@ -36,14 +37,21 @@ module _ {A : Type 0} where
   splice-same i xs d h = sym (split-at xs i d h)
 
   -- two neighbours replaced
-  pub splice-two : (i : ℕ) (zs ys xs : List A) → suc i < length xs → splice i zs (splice (suc i) ys xs) ≡ take i xs ++ (zs ++ (ys ++ drop (suc (suc i)) xs))
+  pub splice-two : (i : ℕ) (zs ys xs : List A) → suc i < length xs
+      → splice i zs (splice (suc i) ys xs) ≡ take i xs ++ (zs ++ (ys ++ drop (suc (suc i)) xs))
   unfolding splice
   splice-two i zs ys xs h =
       let n : length (take (suc i) xs) ≡ suc i = length-take-le (suc i) xs (omega arith) in
-      rw (drop-at (take (suc i) xs) (ys ++ drop (suc (suc i)) xs) (suc i) n, take-append-le i (take (suc i) xs) (ys ++ drop (suc (suc i)) xs) (omega arith), take-take i (suc i) xs (omega arith))
+      rw (
+        drop-at (take (suc i) xs) (ys ++ drop (suc (suc i)) xs) (suc i) n,
+        take-append-le i (take (suc i) xs)
+            (ys ++ drop (suc (suc i)) xs) (omega arith),
+        take-take i (suc i) xs (omega arith),
+      )
 
   -- a list of one has the one that stands anywhere in it first
-  pub only-first : (i : ℕ) (x : A) (zs xs : List A) (d : A) → i < length xs → length (take i xs ++ (x ∷ zs)) ≡ 1 → getD (take i xs ++ (x ∷ zs)) 0 d ≡ x
+  pub only-first : (i : ℕ) (x : A) (zs xs : List A) (d : A) → i < length xs → length (take i xs ++ (x ∷ zs)) ≡ 1
+      → getD (take i xs ++ (x ∷ zs)) 0 d ≡ x
   only-first zero x zs xs d h n = refl
   only-first (suc i) x zs xs d h n =
       absurd (omega (arith, length-append (take (suc i) xs) (x ∷ zs), length-take-le (suc i) xs (omega arith)))

@@ -1,5 +1,6 @@
 -- `Choices` has what holds of a choice by a test. `Listed`, `Concat` and `Edits` have the laws of lists by index, one behind another and
--- with others in the place of one, `All` what holds of each element. `Totals` adds up below a number, and `Times` counts a number in a list.
+-- with others in the place of one, `All` what holds of each element. `Totals` adds up below a number, and `Times` counts a number in a
+-- list.
 pub mod Choices
 pub mod Listed
 pub mod Concat

@@ -38,7 +38,8 @@ times-is p (q ∷ qs) = ap (λ n. hit p q + n) (times-is p qs)
 
 -- ---- in lists one behind another
 
-pub times-concat-map : {A : Type 0} (f : A → List ℕ) (g : ℕ → A) (n p : ℕ) → times p (concat-map f (listed n g)) ≡ total n (λ i. times p (f (g i)))
+pub times-concat-map : {A : Type 0} (f : A → List ℕ) (g : ℕ → A) (n p : ℕ)
+    → times p (concat-map f (listed n g)) ≡ total n (λ i. times p (f (g i)))
 unfolding concat-map listed times total
 times-concat-map f g zero p = refl
 times-concat-map f g (suc n) p =
@@ -78,7 +79,8 @@ module _ (m : ℕ) (xs ys : List ℕ) (v : Within m xs) (w : Within m ys) where
   pub count-of-once : ((i : ℕ) → i < m → times (suc i) xs + times (suc i) ys ≡ 1) → length xs + length ys ≡ m
   count-of-once h = sym both-total ∙ total-ones m (λ i. times (suc i) xs + times (suc i) ys) h
 
-  pub once-of-count : ((p : ℕ) → times p xs + times p ys ≤ 1) → length xs + length ys ≡ m → (i : ℕ) → i < m → times (suc i) xs + times (suc i) ys ≡ 1
+  pub once-of-count : ((p : ℕ) → times p xs + times p ys ≤ 1) → length xs + length ys ≡ m → (i : ℕ) → i < m
+      → times (suc i) xs + times (suc i) ys ≡ 1
   once-of-count h e = all-ones m (λ i. times (suc i) xs + times (suc i) ys) (λ i l. h (suc i)) (both-total ∙ e)
 
 -- ---- what holds of every number of a list

@@ -131,9 +131,11 @@ unfolding total
 total-held zero f b x r h = record { most = omega arith; inside = λ l. absurd (omega arith) }
 total-held (suc n) f b x r h =
     let earlier : (i : ℕ) → i < n → b i < b (suc i) = λ i l. r i (omega arith) in
-    go (total-held n f b x earlier (λ i l. h i (omega arith))) (h n (omega arith)) (climb n b earlier) (r n (omega arith)) (decLe 1 (total n f)) (decLe 1 (f n))
+    go (total-held n f b x earlier (λ i l. h i (omega arith))) (h n (omega arith)) (climb n b earlier) (r n (omega arith))
+    (decLe 1 (total n f)) (decLe 1 (f n))
   where
-    go : Held (total n f) x (b 0) (b n) → Held (f n) x (b n) (b (suc n)) → b 0 + n ≤ b n → b n < b (suc n) → Dec (1 ≤ total n f) → Dec (1 ≤ f n)
+    go : Held (total n f) x (b 0) (b n) → Held (f n) x (b n) (b (suc n)) → b 0 + n ≤ b n → b n < b (suc n) → Dec (1 ≤ total n f)
+        → Dec (1 ≤ f n)
         → Held (total n f + f n) x (b 0) (b (suc n))
     go before last s t (yes p) (yes q) = absurd (omega (arith, before .inside p, last .inside q))
     go before last s t (yes p) (no q) = record { most = omega arith; inside = λ l. omega (arith, before .inside p) }

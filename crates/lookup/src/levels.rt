@@ -33,7 +33,7 @@ fn page_answer(s: &[u8], h: Head, at: PageContext, t: u32) -> LevelAnswer
 }
 
 // The answer of page p of the image.
-pub fn level_answer(img: &[u8], p: u32, h: Head, at: PageContext, t: u32) -> LevelAnswer
+pub(crate) fn level_answer(img: &[u8], p: u32, h: Head, at: PageContext, t: u32) -> LevelAnswer
     requires { ⌜ Page-in (now img) p ⌝ }
     requires { ⌜ On-path at t ⌝ }
     ensures { λ r. ⌜ r ≡ level-answer 12 h at t (page-at 12 (now (img .entry)) p) ⌝ }
@@ -42,7 +42,7 @@ pub fn level_answer(img: &[u8], p: u32, h: Head, at: PageContext, t: u32) -> Lev
 }
 
 // The context under the i-th entry of page p, which has been found fit.
-pub fn below(img: &[u8], p: u32, at: PageContext, i: usize) -> PageContext
+pub(crate) fn below(img: &[u8], p: u32, at: PageContext, i: usize) -> PageContext
     requires { ⌜ Page-in (now img) p ⌝ }
     requires { ⌜ (i < 24) × (entry-count (page-at 12 (now img) p) ≤ 24) ⌝ }
     requires { ⌜ (1 ≤ at .level) × Bounded at ⌝ }

@@ -57,7 +57,8 @@ runs-writable list reached e l p =
 
 -- ---- a step of the program, in an output that is empty again
 
-module _ {step : Program-state → Program-state} {r f q : Reading} {img out after left : List ℕ} (t : Flushes r f) (ran : Simulates-step step f img out q after left) where
+module _ {step : Program-state → Program-state} {r f q : Reading} {img out after left : List ℕ} (t : Flushes r f)
+    (ran : Simulates-step step f img out q after left) where
   pub shown : {g : Program-state} → Stands g r img → Simulates out 0 (step (unwritten g)) q after left
   shown {g} s = ran out 0 (unwritten g) (t (s .had) (s .from) g img (s .out) out (s .shows))
 

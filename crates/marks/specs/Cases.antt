@@ -59,13 +59,17 @@ unhealed = patch (patch (with-byte (112 + 4) 2 (small 4)) (112 + 36) (u32-bytes 
 unfoldable pub split-below : List ℕ
 split-below =
     step entering (pos 2) 4 8
-    (step entering (pos 1) 6 16 (step entering (pos 1) 6 9 (step withdrawing (pos 2) 0 9 (step entering (pos 2) 9 10 (step entering (pos 1) 9 20 (step entering (pos 2) 0 9 (step entering (pos 2) 2 9 (small 6))))))))
+    (step entering (pos 1) 6 16
+    (step entering (pos 1) 6 9
+    (step withdrawing (pos 2) 0 9
+    (step entering (pos 2) 9 10 (step entering (pos 1) 9 20 (step entering (pos 2) 0 9 (step entering (pos 2) 2 9 (small 6))))))))
 
 -- a left neighbour gives
 unfoldable pub redistributed-left : List ℕ
 redistributed-left =
     step withdrawing (pos 1) 3 7
-    (step entering (pos 1) 5 17 (step entering (pos 1) 3 7 (step entering (pos 1) 11 23 (step entering (pos 1) 3 6 (step entering (pos 2) 3 12 (small 6))))))
+    (step entering (pos 1) 5 17
+    (step entering (pos 1) 3 7 (step entering (pos 1) 11 23 (step entering (pos 1) 3 6 (step entering (pos 2) 3 12 (small 6))))))
 
 -- a right neighbour joins, and the root goes
 unfoldable pub redistributed-right : List ℕ
@@ -85,7 +89,8 @@ pub record Cases : Type 0 where
   pub clip-3 : runs-over half 20 41 one-booking ≡ run 20 (pair (pos 6) (pos 1)) ∷ run 40 none ∷ []
   -- At height 2 two pages are read, a leaf that is hurt counts, and after a hurt root no page.
   pub pages-2 : instant 2 10 grown-root ≡ record { status = 0; pair = pair (pos 1) (pos 1); pages = 2 }
-  pub height-2 : runs-over 2 0 END grown-root ≡ run 0 none ∷ run 10 (pair (pos 1) (pos 1)) ∷ run 15 none ∷ run 20 (pair (pos 1) (pos 1)) ∷ run 25 none ∷ []
+  pub height-2 : runs-over 2 0 END grown-root ≡ run 0 none ∷ run 10 (pair (pos 1) (pos 1)) ∷ run 15 none
+      ∷ run 20 (pair (pos 1) (pos 1)) ∷ run 25 none ∷ []
   pub pages-hurt-leaf : instant 2 21 hurt-leaf ≡ record { status = 21; pair = none; pages = 2 }
   pub left-leaf-unhurt : instant 2 11 hurt-leaf ≡ record { status = 0; pair = pair (pos 1) (pos 1); pages = 2 }
   pub pages-hurt-root : instant 2 11 hurt-root ≡ record { status = 21; pair = none; pages = 1 }
@@ -95,12 +100,19 @@ pub record Cases : Type 0 where
   pub b-past-hurt : listing 2 0 16 hurt-leaf [] .status ≡ 21
   -- 15 goes by bytes, and bytes past the last run keep what they held.
   pub out-31 : listing half 0 40 one-booking (replicate 31 9) ≡ record { status = 15; runs = 0; output = replicate 31 9 }
-  pub out-33 : listing half 0 40 one-booking (replicate 33 9) ≡ record { status = 0; runs = 2; output = 0 ∷ 0 ∷ 0 ∷ 0 ∷ 0 ∷ 0 ∷ 0 ∷ 0 ∷ 0 ∷ 0 ∷ 0 ∷ 0 ∷ 0 ∷ 0 ∷ 0 ∷ 0 ∷ 10 ∷ 0 ∷ 0 ∷ 0 ∷ 1 ∷ 0 ∷ 0 ∷ 0 ∷ 6 ∷ 0 ∷ 0 ∷ 0 ∷ 0 ∷ 0 ∷ 0 ∷ 0 ∷ 9 ∷ [] }
+  pub out-33 : listing half 0 40 one-booking (replicate 33 9) ≡
+      record {
+        status = 0;
+        runs = 2;
+        output = 0 ∷ 0 ∷ 0 ∷ 0 ∷ 0 ∷ 0 ∷ 0 ∷ 0 ∷ 0 ∷ 0 ∷ 0 ∷ 0 ∷ 0 ∷ 0 ∷ 0 ∷ 0 ∷ 10 ∷ 0 ∷ 0 ∷ 0 ∷ 1 ∷ 0
+            ∷ 0 ∷ 0 ∷ 6 ∷ 0 ∷ 0 ∷ 0 ∷ 0 ∷ 0 ∷ 0 ∷ 0 ∷ 9 ∷ [];
+      }
   -- Scratch is untouched at 13 and 17; at 22 and 0 its n bytes are 0 and those beyond keep theirs.
   pub scratch-13 : book half entering (pos 1000001) 10 40 (formatted 2 1 0) (7 ∷ 7 ∷ 7 ∷ []) .scratch ≡ 7 ∷ 7 ∷ 7 ∷ []
   pub scratch-22 : book half withdrawing (pos 1) 10 40 (formatted 2 2 0) (7 ∷ 7 ∷ 7 ∷ []) .scratch ≡ 0 ∷ 0 ∷ 7 ∷ []
   pub scratch-0 : book half entering (pos 1) 10 40 (formatted 2 1 0) (7 ∷ 7 ∷ 7 ∷ []) .scratch ≡ 0 ∷ 0 ∷ 7 ∷ []
-  pub scratch-17 : book half entering (pos 1) 10 10 (formatted 2 1 0) (7 ∷ []) ≡ record { status = 17; image = formatted 2 1 0; scratch = 7 ∷ [] }
+  pub scratch-17 : book half entering (pos 1) 10 10 (formatted 2 1 0) (7 ∷ []) ≡
+      record { status = 17; image = formatted 2 1 0; scratch = 7 ∷ [] }
   -- 21 stands ahead of 22, and 22 ahead of 23.
   pub order-21-22 : status withdrawing (pos 1) 10 40 (with-byte 40 0 (formatted 2 2 0)) ≡ 21
   pub order-22-23 : status withdrawing (pos 1) 10 40 (patch (formatted 2 2 0) 32 (u32-bytes 1000000000)) ≡ 22
@@ -109,7 +121,8 @@ pub record Cases : Type 0 where
   pub cap : full-listing (after entering (pos 1) 5 4294967290 (formatted 2 1 1000000000)) ≡ run 0 none ∷ run 5 (pair (pos 1) (pos 1)) ∷ []
   pub cap-itself : effect-end 4294967290 1000000000 ≡ END
   -- A value of 0 counts: (0, 1) is not (0, 0).
-  pub zero-counts : full-listing (after entering (pos 0) 10 40 (formatted 2 1 0)) ≡ run 0 none ∷ run 10 (pair (pos 0) (pos 1)) ∷ run 40 none ∷ []
+  pub zero-counts : full-listing (after entering (pos 0) 10 40 (formatted 2 1 0)) ≡ run 0 none ∷ run 10 (pair (pos 0) (pos 1))
+      ∷ run 40 none ∷ []
   pub zero-greatest : pair-of 10 (after entering (pos 0) 10 40 (formatted 2 2 0)) ≡ pair (pos 0) (pos 1)
   -- Greatest and least of values below zero.
   pub neg-greatest : pair-of 10 (after entering (negsuc 4) 10 40 (formatted 2 2 0)) ≡ pair (negsuc 4) (pos 1)
@@ -125,45 +138,77 @@ pub record Cases : Type 0 where
   pub length-1025 : sound 2 (image-bytes 2 (fresh 1025 1 0)) ≡ false
   -- An image that has no history is changed like any other: its leaf's entries stay, and what is left is sound.
   pub unhealed-sound : sound 2 unhealed ≡ true
-  pub unhealed-left : entries-of 2 (page-at 2 (step entering (pos 1) 20 25 unhealed) 1) ≡ entry 0 none 0 ∷ entry 10 none 0 ∷ entry 20 (pair (pos 1) (pos 1)) 0 ∷ entry 25 none 0 ∷ []
+  pub unhealed-left : entries-of 2 (page-at 2 (step entering (pos 1) 20 25 unhealed) 1) ≡
+      entry 0 none 0 ∷ entry 10 none 0 ∷ entry 20 (pair (pos 1) (pos 1)) 0 ∷ entry 25 none 0 ∷ []
   pub unhealed-after : sound 2 (step entering (pos 1) 20 25 unhealed) ≡ true
   -- The chain length is true.
   pub chain-length : audit half (with-byte 16 1 (formatted 2 1 0)) (0 ∷ 0 ∷ []) .status ≡ 21
   -- A split root: the leaf takes first, the root after it, and the old page keeps its half.
-  pub grown-head : head 2 grown-root ≡ record { pages = 4; height = 2; root = 3; free = 0; chain = 0; mark = 4; kind = 1; window = 0; changes = 2 }
+  pub grown-head : head 2 grown-root ≡
+      record { pages = 4; height = 2; root = 3; free = 0; chain = 0; mark = 4; kind = 1; window = 0; changes = 2 }
   pub grown-entries : entries-of 2 (page-at 2 grown-root 3) ≡ entry 0 none 1 ∷ entry 15 none 2 ∷ []
   -- The bytes of a head, of a leaf, of its entries.
-  pub head-bytes : part (formatted 3 2 20) 0 40 ≡ 3 ∷ 0 ∷ 0 ∷ 0 ∷ 1 ∷ 0 ∷ 0 ∷ 0 ∷ 1 ∷ 0 ∷ 0 ∷ 0 ∷ 0 ∷ 0 ∷ 0 ∷ 0 ∷ 0 ∷ 0 ∷ 0 ∷ 0 ∷ 2 ∷ 0 ∷ 0 ∷ 0 ∷ 2 ∷ 0 ∷ 0 ∷ 0 ∷ 20 ∷ 0 ∷ 0 ∷ 0 ∷ 0 ∷ 0 ∷ 0 ∷ 0 ∷ 255 ∷ 255 ∷ 255 ∷ 255 ∷ []
-  pub leaf-bytes : part (after entering (negsuc 5) 10 40 (formatted 2 1 0)) 512 48 ≡ 0 ∷ 0 ∷ 0 ∷ 0 ∷ 3 ∷ 0 ∷ 0 ∷ 0 ∷ 255 ∷ 255 ∷ 255 ∷ 255 ∷ 255 ∷ 255 ∷ 255 ∷ 255 ∷ 255 ∷ 255 ∷ 255 ∷ 255 ∷ 255 ∷ 255 ∷ 255 ∷ 255 ∷ 255 ∷ 255 ∷ 255 ∷ 255 ∷ 255 ∷ 255 ∷ 255 ∷ 255 ∷ 0 ∷ 0 ∷ 0 ∷ 0 ∷ 10 ∷ 0 ∷ 0 ∷ 0 ∷ 40 ∷ 0 ∷ 0 ∷ 0 ∷ 255 ∷ 255 ∷ 255 ∷ 255 ∷ []
-  pub entry-bytes : part (after entering (negsuc 5) 10 40 (formatted 2 1 0)) (512 + 128) 52 ≡ 0 ∷ 0 ∷ 0 ∷ 0 ∷ 0 ∷ 0 ∷ 0 ∷ 0 ∷ 0 ∷ 0 ∷ 0 ∷ 0 ∷ 0 ∷ 0 ∷ 0 ∷ 0 ∷ 250 ∷ 255 ∷ 255 ∷ 255 ∷ 255 ∷ 255 ∷ 255 ∷ 255 ∷ 1 ∷ 0 ∷ 0 ∷ 0 ∷ 0 ∷ 0 ∷ 0 ∷ 0 ∷ 0 ∷ 0 ∷ 0 ∷ 0 ∷ 0 ∷ 0 ∷ 0 ∷ 0 ∷ 0 ∷ 0 ∷ 0 ∷ 0 ∷ 0 ∷ 0 ∷ 0 ∷ 0 ∷ 255 ∷ 255 ∷ 255 ∷ 255 ∷ []
+  pub head-bytes : part (formatted 3 2 20) 0 40 ≡ 3 ∷ 0 ∷ 0 ∷ 0 ∷ 1 ∷ 0 ∷ 0 ∷ 0 ∷ 1 ∷ 0 ∷ 0 ∷ 0 ∷ 0 ∷ 0 ∷ 0 ∷ 0 ∷ 0 ∷ 0 ∷ 0 ∷ 0 ∷ 2
+      ∷ 0 ∷ 0 ∷ 0 ∷ 2 ∷ 0 ∷ 0 ∷ 0 ∷ 20 ∷ 0 ∷ 0 ∷ 0 ∷ 0 ∷ 0 ∷ 0 ∷ 0 ∷ 255 ∷ 255 ∷ 255 ∷ 255 ∷ []
+  pub leaf-bytes : part (after entering (negsuc 5) 10 40 (formatted 2 1 0)) 512 48 ≡ 0 ∷ 0 ∷ 0 ∷ 0 ∷ 3 ∷ 0 ∷ 0 ∷ 0 ∷ 255 ∷ 255 ∷ 255
+      ∷ 255 ∷ 255 ∷ 255 ∷ 255 ∷ 255 ∷ 255 ∷ 255 ∷ 255 ∷ 255 ∷ 255 ∷ 255 ∷ 255 ∷ 255 ∷ 255 ∷ 255 ∷ 255 ∷ 255 ∷ 255 ∷ 255 ∷ 255 ∷ 255
+      ∷ 0 ∷ 0 ∷ 0 ∷ 0 ∷ 10 ∷ 0 ∷ 0 ∷ 0 ∷ 40 ∷ 0 ∷ 0 ∷ 0 ∷ 255 ∷ 255 ∷ 255 ∷ 255 ∷ []
+  pub entry-bytes : part (after entering (negsuc 5) 10 40 (formatted 2 1 0)) (512 + 128) 52 ≡ 0 ∷ 0 ∷ 0 ∷ 0 ∷ 0 ∷ 0 ∷ 0 ∷ 0 ∷ 0 ∷ 0
+      ∷ 0 ∷ 0 ∷ 0 ∷ 0 ∷ 0 ∷ 0 ∷ 250 ∷ 255 ∷ 255 ∷ 255 ∷ 255 ∷ 255 ∷ 255 ∷ 255 ∷ 1 ∷ 0 ∷ 0 ∷ 0 ∷ 0 ∷ 0 ∷ 0 ∷ 0 ∷ 0 ∷ 0 ∷ 0 ∷ 0 ∷ 0 ∷ 0
+      ∷ 0 ∷ 0 ∷ 0 ∷ 0 ∷ 0 ∷ 0 ∷ 0 ∷ 0 ∷ 0 ∷ 0 ∷ 255 ∷ 255 ∷ 255 ∷ 255 ∷ []
   -- After the root has gone: the joined page is given back first, the old root last, and is the first free page.
-  pub free-bytes : part collapsed-again 0 36 ≡ 4 ∷ 0 ∷ 0 ∷ 0 ∷ 1 ∷ 0 ∷ 0 ∷ 0 ∷ 1 ∷ 0 ∷ 0 ∷ 0 ∷ 3 ∷ 0 ∷ 0 ∷ 0 ∷ 2 ∷ 0 ∷ 0 ∷ 0 ∷ 4 ∷ 0 ∷ 0 ∷ 0 ∷ 1 ∷ 0 ∷ 0 ∷ 0 ∷ 0 ∷ 0 ∷ 0 ∷ 0 ∷ 3 ∷ 0 ∷ 0 ∷ 0 ∷ []
+  pub free-bytes : part collapsed-again 0 36 ≡ 4 ∷ 0 ∷ 0 ∷ 0 ∷ 1 ∷ 0 ∷ 0 ∷ 0 ∷ 1 ∷ 0 ∷ 0 ∷ 0 ∷ 3 ∷ 0 ∷ 0 ∷ 0 ∷ 2 ∷ 0 ∷ 0 ∷ 0 ∷ 4 ∷ 0
+      ∷ 0 ∷ 0 ∷ 1 ∷ 0 ∷ 0 ∷ 0 ∷ 0 ∷ 0 ∷ 0 ∷ 0 ∷ 3 ∷ 0 ∷ 0 ∷ 0 ∷ []
   pub free-page : part collapsed-again (112 * 3) 9 ≡ 255 ∷ 0 ∷ 0 ∷ 0 ∷ 2 ∷ 0 ∷ 0 ∷ 0 ∷ 255 ∷ []
   pub free-last : part collapsed-again (112 * 2) 9 ≡ 255 ∷ 0 ∷ 0 ∷ 0 ∷ 0 ∷ 0 ∷ 0 ∷ 0 ∷ 255 ∷ []
   -- Pages are taken from the front of the chain.
-  pub chain-first : head 2 again ≡ record { pages = 6; height = 2; root = 2; free = 0; chain = 0; mark = 4; kind = 1; window = 0; changes = 4 }
+  pub chain-first : head 2 again ≡
+      record { pages = 6; height = 2; root = 2; free = 0; chain = 0; mark = 4; kind = 1; window = 0; changes = 4 }
   pub chain-root : entries-of 2 (page-at 2 again 2) ≡ entry 0 none 1 ∷ entry 15 none 3 ∷ []
   -- Absolute sums add up along the path; and every entry of a page that is met is asked.
   pub path-bound : instant 2 0 (patch grown-root (3 * 112 + 48) (i64-bytes (pos 2000000))) ≡ record { status = 21; pair = none; pages = 2 }
-  pub path-within : instant 2 0 (patch grown-root (3 * 112 + 48) (i64-bytes (pos 1999999))) ≡ record { status = 0; pair = pair (pos 1999999) (pos 0); pages = 2 }
-  pub other-entry : instant half 5 (patch one-booking (512 + 32 + 96 + 16) (i64-bytes (pos 1000001))) ≡ record { status = 21; pair = none; pages = 1 }
+  pub path-within : instant 2 0 (patch grown-root (3 * 112 + 48) (i64-bytes (pos 1999999))) ≡
+      record { status = 0; pair = pair (pos 1999999) (pos 0); pages = 2 }
+  pub other-entry : instant half 5 (patch one-booking (512 + 32 + 96 + 16) (i64-bytes (pos 1000001))) ≡
+      record { status = 21; pair = none; pages = 1 }
   -- A page split below the root: the parent gains an entry with the same pair.
-  pub parent-pair-3 : entries-of 2 (page-at 2 split-below 3) ≡ entry 0 (pair (negsuc 1) (negsuc 0)) 1 ∷ entry 4 (pair (negsuc 1) (negsuc 0)) 4 ∷ entry 9 (pair (pos 0) (pos 0)) 2 ∷ []
-  pub parent-pair-4 : entries-of 2 (page-at 2 split-below 4) ≡ entry 4 (pair (pos 6) (pos 3)) 0 ∷ entry 6 (pair (pos 8) (pos 5)) 0 ∷ entry 8 (pair (pos 6) (pos 4)) 0 ∷ []
+  pub parent-pair-3 : entries-of 2 (page-at 2 split-below 3) ≡ entry 0 (pair (negsuc 1) (negsuc 0)) 1
+      ∷ entry 4 (pair (negsuc 1) (negsuc 0)) 4 ∷ entry 9 (pair (pos 0) (pos 0)) 2 ∷ []
+  pub parent-pair-4 : entries-of 2 (page-at 2 split-below 4) ≡ entry 4 (pair (pos 6) (pos 3)) 0 ∷ entry 6 (pair (pos 8) (pos 5)) 0
+      ∷ entry 8 (pair (pos 6) (pos 4)) 0 ∷ []
   -- A left neighbour gives its last entry: both parent pairs are pushed down, and the right start follows.
-  pub redistribute-left-3 : entries-of 2 (page-at 2 redistributed-left 3) ≡ entry 0 (pair (pos 0) (pos 0)) 1 ∷ entry 5 (pair (pos 0) (pos 0)) 2 ∷ entry 11 (pair (pos 0) (pos 0)) 4 ∷ []
-  pub redistribute-left-1 : entries-of 2 (page-at 2 redistributed-left 1) ≡ entry 0 (pair (pos 0) (pos 0)) 0 ∷ entry 3 (pair (pos 3) (pos 2)) 0 ∷ []
-  pub redistribute-left-2 : entries-of 2 (page-at 2 redistributed-left 2) ≡ entry 5 (pair (pos 4) (pos 3)) 0 ∷ entry 6 (pair (pos 3) (pos 2)) 0 ∷ []
+  pub redistribute-left-3 : entries-of 2 (page-at 2 redistributed-left 3) ≡
+      entry 0 (pair (pos 0) (pos 0)) 1 ∷ entry 5 (pair (pos 0) (pos 0)) 2 ∷ entry 11 (pair (pos 0) (pos 0)) 4 ∷ []
+  pub redistribute-left-1 : entries-of 2 (page-at 2 redistributed-left 1) ≡
+      entry 0 (pair (pos 0) (pos 0)) 0 ∷ entry 3 (pair (pos 3) (pos 2)) 0 ∷ []
+  pub redistribute-left-2 : entries-of 2 (page-at 2 redistributed-left 2) ≡
+      entry 5 (pair (pos 4) (pos 3)) 0 ∷ entry 6 (pair (pos 3) (pos 2)) 0 ∷ []
   -- A right neighbour joins or gives.
-  pub redistribute-right-1 : entries-of 2 (page-at 2 redistributed-right 1) ≡ entry 0 (pair (pos 1) (pos 1)) 0 ∷ entry 8 (pair (pos 1) (pos 1)) 0 ∷ entry 10 (pair (pos 0) (pos 0)) 0 ∷ []
+  pub redistribute-right-1 : entries-of 2 (page-at 2 redistributed-right 1) ≡
+      entry 0 (pair (pos 1) (pos 1)) 0 ∷ entry 8 (pair (pos 1) (pos 1)) 0 ∷ entry 10 (pair (pos 0) (pos 0)) 0 ∷ []
   -- Two pages join in the left one.
   pub merge-right-3 : entries-of 2 (page-at 2 merged-right 3) ≡ entry 0 (pair (pos 0) (pos 0)) 1 ∷ entry 10 (pair (pos 0) (pos 0)) 4 ∷ []
-  pub merge-right-1 : entries-of 2 (page-at 2 merged-right 1) ≡ entry 0 (pair (pos 0) (pos 0)) 0 ∷ entry 7 (pair (pos 2) (pos 2)) 0 ∷ entry 9 (pair (pos 4) (pos 3)) 0 ∷ []
+  pub merge-right-1 : entries-of 2 (page-at 2 merged-right 1) ≡ entry 0 (pair (pos 0) (pos 0)) 0 ∷ entry 7 (pair (pos 2) (pos 2)) 0
+      ∷ entry 9 (pair (pos 4) (pos 3)) 0 ∷ []
   -- The program on document 01's example, on fewer pages: "runs 6" and the six.
   pub the-example :
-      program half 2 (43 ∷ 32 ∷ 54 ∷ 32 ∷ 49 ∷ 48 ∷ 32 ∷ 52 ∷ 48 ∷ 10 ∷ 43 ∷ 32 ∷ 51 ∷ 32 ∷ 50 ∷ 48 ∷ 32 ∷ 53 ∷ 48 ∷ 10 ∷ 43 ∷ 32 ∷ 53 ∷ 32 ∷ 50 ∷ 48 ∷ 32 ∷ 50 ∷ 53 ∷ 10 ∷ [])
-      ≡ 114 ∷ 117 ∷ 110 ∷ 115 ∷ 32 ∷ 54 ∷ 10 ∷ 48 ∷ 32 ∷ 49 ∷ 48 ∷ 32 ∷ 48 ∷ 32 ∷ 48 ∷ 32 ∷ 45 ∷ 10 ∷ 49 ∷ 48 ∷ 32 ∷ 50 ∷ 48 ∷ 32 ∷ 54 ∷ 32 ∷ 49 ∷ 32 ∷ 54 ∷ 46 ∷ 48 ∷ 48 ∷ 10 ∷ 50 ∷ 48 ∷ 32 ∷ 50 ∷ 53 ∷ 32 ∷ 49 ∷ 52 ∷ 32 ∷ 51 ∷ 32 ∷ 52 ∷ 46 ∷ 54 ∷ 55 ∷ 10 ∷ 50 ∷ 53 ∷ 32 ∷ 52 ∷ 48 ∷ 32 ∷ 57 ∷ 32 ∷ 50 ∷ 32 ∷ 52 ∷ 46 ∷ 53 ∷ 48 ∷ 10 ∷ 52 ∷ 48 ∷ 32 ∷ 53 ∷ 48 ∷ 32 ∷ 51 ∷ 32 ∷ 49 ∷ 32 ∷ 51 ∷ 46 ∷ 48 ∷ 48 ∷ 10 ∷ 53 ∷ 48 ∷ 32 ∷ 52 ∷ 50 ∷ 57 ∷ 52 ∷ 57 ∷ 54 ∷ 55 ∷ 50 ∷ 57 ∷ 53 ∷ 32 ∷ 48 ∷ 32 ∷ 48 ∷ 32 ∷ 45 ∷ 10 ∷ []
+      program half 2
+      (43 ∷ 32 ∷ 54 ∷ 32 ∷ 49 ∷ 48 ∷ 32 ∷ 52 ∷ 48 ∷ 10 ∷ 43 ∷ 32 ∷ 51 ∷ 32 ∷ 50 ∷ 48 ∷ 32 ∷ 53 ∷ 48 ∷ 10 ∷ 43 ∷ 32 ∷ 53 ∷ 32 ∷ 50
+      ∷ 48 ∷ 32 ∷ 50 ∷ 53 ∷ 10 ∷ [])
+      ≡ 114 ∷ 117 ∷ 110 ∷ 115 ∷ 32 ∷ 54 ∷ 10 ∷ 48 ∷ 32 ∷ 49 ∷ 48 ∷ 32 ∷ 48 ∷ 32 ∷ 48 ∷ 32 ∷ 45 ∷ 10 ∷ 49 ∷ 48 ∷ 32 ∷ 50 ∷ 48 ∷ 32
+      ∷ 54 ∷ 32 ∷ 49 ∷ 32 ∷ 54 ∷ 46 ∷ 48 ∷ 48 ∷ 10 ∷ 50 ∷ 48 ∷ 32 ∷ 50 ∷ 53 ∷ 32 ∷ 49 ∷ 52 ∷ 32 ∷ 51 ∷ 32 ∷ 52 ∷ 46 ∷ 54 ∷ 55
+      ∷ 10 ∷ 50 ∷ 53 ∷ 32 ∷ 52 ∷ 48 ∷ 32 ∷ 57 ∷ 32 ∷ 50 ∷ 32 ∷ 52 ∷ 46 ∷ 53 ∷ 48 ∷ 10 ∷ 52 ∷ 48 ∷ 32 ∷ 53 ∷ 48 ∷ 32 ∷ 51 ∷ 32
+      ∷ 49 ∷ 32 ∷ 51 ∷ 46 ∷ 48 ∷ 48 ∷ 10 ∷ 53 ∷ 48 ∷ 32 ∷ 52 ∷ 50 ∷ 57 ∷ 52 ∷ 57 ∷ 54 ∷ 55 ∷ 50 ∷ 57 ∷ 53 ∷ 32 ∷ 48 ∷ 32 ∷ 48
+      ∷ 32 ∷ 45 ∷ 10 ∷ []
   -- Lines that are refused and lines that are unread, and a last line without its newline.
   pub other-lines :
-      program half 2 (43 ∷ 32 ∷ 45 ∷ 49 ∷ 32 ∷ 48 ∷ 32 ∷ 57 ∷ 10 ∷ 43 ∷ 49 ∷ 32 ∷ 48 ∷ 32 ∷ 57 ∷ 10 ∷ 10 ∷ 43 ∷ 32 ∷ 49 ∷ 32 ∷ 53 ∷ 32 ∷ 53 ∷ 10 ∷ 43 ∷ 32 ∷ 49 ∷ 48 ∷ 48 ∷ 48 ∷ 48 ∷ 48 ∷ 49 ∷ 32 ∷ 52 ∷ 32 ∷ 53 ∷ 10 ∷ 43 ∷ 32 ∷ 49 ∷ 32 ∷ 48 ∷ 32 ∷ 52 ∷ 50 ∷ 57 ∷ 52 ∷ 57 ∷ 54 ∷ 55 ∷ 50 ∷ 57 ∷ 54 ∷ 10 ∷ 45 ∷ 32 ∷ 51 ∷ 32 ∷ 57 ∷ 32 ∷ 49 ∷ 48 ∷ [])
-      ≡ 108 ∷ 105 ∷ 110 ∷ 101 ∷ 32 ∷ 50 ∷ 32 ∷ 117 ∷ 110 ∷ 114 ∷ 101 ∷ 97 ∷ 100 ∷ 10 ∷ 108 ∷ 105 ∷ 110 ∷ 101 ∷ 32 ∷ 51 ∷ 32 ∷ 117 ∷ 110 ∷ 114 ∷ 101 ∷ 97 ∷ 100 ∷ 10 ∷ 108 ∷ 105 ∷ 110 ∷ 101 ∷ 32 ∷ 52 ∷ 32 ∷ 114 ∷ 101 ∷ 102 ∷ 117 ∷ 115 ∷ 101 ∷ 100 ∷ 32 ∷ 49 ∷ 49 ∷ 10 ∷ 108 ∷ 105 ∷ 110 ∷ 101 ∷ 32 ∷ 53 ∷ 32 ∷ 114 ∷ 101 ∷ 102 ∷ 117 ∷ 115 ∷ 101 ∷ 100 ∷ 32 ∷ 49 ∷ 51 ∷ 10 ∷ 108 ∷ 105 ∷ 110 ∷ 101 ∷ 32 ∷ 54 ∷ 32 ∷ 117 ∷ 110 ∷ 114 ∷ 101 ∷ 97 ∷ 100 ∷ 10 ∷ 114 ∷ 117 ∷ 110 ∷ 115 ∷ 32 ∷ 51 ∷ 10 ∷ 48 ∷ 32 ∷ 57 ∷ 32 ∷ 45 ∷ 49 ∷ 32 ∷ 49 ∷ 32 ∷ 45 ∷ 49 ∷ 46 ∷ 48 ∷ 48 ∷ 10 ∷ 57 ∷ 32 ∷ 49 ∷ 48 ∷ 32 ∷ 45 ∷ 51 ∷ 32 ∷ 45 ∷ 49 ∷ 32 ∷ 45 ∷ 10 ∷ 49 ∷ 48 ∷ 32 ∷ 52 ∷ 50 ∷ 57 ∷ 52 ∷ 57 ∷ 54 ∷ 55 ∷ 50 ∷ 57 ∷ 53 ∷ 32 ∷ 48 ∷ 32 ∷ 48 ∷ 32 ∷ 45 ∷ 10 ∷ []
+      program half 2
+      (43 ∷ 32 ∷ 45 ∷ 49 ∷ 32 ∷ 48 ∷ 32 ∷ 57 ∷ 10 ∷ 43 ∷ 49 ∷ 32 ∷ 48 ∷ 32 ∷ 57 ∷ 10 ∷ 10 ∷ 43 ∷ 32 ∷ 49 ∷ 32 ∷ 53 ∷ 32 ∷ 53 ∷ 10
+      ∷ 43 ∷ 32 ∷ 49 ∷ 48 ∷ 48 ∷ 48 ∷ 48 ∷ 48 ∷ 49 ∷ 32 ∷ 52 ∷ 32 ∷ 53 ∷ 10 ∷ 43 ∷ 32 ∷ 49 ∷ 32 ∷ 48 ∷ 32 ∷ 52 ∷ 50 ∷ 57 ∷ 52
+      ∷ 57 ∷ 54 ∷ 55 ∷ 50 ∷ 57 ∷ 54 ∷ 10 ∷ 45 ∷ 32 ∷ 51 ∷ 32 ∷ 57 ∷ 32 ∷ 49 ∷ 48 ∷ [])
+      ≡ 108 ∷ 105 ∷ 110 ∷ 101 ∷ 32 ∷ 50 ∷ 32 ∷ 117 ∷ 110 ∷ 114 ∷ 101 ∷ 97 ∷ 100 ∷ 10 ∷ 108 ∷ 105 ∷ 110 ∷ 101 ∷ 32 ∷ 51 ∷ 32 ∷ 117
+      ∷ 110 ∷ 114 ∷ 101 ∷ 97 ∷ 100 ∷ 10 ∷ 108 ∷ 105 ∷ 110 ∷ 101 ∷ 32 ∷ 52 ∷ 32 ∷ 114 ∷ 101 ∷ 102 ∷ 117 ∷ 115 ∷ 101 ∷ 100 ∷ 32
+      ∷ 49 ∷ 49 ∷ 10 ∷ 108 ∷ 105 ∷ 110 ∷ 101 ∷ 32 ∷ 53 ∷ 32 ∷ 114 ∷ 101 ∷ 102 ∷ 117 ∷ 115 ∷ 101 ∷ 100 ∷ 32 ∷ 49 ∷ 51 ∷ 10 ∷ 108
+      ∷ 105 ∷ 110 ∷ 101 ∷ 32 ∷ 54 ∷ 32 ∷ 117 ∷ 110 ∷ 114 ∷ 101 ∷ 97 ∷ 100 ∷ 10 ∷ 114 ∷ 117 ∷ 110 ∷ 115 ∷ 32 ∷ 51 ∷ 10 ∷ 48 ∷ 32
+      ∷ 57 ∷ 32 ∷ 45 ∷ 49 ∷ 32 ∷ 49 ∷ 32 ∷ 45 ∷ 49 ∷ 46 ∷ 48 ∷ 48 ∷ 10 ∷ 57 ∷ 32 ∷ 49 ∷ 48 ∷ 32 ∷ 45 ∷ 51 ∷ 32 ∷ 45 ∷ 49 ∷ 32
+      ∷ 45 ∷ 10 ∷ 49 ∷ 48 ∷ 32 ∷ 52 ∷ 50 ∷ 57 ∷ 52 ∷ 57 ∷ 54 ∷ 55 ∷ 50 ∷ 57 ∷ 53 ∷ 32 ∷ 48 ∷ 32 ∷ 48 ∷ 32 ∷ 45 ∷ 10 ∷ []

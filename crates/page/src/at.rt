@@ -51,7 +51,7 @@ pub fn start_at(s: &[u8], i: usize) -> u32
 }
 
 // The sum of the i-th entry.
-pub fn sum_at(s: &[u8], i: usize) -> i64
+pub(crate) fn sum_at(s: &[u8], i: usize) -> i64
     requires { ⌜ (length (now s) ≡ 512) × (i < 24) ⌝ }
     ensures { λ r. ⌜ r ≡ pair-at 12 (now (s .entry)) i .sum ⌝ }
 {
@@ -59,7 +59,7 @@ pub fn sum_at(s: &[u8], i: usize) -> i64
 }
 
 // The count of the i-th entry.
-pub fn count_at(s: &[u8], i: usize) -> i32
+pub(crate) fn count_at(s: &[u8], i: usize) -> i32
     requires { ⌜ (length (now s) ≡ 512) × (i < 24) ⌝ }
     ensures { λ r. ⌜ r ≡ pair-at 12 (now (s .entry)) i .count ⌝ }
 {

@@ -25,7 +25,7 @@ pub(crate) fn write_blank(s: &mut [u8], level: u32, second: u32)
 }
 
 // Writes a free page with the page behind it in the chain, 0 at its end.
-pub fn write_free(s: &mut [u8], next: u32)
+pub(crate) fn write_free(s: &mut [u8], next: u32)
     requires { ⌜ length (now s) ≡ 512 ⌝ }
     ensures { λ _. ⌜ now (s .exit) ≡ free-bytes 12 next ⌝ }
 {

@@ -53,7 +53,7 @@ fn put_three(s: &mut [u8], o: usize, x: u32, y: u32, z: u32)
 }
 
 // Writes the head: its numbers, the rest unused.
-pub fn write_head(s: &mut [u8], h: Head)
+pub(crate) fn write_head(s: &mut [u8], h: Head)
     requires { ⌜ length (now s) ≡ 512 ⌝ }
     ensures { λ _. ⌜ now (s .exit) ≡ head-bytes 12 h ⌝ }
 {

@@ -29,7 +29,7 @@ fn write_entry(s: &mut [u8], i: usize, start: u32, sum: i64, count: i32, child: 
 }
 
 // Writes a tree page.
-pub fn write_page(s: &mut [u8], p: Page)
+pub(crate) fn write_page(s: &mut [u8], p: Page)
     requires { ⌜ (length (now s) ≡ 512) × (p .len ≤ 24) ⌝ }
     ensures { λ _. ⌜ now (s .exit) ≡ tree-bytes 12 (p .level) (entry-list p) ⌝ }
 {

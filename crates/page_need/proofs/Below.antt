@@ -196,7 +196,8 @@ module _ (half s t : ℕ) (X : Image) where
       ∙ (ap (λ (y : Found). page-need half (y .count) (both-cuts half s t l (y .entry) X)) a
       ∙ ap
       (λ g. page-need half (length es)
-      (cond g (both-cuts half s t l (entry-in es (index-of s es)) X) (parted-cuts half s t l (entry-in es (index-of s es)) (entry-in es (index-of t es)) X)))
+      (cond g (both-cuts half s t l (entry-in es (index-of s es)) X)
+      (parted-cuts half s t l (entry-in es (index-of s es)) (entry-in es (index-of t es)) X)))
       (sym (eq-eqb (index-of s es) (index-of t es) w))))
 
   -- or part there
@@ -215,7 +216,8 @@ module _ (half s t : ℕ) (X : Image) where
       ∙ ((λ j. page-need half (a j .count) (parted-cuts half s t l (a j .entry) (b j .entry) X))
       ∙ ap
       (λ g. page-need half (length es)
-      (cond g (both-cuts half s t l (entry-in es (index-of s es)) X) (parted-cuts half s t l (entry-in es (index-of s es)) (entry-in es (index-of t es)) X)))
+      (cond g (both-cuts half s t l (entry-in es (index-of s es)) X)
+      (parted-cuts half s t l (entry-in es (index-of s es)) (entry-in es (index-of t es)) X)))
       (sym (ne-eqb (index-of s es) (index-of t es) w))))
 
 -- ---- no count is large
@@ -242,8 +244,11 @@ module _ (half t : ℕ) (X : Image) where
   one-most zero e = (leaf-adds t e, omega arith)
   one-most (suc l) e =
       let es = entries X (e .child) in
-      let x = entry-in es (index-of t es) in
-      (page-need-adds half (length es) (one-cut half t l x X), omega (arith, page-need-pages half (length es) (one-cut half t l x X), one-most l x .1))
+      let x = entry-in es (index-of t es) in (
+        page-need-adds half (length es) (one-cut half t l x X),
+        omega
+            (arith, page-need-pages half (length es) (one-cut half t l x X), one-most l x .1),
+      )
 
 module _ (half s t : ℕ) (X : Image) where
   both-most : (l : ℕ) (e : Entry) → (both-cuts half s t l e X .adds ≤ 2) × (both-cuts half s t l e X .pages ≤ 2 * l)
@@ -253,7 +258,8 @@ module _ (half s t : ℕ) (X : Image) where
       let es = entries X (e .child) in
       let x = entry-in es (index-of s es) in
       let y = entry-in es (index-of t es) in
-      let below = cond (eqb (index-of s es) (index-of t es)) (both-cuts half s t l x X) (add-needs (one-cut half s l x X) (one-cut half t l y X)) in
+      let below = cond (eqb (index-of s es) (index-of t es)) (both-cuts half s t l x X)
+      (add-needs (one-cut half s l x X) (one-cut half t l y X)) in
       let few : below .pages ≤ 2 * l =
       go (both-cuts half s t l x X) (one-cut half s l x X) (one-cut half t l y X) (eqb (index-of s es) (index-of t es)) (both-most l x .1)
       (one-most half s X l x .1) (one-most half t X l y .1) in

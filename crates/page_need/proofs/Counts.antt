@@ -136,7 +136,8 @@ module _ (half l : ℕ) (x : Node (Subtree (suc l))) (es : Nodes l) where
     page-counted s n taken = go (leb (length (x .subtree) + m .adds) (capacity half)) refl
       where
         go : (b : Bool) → leb (length (x .subtree) + m .adds) (capacity half) ≡ b
-            → Cut-as-counted (suc l) lo hi S (cond b (need 0 (m .pages)) (need 1 (suc (m .pages)))) (cond b (not-split x es R) (split half x es R))
+            → Cut-as-counted (suc l) lo hi S (cond b (need 0 (m .pages)) (need 1 (suc (m .pages))))
+            (cond b (not-split x es R) (split half x es R))
         go true f = record { len = refl; supply = taken; spans = seg-one at-lo lt tt }
         go false f =
             let over : capacity half < length (x .subtree) + m .adds = leb-false (length (x .subtree) + m .adds) (capacity half) f in
@@ -201,14 +202,16 @@ module _ (half : ℕ) (pos : 0 < half) (t : ℕ) (B : Asked (Subtree 0)) where
         }
 
     -- a page, by the entries in it
-    pub one-page : (x : Node (Subtree (suc l))) → x .entry .start ≡ lo → length (x .subtree) ≤ capacity half → Seg (Shaped half B l) lo hi (x .subtree)
+    pub one-page : (x : Node (Subtree (suc l))) → x .entry .start ≡ lo → length (x .subtree) ≤ capacity half
+        → Seg (Shaped half B l) lo hi (x .subtree)
         → One half t (suc l) lo hi x S
     unfolding one-cut-in
     one-page x e most s =
         let y = there l t (x .subtree) in
         let g = gained x most s in
         subst⁻¹ (λ r. Cut-as-counted (suc l) lo hi S (page-need half (length (x .subtree)) (one-cut-in half t l y)) r) (g .cut)
-        (page-counted half l x (nodes-after half t l x S) e (omega arith) pos S (cut-node half t l y S .supply) (one-cut-in half t l y) (g .spans)
+        (page-counted half l x (nodes-after half t l x S) e (omega arith) pos S (cut-node half t l y S .supply)
+        (one-cut-in half t l y) (g .spans)
         (g .len) (g .supply))
 
   one-leaf : {lo hi : ℕ} (x : Node (Subtree 0)) (S : Supply) → x .entry .start ≡ lo → lo < hi → lo ≤ t → t < hi → One half t 0 lo hi x S

@@ -61,7 +61,8 @@ module _ (half : ℕ) (X : Image) where
       (ap (λ e. one-cut half t l e X) (at-flat l (x .subtree) (index-of t (flat (x .subtree))))
       ∙ one-shown t l (there l t (x .subtree)) (stores-on l t x st X sh) (stocked-on l t x st))
 
-  both-shown : (s t l : ℕ) (x : Node (Subtree l)) → Stores l (X .page) x → Stocked l x → both-cuts half s t l (x .entry) X ≡ both-cuts-in half s t l x
+  both-shown : (s t l : ℕ) (x : Node (Subtree l)) → Stores l (X .page) x → Stocked l x
+      → both-cuts half s t l (x .entry) X ≡ both-cuts-in half s t l x
   unfolding both-cuts both-cuts-in
   both-shown s t zero x sh st = refl
   both-shown s t (suc l) x sh st =

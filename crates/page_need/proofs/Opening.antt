@@ -90,7 +90,8 @@ module _ {img : List ℕ} {h : Head} (o : Sound-image img h) where
       X : Image
       X = image-of 12 img
 
-      go : (b : Bool) → n ≡ cond b (one-cut 12 s (X .head .height) (root-entry X) X) (both-cuts 12 s e (X .head .height) (root-entry X) X) → Small n
+      go : (b : Bool)
+          → n ≡ cond b (one-cut 12 s (X .head .height) (root-entry X) X) (both-cuts 12 s e (X .head .height) (root-entry X) X) → Small n
       go true f = small-one 12 X (X .head .height) (root-entry X) (facts .head .height-most) s f
       go false f = small-both 12 X (X .head .height) (root-entry X) (facts .head .height-most) s e f
 

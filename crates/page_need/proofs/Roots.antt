@@ -88,7 +88,8 @@ sum-new half a m b two one few e =
     ap (λ n. with-new-root a + with-new-root n) r ∙ omega arith
 
 -- what the second asks for from the root that the first left
-grown-asks : (half e l : ℕ) (zs : Nodes (suc l)) (S : Supply) (a b : Need) → 2 ≤ half → length zs ≡ suc (a .adds) → a .adds ≤ 1 → b .adds ≤ 1
+grown-asks : (half e l : ℕ) (zs : Nodes (suc l)) (S : Supply) (a b : Need) → 2 ≤ half → length zs ≡ suc (a .adds) → a .adds ≤ 1
+    → b .adds ≤ 1
     → add-needs a (one-cut-in half e (suc l) (there (suc l) e zs)) ≡ b
     → with-new-root a + with-new-root (one-from half e (grow-if-split l zs S .tree)) ≡ with-new-root b
 unfolding grow-if-split root-node one-cut-in

@@ -24,7 +24,8 @@ use Rattle.refinement.proofs.Paths.{there}
 use Rattle.page_need.specs.declared.Need.{Need}
 use Rattle.page_need.specs.Needs.{need, add-needs, leaf-need, page-need}
 use Rattle.page_need.proofs.Rows.{Row, Owned, before, behind, there-is, owned, index-at}
-use Rattle.page_need.proofs.Counts.{one-cut-in, both-cuts-in, leaf-divides, page-need-few, page-need-over, one-adds, nodes-after, gained, one-cut}
+use Rattle.page_need.proofs.Counts.{one-cut-in, both-cuts-in, leaf-divides, page-need-few, page-need-over, one-adds, nodes-after}
+use Rattle.page_need.proofs.Counts.{gained, one-cut}
 
 -- ---- a page that the first cut leaves whole
 
@@ -33,7 +34,8 @@ unfolding add-needs
 whole p q true = refl
 whole p q false = ap (λ n. need 1 n) (omega arith)
 
-page-need-later : (half n : ℕ) (a m : Need) → add-needs (need 0 (a .pages)) (page-need half (n + a .adds) m) ≡ page-need half n (add-needs a m)
+page-need-later : (half n : ℕ) (a m : Need)
+    → add-needs (need 0 (a .pages)) (page-need half (n + a .adds) m) ≡ page-need half n (add-needs a m)
 unfolding page-need add-needs
 page-need-later half n a m =
     let d : n + a .adds + m .adds ≡ n + (a .adds + m .adds) = omega arith in
@@ -60,7 +62,8 @@ module _ (half l e : ℕ) where
   unfolding one-cut-in
   under-is x = refl
 
-  module _ (two : 2 ≤ half) {lo hi : ℕ} (x : Node (Subtree (suc l))) (es : Nodes l) (at-lo : x .entry .start ≡ lo) (low : lo ≤ e) (high : e < hi)
+  module _ (two : 2 ≤ half) {lo hi : ℕ} (x : Node (Subtree (suc l))) (es : Nodes l) (at-lo : x .entry .start ≡ lo) (low : lo ≤ e)
+      (high : e < hi)
       (s : Row lo hi es) (R : Supply) (a : Need) (most : length (x .subtree) ≤ capacity half) (few : a .adds ≤ 1)
       (n : length es ≡ length (x .subtree) + a .adds) where
     -- what the second cut asks for below
@@ -121,7 +124,8 @@ module _ (half l e : ℕ) where
             ∙ page-need-later half (length (x .subtree)) a then)))
         go false f =
             let over : capacity half < length (x .subtree) + a .adds = leb-false (length (x .subtree) + a .adds) (capacity half) f in
-            ap (λ y. add-needs (page-need half (length (x .subtree)) a) y) (halves over) ∙ page-need-split half (length (x .subtree)) a then over
+            ap (λ y. add-needs (page-need half (length (x .subtree)) a) y) (halves over)
+            ∙ page-need-split half (length (x .subtree)) a then over
 
 -- ---- below a page
 
@@ -129,7 +133,8 @@ module _ (half l e : ℕ) where
 abbrev Below : (half s e l : ℕ) → (Node (Subtree l) → Nodes l) → Nodes l → ℕ → Node (Subtree l) → Type 0
 Below half s e l zs es i y =
     add-needs (one-cut-in half s l y) (one-cut-in half e l (there l e (splice i (zs y) es)))
-    ≡ cond (eqb i (index-of e (flat es))) (both-cuts-in half s e l y) (add-needs (one-cut-in half s l y) (one-cut-in half e l (there l e es)))
+    ≡ cond (eqb i (index-of e (flat es))) (both-cuts-in half s e l y)
+    (add-needs (one-cut-in half s l y) (one-cut-in half e l (there l e es)))
 
 module _ (half s e l : ℕ) (lt : s < e) {Q : Asked (Subtree l)} (zs : Node (Subtree l) → Nodes l) where
   module _ {lo a b hi : ℕ} {xs ys : Nodes l} {x : Node (Subtree l)} (f : Seg Q lo a xs) (start : x .entry .start ≡ a) (some : a < b)
@@ -157,7 +162,8 @@ module _ (half s e l : ℕ) (lt : s < e) {Q : Asked (Subtree l)} (zs : Node (Sub
         seg-append (seg-map (λ c d y low up q. inl (omega arith)) f)
         (more start some (inl (omega arith)) (seg-map (λ c d y low up q. inr low) r)) in
         let z = find-node l e o (omega (arith, seg-le f)) (omega (arith, seg-le f)) in
-        let y : node-of l e (xs ++ x ∷ ys) ≡ x = ap (λ i. getD (xs ++ x ∷ ys) i (no-node l)) (sym p) ∙ getD-append-seam xs x ys (no-node l) in
+        let y : node-of l e (xs ++ x ∷ ys) ≡ x = ap (λ i. getD (xs ++ x ∷ ys) i (no-node l)) (sym p)
+        ∙ getD-append-seam xs x ys (no-node l) in
         let t : node-of l e (xs ++ x ∷ ys) .entry .start ≡ a = ap (λ (w : Node (Subtree l)). w .entry .start) y ∙ start in
         ⊎-elim (λ k. omega (arith, z .ends high)) (λ k. omega arith) (z .holds)
 
@@ -193,7 +199,8 @@ module _ (half s e l : ℕ) (lt : s < e) {Q : Asked (Subtree l)} (zs : Node (Sub
 
 module _ (half : ℕ) (two : 2 ≤ half) (s e : ℕ) (lt : s < e) (B : Asked (Subtree 0)) where
   abbrev Twice : (l : ℕ) → Node (Subtree l) → Supply → Type 0
-  Twice l x S = add-needs (one-cut-in half s l x) (one-cut-in half e l (there l e (cut-node half s l x S .became))) ≡ both-cuts-in half s e l x
+  Twice l x S =
+      add-needs (one-cut-in half s l x) (one-cut-in half e l (there l e (cut-node half s l x S .became))) ≡ both-cuts-in half s e l x
 
   leaf-twice : (x : Node (Subtree 0)) (S : Supply) → x .entry .start ≤ s → Twice 0 x S
   unfolding one-cut-in both-cuts-in cut-node cut-leaf

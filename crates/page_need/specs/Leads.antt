@@ -19,8 +19,7 @@ pub record Small (n : Need) : Type 0 where
   pub pages : n .pages ≤ 16
 
 -- Page p of level l is fit in a context that starts at t or before, and so are all pages below it. The bytes are those of the image that
--- they
--- show.
+-- they show.
 pub record Fit-from (img : List ℕ) (t l p : ℕ) : Type 0 where
   pub head : Head
   pub at : Page-context

@@ -20,7 +20,8 @@ use Rattle.lists.specs.Lists.{times}
 use Rattle.steps.specs.Supply.{entries}
 use Rattle.steps.specs.Combine.{next-start, sent}
 use Rattle.combine_span.specs.declared.SpanEffect.{SpanEffect}
-use Rattle.combine_span.specs.SpanCombinable.{inside-by, meets-by, below-by, sent-by, Entries-combinable, Below-combinable, Page-combinable, Span-combinable}
+use Rattle.combine_span.specs.SpanCombinable.{inside-by, meets-by, below-by, sent-by, Entries-combinable, Below-combinable, Page-combinable}
+use Rattle.combine_span.specs.SpanCombinable.{Span-combinable}
 use Rattle.tree.specs.Tree.{Node, Subtree, Nodes, flat, pages-under}
 use Rattle.tree.specs.Cut.{State, root-node}
 use Rattle.tree.specs.Combine.{combine-node}
@@ -154,7 +155,8 @@ module _ (q : SpanEffect) where
       END (root-node (Y .tree)) X all (g .shown .below) (tree-apart X g) refl))
 
 -- The image that step C finds is ready for it, whatever the span, if its effect is one of the image's kind.
-pub span-combinable : {kind changes : ℕ} {X : Image} {Y : State} (q : SpanEffect) → Effective kind (q .effect) → Structure 12 kind changes X Y
+pub span-combinable : {kind changes : ℕ} {X : Image} {Y : State} (q : SpanEffect) → Effective kind (q .effect)
+    → Structure 12 kind changes X Y
     → Span-combinable q X
 span-combinable {X = X} {Y = Y} q f g =
     record { least = omega (arith, g .shown .height); most = height-most X Y g; root = root-ready q X f g }

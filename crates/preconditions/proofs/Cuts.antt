@@ -69,7 +69,8 @@ module _ (t l : ℕ) (x : Node (Subtree (suc l))) (S : Supply) where
       let es = inner-nodes 12 t l x S in
       let n : length es + 1 ≡ length (r .became) + length (x .subtree) =
       length-splice (index-of t (flat (x .subtree))) (r .became) (x .subtree) (has-index l t x k) in
-      ap (λ b. cond b (not-split x es (r .supply)) (split-if-full 12 x es (r .supply)) .supply) (ne-eqb (length (r .became)) 1 (λ e. omega arith))
+      ap (λ b. cond b (not-split x es (r .supply)) (split-if-full 12 x es (r .supply)) .supply)
+      (ne-eqb (length (r .became)) 1 (λ e. omega arith))
       ∙ ap (λ b. cond b (not-split x es (r .supply)) (split 12 x es (r .supply)) .supply) (lt-leb (length es) (capacity 12) (omega arith))
 
 -- ---- the pages on the path
@@ -98,14 +99,16 @@ module _ {kind changes : ℕ} (t : ℕ) {X : Image} {S : Supply} (s : Supplied X
     page-room m two full =
         let a : length (cut-entry 12 t l (y .entry) X .became) ≡ length (inner 12 t l x S .became) =
         ap length (grew .same) ∙ length-map (inner 12 t l x S .became) (λ z. z .entry) in
-        let n : length (entries X p) ≡ length (x .subtree) = ap length (entries-are l X x (k .shown)) ∙ length-map (x .subtree) (λ z. z .entry) in
+        let n : length (entries X p) ≡ length (x .subtree) = ap length (entries-are l X x (k .shown))
+        ∙ length-map (x .subtree) (λ z. z .entry) in
         let e = splits t l x S (k .stocked) (omega arith) (omega arith) in
         grew-takable grew single (omega (arith, ap (λ (R : Supply). R .mark) e))
 
     page-cuttable : l < 255 → cut-node 12 t (suc l) x S .supply .mark ≤ X .head .pages → Page-cuttable l p t X
     page-cuttable low m = record { searchable = known-searchable k; low = low; room = subst⁻¹ Room entry-there (page-room m) }
 
-  entry-cuttable : (l : ℕ) (x : Node (Subtree (suc l))) {lo hi sums counts : ℕ} → Known 12 kind changes t X S l lo hi sums counts x → l < 255
+  entry-cuttable : (l : ℕ) (x : Node (Subtree (suc l))) {lo hi sums counts : ℕ}
+      → Known 12 kind changes t X S l lo hi sums counts x → l < 255
       → cut-node 12 t (suc l) x S .supply .mark ≤ X .head .pages
       → Entry-cuttable (suc l) (x .entry) t X
   unfolding Entry-cuttable
@@ -153,7 +156,8 @@ module _ {kind changes : ℕ} (t : ℕ) (X : Image) (Y : State) (g : Structure 1
 
   root-grew : CutIs 12 t (suc l) x₀ X (Y .supply)
   unfolding Full
-  root-grew = cut-node-is 12 t (suc l) x₀ X (Y .supply) (g .shown .below) full (g .shown .supplied) (structure-known (omega arith) t g .once)
+  root-grew =
+      cut-node-is 12 t (suc l) x₀ X (Y .supply) (g .shown .below) full (g .shown .supplied) (structure-known (omega arith) t g .once)
 
   root-entry-is : root-entry X ≡ x₀ .entry
   unfolding root-entry root-node

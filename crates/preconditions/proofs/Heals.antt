@@ -26,7 +26,8 @@ use Rattle.image.specs.Images.{Image}
 use Rattle.steps.specs.Supply.{entries, with-supply}
 use Rattle.steps.specs.Heal.{short, sibling, left-of, heal-page}
 use Rattle.store.specs.Preconditions.{In-image, Tree-page, Has-entry, entry-for, Push-ready}
-use Rattle.heal.specs.Healable.{Rebalanceable, Rebalanceable-if-short, Inner-healable, Page-healable, Collapsible, Collapsible-if-single, Healable}
+use Rattle.heal.specs.Healable.{Rebalanceable, Rebalanceable-if-short, Inner-healable, Page-healable, Collapsible, Collapsible-if-single}
+use Rattle.heal.specs.Healable.{Healable}
 use Rattle.tree.specs.Tree.{Node, Subtree, Nodes, no-node, flat}
 use Rattle.tree.specs.Supply.{Supply, with-page}
 use Rattle.tree.specs.Cut.{State, root-node}
@@ -46,7 +47,8 @@ use Rattle.invariant.proofs.To.Weights.{Weighed, weighed-all, weighed-below}
 use Rattle.invariant.proofs.To.Known.{chain-short}
 use Rattle.invariant.proofs.To.Height.{height-most}
 use Rattle.preconditions.proofs.Pairs.{below-combinable}
-use Rattle.preconditions.proofs.Paths.{page-is, Known, here-inside, child-inside, known-searchable, Below, known-below, structure-known}
+use Rattle.preconditions.proofs.Paths.{page-is, Known, here-inside, child-inside, known-searchable, Below, known-below}
+use Rattle.preconditions.proofs.Paths.{structure-known}
 
 -- ---- the chain
 
@@ -85,7 +87,8 @@ module _ (Z : Image) (l : ℕ) (x : Node (Subtree (suc l))) (s : Stores (suc l) 
   entry-is j = ap (λ (es : List Entry). at es j) (entries-are l Z x s) ∙ at-flat l (x .subtree) j
 
 -- the pair of z can be combined into its page's entries
-push-ready : (kind changes : ℕ) → changes ≤ most-changes → (Z : Image) (l sums counts : ℕ) (z : Node (Subtree (suc l))) → Stores (suc l) (Z .page) z
+push-ready : (kind changes : ℕ) → changes ≤ most-changes → (Z : Image) (l sums counts : ℕ) (z : Node (Subtree (suc l)))
+    → Stores (suc l) (Z .page) z
     → In-image (z .entry .child) Z
     → Weighed kind changes (suc l) sums counts z
     → Push-ready l (z .entry) Z
@@ -108,7 +111,8 @@ push-ready-at : (kind changes : ℕ) → changes ≤ most-changes → (Z : Image
 push-ready-at kind changes slow Z l sums counts x s w j n i =
     let z = node-at (suc l) (x .subtree) j in
     subst⁻¹ (λ (e : Entry). Push-ready l e Z) (entry-is Z (suc l) x s j)
-    (push-ready kind changes slow Z l sums counts z (all-at j (no-node (suc l)) (subtrees-represented (suc l) Z x s) n) i (all-at j (no-node (suc l)) w n))
+    (push-ready kind changes slow Z l sums counts z (all-at j (no-node (suc l)) (subtrees-represented (suc l) Z x s) n) i
+    (all-at j (no-node (suc l)) w n))
 
 module _ (kind changes t : ℕ) (S : Supply) where
   abbrev rule : Pair → Pair → Pair
@@ -241,7 +245,8 @@ module _ (kind changes t : ℕ) (S : Supply) where
           let e : entries X p ≡ flat (x .subtree) = entries-are (suc l) X x (k .shown) in
           let c : entry-for t p X .child ≡ y .entry .child =
           ap (λ (es : List Entry). at es (index-of t es) .child) e ∙ ap (λ (z : Entry). z .child) (at-flat (suc l) (x .subtree) i) in
-          let rebalances : Rebalanceable-if-short l p i (y .entry .child) Z = record { tree-page = tree-page-after (below .known); rebalances = rebalanceable } in
+          let rebalances : Rebalanceable-if-short l p i (y .entry .child) Z =
+          record { tree-page = tree-page-after (below .known); rebalances = rebalanceable } in
           record {
             searchable = known-searchable k;
             below = subst⁻¹ (λ (q : ℕ). Page-healable kind t l q X) c w;
@@ -287,7 +292,11 @@ module _ (kind changes t : ℕ) (S : Supply) where
           low = omega arith;
           root =
               subst₂ (λ (m q : ℕ). Has-entry m q 0 Z) (sym above) (sym root)
-              (record { tree-page = tree-page-after k; inside = omega (arith, length-is Z (suc l) (with-left (suc l) x) (healed k .shows)) });
+              (record {
+                tree-page = tree-page-after k;
+                inside =
+                    omega (arith, length-is Z (suc l) (with-left (suc l) x) (healed k .shows));
+              });
           child =
               subst⁻¹ (λ (m : ℕ). Push-ready m (at (entries Z (Z .head .root)) 0) Z) level
               (subst⁻¹ (λ (q : ℕ). Push-ready l (at (entries Z q) 0) Z) root

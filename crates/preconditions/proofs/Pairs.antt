@@ -31,7 +31,8 @@ met-combinable kind n p q few m = go (eqb kind 1) refl
 
 module _ (kind n : ℕ) (few : n ≤ most-changes) where
   -- an entry's pair and an effect
-  pub effect-combinable : (l sums counts : ℕ) (x : Node (Subtree l)) (effect : Pair) → Weighed kind n l sums counts x → Effective kind effect
+  pub effect-combinable : (l sums counts : ℕ) (x : Node (Subtree l)) (effect : Pair) → Weighed kind n l sums counts x
+      → Effective kind effect
       → Combinable (x .entry .pair) effect
   effect-combinable l sums counts x effect w f =
       met-combinable kind n (x .entry .pair) effect few

@@ -65,7 +65,8 @@ module _ {half kind changes t : ℕ} {X : Image} {S : Supply} where
       → In-image (x .entry .child) X
   here-inside {l} {x = x} k = k .inside (x .entry .child) (omega (arith, under-suc l (x .entry .child) x, hit-self (x .entry .child)))
 
-  pub child-inside : {l lo hi sums counts : ℕ} {x : Node (Subtree (suc (suc l)))} → Known half kind changes t X S (suc l) lo hi sums counts x
+  pub child-inside : {l lo hi sums counts : ℕ} {x : Node (Subtree (suc (suc l)))}
+      → Known half kind changes t X S (suc l) lo hi sums counts x
       → (j : ℕ)
       → j < length (x .subtree)
       → In-image (node-at (suc l) (x .subtree) j .entry .child) X

@@ -20,7 +20,7 @@ fn put_hundredths(out: &mut [u8], at: usize, n: u64) -> usize
     put_byte(out, last, b'0' + (n % 10) as u8)
 }
 
-pub fn put_average(out: &mut [u8], at: usize, average: Average) -> usize
+pub(crate) fn put_average(out: &mut [u8], at: usize, average: Average) -> usize
     requires { ⌜ at + 24 ≤ length (now out) ⌝ }
     ensures { λ r. ⌜ Put (now (out .entry)) at (average-text average) (now (out .exit)) r ⌝ }
 {

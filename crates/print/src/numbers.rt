@@ -7,7 +7,7 @@ ghost use Rattle.calls.specs.Program.{decimal, integer};
 ghost use Rattle.print.specs.Written.{Put, sign-text};
 
 // A number: the digits before the last one first.
-pub fn put_decimal(out: &mut [u8], at: usize, n: u64) -> usize
+pub(crate) fn put_decimal(out: &mut [u8], at: usize, n: u64) -> usize
     requires { ⌜ at + 20 ≤ length (now out) ⌝ }
     ensures { λ r. ⌜ Put (now (out .entry)) at (decimal n) (now (out .exit)) r ⌝ }
 {
@@ -30,7 +30,7 @@ pub(crate) fn put_sign(out: &mut [u8], at: usize, z: i64) -> usize
 }
 
 // A number with its sign: the least number's absolute value is no i64.
-pub fn put_integer(out: &mut [u8], at: usize, z: i64) -> usize
+pub(crate) fn put_integer(out: &mut [u8], at: usize, z: i64) -> usize
     requires { ⌜ at + 21 ≤ length (now out) ⌝ }
     ensures { λ r. ⌜ Put (now (out .entry)) at (integer z) (now (out .exit)) r ⌝ }
 {

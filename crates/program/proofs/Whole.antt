@@ -81,7 +81,8 @@ module _ (half pages : ℕ) where
   runs-on (b ∷ bs) g w = step (ℕ-discrete b 10) (λ h v. runs-on bs h v)
     where
       step : Dec (b ≡ 10)
-          → ((h : Program-state) → Without 10 (h .line) → left-of (ended half pages (after-bytes half pages bs h)) ≡ behind (h .written) (rest-of h bs))
+          → ((h : Program-state) → Without 10 (h .line)
+          → left-of (ended half pages (after-bytes half pages bs h)) ≡ behind (h .written) (rest-of h bs))
           → left-of (ended half pages (after-bytes half pages bs (after-byte half pages b g))) ≡ behind (g .written) (rest-of g (b ∷ bs))
       step (yes e) on =
           ap (λ h. left-of (ended half pages (after-bytes half pages bs h))) (sym (goes-newline half pages b g e))
@@ -111,7 +112,8 @@ module _ (half pages : ℕ) where
 
   -- ---- a text in two pieces
 
-  pub goes-on-append : (xs ys : List ℕ) (g : Program-state) → after-bytes half pages (xs ++ ys) g ≡ after-bytes half pages ys (after-bytes half pages xs g)
+  pub goes-on-append : (xs ys : List ℕ) (g : Program-state)
+      → after-bytes half pages (xs ++ ys) g ≡ after-bytes half pages ys (after-bytes half pages xs g)
   unfolding after-bytes
   goes-on-append [] ys g = refl
   goes-on-append (x ∷ xs) ys g = goes-on-append xs ys (after-byte half pages x g)
@@ -138,7 +140,8 @@ module _ (half pages : ℕ) where
       step true e = e
       step false e = refl
 
-  pub goes-on-onto : (ws text : List ℕ) (g : Program-state) → after-bytes half pages text (onto ws g) ≡ onto ws (after-bytes half pages text g)
+  pub goes-on-onto : (ws text : List ℕ) (g : Program-state)
+      → after-bytes half pages text (onto ws g) ≡ onto ws (after-bytes half pages text g)
   unfolding after-bytes
   goes-on-onto ws [] g = refl
   goes-on-onto ws (b ∷ bs) g = ap (after-bytes half pages bs) (goes-onto ws b g) ∙ goes-on-onto ws bs (after-byte half pages b g)

@@ -33,7 +33,8 @@ Begins r = (out : List ℕ) → Simulates out 0 (at-first 12 64) r (at-first 12 
 -- The same program, with another output to print in from its first offset on.
 abbrev pub Flushes : Reading → Reading → Type 0
 Flushes r q =
-    (had : List ℕ) (from : ℕ) (g : Program-state) (img out next : List ℕ) → Simulates had from g r img out → Simulates next 0 (unwritten g) q img next
+    (had : List ℕ) (from : ℕ) (g : Program-state) (img out next : List ℕ) → Simulates had from g r img out
+    → Simulates next 0 (unwritten g) q img next
 
 -- At most k lines were begun, and at most 55 bytes printed for each.
 pub record Advances (k : ℕ) (r r′ : Reading) : Type 0 where

@@ -36,7 +36,7 @@ fn run_booking(
 }
 
 // Any line: "`line K unread` for any other form".
-pub fn run_line(img: &mut [u8], out: &mut [u8], at: usize, k: u64, line: Parsed) -> usize
+pub(crate) fn run_line(img: &mut [u8], out: &mut [u8], at: usize, k: u64, line: Parsed) -> usize
     requires { ⌜ at + 55 ≤ length (now out) ⌝ }
     ensures { λ r. ⌜ Does (ran-line 12 64 k (line-of line) (now (img .entry)))
         (now (img .exit)) (now (out .entry)) at (now (out .exit)) r ⌝ }

@@ -64,7 +64,7 @@ fn put_one(out: &mut [u8], at: usize, list: &[u8], n: usize, i: usize) -> usize
 }
 
 // The n runs of a listing.
-pub fn put_runs(out: &mut [u8], at: usize, list: &[u8], n: usize) -> usize
+pub(crate) fn put_runs(out: &mut [u8], at: usize, list: &[u8], n: usize) -> usize
     requires { ⌜ at + 111 * n ≤ length (now out) ⌝ }
     requires { ⌜ 16 * n ≤ length (now list) ⌝ }
     ensures { λ r. ⌜ Put (now (out .entry)) at (runs-text (runs-at (now (list .entry)) 0 n)) (now (out .exit)) r ⌝ }

@@ -91,7 +91,8 @@ page-le h a b at s below g k f = go (page-fit 12 h at s) refl
         → length (cond t (in-turn (entry-count s) found) stopped .runs) ≤ k * total (min (entry-count s) 24) g
     go true e =
         let n : min (entry-count s) 24 ≡ entry-count s = omega (arith, page-fit-is 12 h at s .0 e .most) in
-        rw n (turn-le (entry-count s) found g k (λ i. picked-le (overlaps a b (start-at s i) (end-at s (at .hi) i)) (below i) (k * g i) (f i)))
+        rw n (turn-le (entry-count s) found g k
+        (λ i. picked-le (overlaps a b (start-at s i) (end-at s (at .hi) i)) (below i) (k * g i) (f i)))
     go false e = omega arith
 
 walk-le : (h : Head) (img : List ℕ) (a b l : ℕ) (at : Page-context) (p : ℕ) → length (walk 12 h img a b l at p .runs) ≤ 24 * leaves img l p

@@ -43,7 +43,8 @@ module _ (h : Head) (img : List ℕ) (bytes : Bytes img) (one : eqb (h .kind) 1 
   walk-bounds a b lo zero at p =
       let s : List ℕ = page-at 12 img p in
       each-page 12 h a b at s _
-      (λ fit i l. all-more (record { start = omega (arith, starts p i); total = page-fit-is 12 h at s .0 fit .pairs i l .total one }) all-none)
+      (λ fit i l.
+      all-more (record { start = omega (arith, starts p i); total = page-fit-is 12 h at s .0 fit .pairs i l .total one }) all-none)
   walk-bounds a b lo (suc l) at p =
       let s : List ℕ = page-at 12 img p in
       each-page 12 h a b at s _

@@ -19,7 +19,8 @@ by-status =
           subst⁻¹ (Exactly (format-cases 12 kind window img)) (ap (λ (f : Formatted). f .status) p) (rows .of-format kind window img);
       of-booking =
           λ side v s e img scratch r after left p.
-          subst⁻¹ (Exactly (book-cases 12 side v s e img scratch)) (ap (λ (b : Booked). b .status) p) (rows .of-booking side v s e img scratch);
+          subst⁻¹ (Exactly (book-cases 12 side v s e img scratch)) (ap (λ (b : Booked). b .status) p)
+          (rows .of-booking side v s e img scratch);
       of-instant =
           λ t img r p. (
             subst⁻¹ (Exactly (instant-cases 12 t img)) (answer-status t img p) (rows .of-instant t img),

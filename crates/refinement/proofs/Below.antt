@@ -52,14 +52,18 @@ module _ (l q : ℕ) where
       ∙ below-append (take i es) (node-at l es i ∷ drop (suc i) es)
       ∙ ap (λ (n : ℕ). times-below l q (take i es) + n) (below-cons (node-at l es i) (drop (suc i) es))
 
-  pub below-splice : (i : ℕ) (zs es : Nodes l) → times-below l q (splice i zs es) ≡ times-below l q (take i es) + (times-below l q zs + times-below l q (drop (suc i) es))
+  pub below-splice : (i : ℕ) (zs es : Nodes l)
+      → times-below l q (splice i zs es) ≡ times-below l q (take i es) + (times-below l q zs + times-below l q (drop (suc i) es))
   unfolding splice
   below-splice i zs es =
       below-append (take i es) (zs ++ drop (suc i) es) ∙ ap (λ (n : ℕ). times-below l q (take i es) + n) (below-append zs (drop (suc i) es))
 
   -- two siblings, and two siblings replaced
   pub below-two : (i : ℕ) (es : Nodes l) → suc i < length es
-      → times-below l q es ≡ times-below l q (take i es) + (times q (pages-under l (node-at l es i)) + (times q (pages-under l (node-at l es (suc i))) + times-below l q (drop (suc (suc i)) es)))
+      → times-below l q es ≡
+      times-below l q (take i es)
+      + (times q (pages-under l (node-at l es i))
+      + (times q (pages-under l (node-at l es (suc i))) + times-below l q (drop (suc (suc i)) es)))
   below-two i es h =
       let a : i < length es = omega arith in
       let b : times-below l q (drop (suc i) es) ≡ times q (pages-under l (node-at l es (suc i))) + times-below l q (drop (suc (suc i)) es) =
@@ -67,10 +71,16 @@ module _ (l q : ℕ) where
       omega (arith, below-at i es a)
 
   pub below-spliced : (i : ℕ) (zs ys es : Nodes l) → suc i < length es
-      → times-below l q (splice i zs (splice (suc i) ys es)) ≡ times-below l q (take i es) + (times-below l q zs + (times-below l q ys + times-below l q (drop (suc (suc i)) es)))
+      → times-below l q (splice i zs (splice (suc i) ys es)) ≡
+      times-below l q (take i es) + (times-below l q zs + (times-below l q ys + times-below l q (drop (suc (suc i)) es)))
   below-spliced i zs ys es h =
       rw (splice-two i zs ys es h)
-      (omega (arith, below-append (take i es) (zs ++ (ys ++ drop (suc (suc i)) es)), below-append zs (ys ++ drop (suc (suc i)) es), below-append ys (drop (suc (suc i)) es)))
+      (omega (
+        arith,
+        below-append (take i es) (zs ++ (ys ++ drop (suc (suc i)) es)),
+        below-append zs (ys ++ drop (suc (suc i)) es),
+        below-append ys (drop (suc (suc i)) es),
+      ))
 
   -- a list of one
   pub below-only : (es : Nodes l) → length es ≡ 1 → times-below l q es ≡ times q (pages-under l (node-at l es 0))

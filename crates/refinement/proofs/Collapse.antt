@@ -24,7 +24,8 @@ use Rattle.tree.specs.Heal.{pushed, collapse-if-single}
 use Rattle.tree.specs.Conserved.{times-below, times-spare, held}
 use Rattle.refinement.specs.Represents.{Stores, Supplied, Represents}
 use Rattle.refinement.proofs.Below.{node-at, under-suc, below-only}
-use Rattle.refinement.proofs.Moves.{Frame, put-else, stores-move, put-stores, lasting, put-supplied, given-supplied, given-else, given-lasting, spare-given, rooted-supplied}
+use Rattle.refinement.proofs.Moves.{Frame, put-else, stores-move, put-stores, lasting, put-supplied, given-supplied, given-else}
+use Rattle.refinement.proofs.Moves.{given-lasting, spare-given, rooted-supplied}
 use Rattle.refinement.proofs.Paths.{entries-are, subtrees-represented, at-flat}
 use Rattle.refinement.proofs.Stepped.{state, Steady, steady-of, held-is}
 use Rattle.refinement.proofs.Rebalance.{push-flat, push-stores, push-below}
@@ -69,11 +70,19 @@ module _ (_⊕_ : Pair → Pair → Pair) (l : ℕ) (x : Node (Subtree (suc (suc
     where
       form : ℕ → ℕ → ℕ → Image
       form n m p =
-          with-root n (at (entries Z p) 0 .child) (given-back p (put (at (entries Z p) 0 .child) (tree m (push _⊕_ (at (entries Z p) 0 .pair) (entries Z (at (entries Z p) 0 .child)))) Z))
+          with-root n (at (entries Z p) 0 .child)
+          (given-back p (put (at (entries Z p) 0 .child)
+          (tree m (push _⊕_ (at (entries Z p) 0 .pair) (entries Z (at (entries Z p) 0 .child)))) Z))
 
       there-is : form (suc l) l (x .entry .child) ≡ with-root (suc l) (y .entry .child) (given-back (x .entry .child) Z₁)
       there-is =
-          rw (entries-are (suc l) Z x shown, at-flat (suc l) (x .subtree) 0, entries-are l Z y y-represented, ← push-flat _⊕_ l (y .entry .pair) (y .subtree))
+          rw (
+            entries-are (suc l) Z x shown,
+            at-flat (suc l) (x .subtree) 0,
+            entries-are l Z y y-represented,
+            ← push-flat _⊕_ l
+                (y .entry .pair) (y .subtree),
+          )
 
   goes : Collapsed Z (collapse-root _⊕_ Z) (state (suc l) (x .entry .child) (x .subtree) R)
       (state l (y .entry .child) new (with-page (x .entry .child) R)) W
@@ -84,13 +93,16 @@ module _ (_⊕_ : Pair → Pair → Pair) (l : ℕ) (x : Node (Subtree (suc (suc
       let y′ : Node (Subtree (suc l)) = record { entry = entry 0 none c; subtree = new } in
       let Y : State = state (suc l) p (x .subtree) R in
       let Y′ : State = state l c new (with-page p R) in
-      let pushed-same : (q : ℕ) → times-below l q new ≡ times-below l q (y .subtree) = λ q. push-below _⊕_ l (y .entry .pair) q (y .subtree) in
+      let pushed-same : (q : ℕ)
+      → times-below l q new ≡ times-below l q (y .subtree) = λ q. push-below _⊕_ l (y .entry .pair) q (y .subtree) in
       let room : (q : ℕ) → hit q p + (hit q c + times-below l q new) + times-spare q R ≤ 1 =
       λ q. omega (arith, once q, under-suc (suc l) q x, below-only (suc l) q (x .subtree) one, under-suc l q y, pushed-same q) in
-      let c-may : (q : ℕ) → hit q c ≤ W q = λ q. let e : hit q (at (flat (x .subtree)) 0 .child) ≡ hit q c = ap (λ (z : Entry). hit q (z .child)) (at-flat (suc l) (x .subtree) 0) in omega (arith, only q) in
+      let c-may : (q : ℕ) → hit q c ≤ W q = λ q. let e : hit q (at (flat (x .subtree)) 0 .child) ≡ hit q c =
+      ap (λ (z : Entry). hit q (z .child)) (at-flat (suc l) (x .subtree) 0) in omega (arith, only q) in
       let below : Stores (suc l) (given-back p Z₁ .page) y′ =
       stores-move (suc l) (λ q. hit q p) (given-else p Z₁) y′
-      (put-stores l Z (entry 0 none c) new (push-stores _⊕_ l (y .entry .pair) (Z .page) (subtrees-represented l Z y y-represented)) (λ q. omega (arith, room q)))
+      (put-stores l Z (entry 0 none c) new (push-stores _⊕_ l (y .entry .pair) (Z .page) (subtrees-represented l Z y y-represented))
+      (λ q. omega (arith, room q)))
       (λ q. omega (arith, room q, under-suc l q y′)) in
       let d : Steady (Z .head) (given-back p Z₁ .head) = steady-of (given-lasting p Z₁ ∙ ap lasting (put-head c (tree l (flat new)) Z)) in
       rw collapse-root-is
@@ -105,7 +117,18 @@ module _ (_⊕_ : Pair → Pair → Pair) (l : ℕ) (x : Node (Subtree (suc (suc
                   (given-supplied p (put-supplied c (tree l (flat new)) s (λ q. omega (arith, room q))) (λ q. omega (arith, room q)));
             };
         pages =
-            λ q. omega (arith, held-is q Y, held-is q Y′, under-suc (suc l) q (root-node (Y .tree)), under-suc l q (root-node (Y′ .tree)), below-only (suc l) q (x .subtree) one, under-suc l q y, pushed-same q, spare-given q p R);
+            λ q. omega (
+              arith,
+              held-is q Y,
+              held-is q Y′,
+              under-suc (suc l) q (root-node (Y .tree)),
+              under-suc l q
+                  (root-node (Y′ .tree)),
+              below-only (suc l) q (x .subtree) one,
+              under-suc l q y,
+              pushed-same q,
+              spare-given q p R,
+            );
         frame =
             λ q h. given-else p Z₁ q (omega (arith, root-may q)) ∙ put-else c (tree l (flat new)) Z q (omega (arith, c-may q));
         steady = record { pages = d .pages; kind = d .kind; window = d .window; changes = d .changes };
@@ -139,7 +162,8 @@ module _ (half : ℕ) (_⊕_ : Pair → Pair → Pair) where
       → ((q : ℕ) → times q (pages-under (suc l) x) + times-spare q R ≤ 1)
       → ((q : ℕ) → hit q (x .entry .child) ≤ W q)
       → (1 ≤ l → length (x .subtree) ≡ 1 → (q : ℕ) → hit q (at (flat (x .subtree)) 0 .child) ≤ W q)
-      → Collapsed Z (collapse-if-single-x _⊕_ Z) (state l (x .entry .child) (x .subtree) R) (collapse-if-single half _⊕_ l (x .entry .child) (x .subtree) R) W
+      → Collapsed Z (collapse-if-single-x _⊕_ Z) (state l (x .entry .child) (x .subtree) R)
+      (collapse-if-single half _⊕_ l (x .entry .child) (x .subtree) R) W
 
   collapses-leaf : Shrinks 0
   unfolding collapse-if-single-x collapse-if-single
@@ -154,7 +178,9 @@ module _ (half : ℕ) (_⊕_ : Pair → Pair → Pair) where
       let Y : State = state (suc l) (x .entry .child) (x .subtree) R in
       rw (lt-ltb 1 (Z .head .height) (omega arith), n)
       (cond-both (λ Z′ Y′. Collapsed Z Z′ Y Y′ W) (eqb (length (x .subtree)) 1) (eqb (length (x .subtree)) 1) refl
-      (λ e. let one : length (x .subtree) ≡ 1 = eqb-true (length (x .subtree)) 1 e in goes _⊕_ l x Z R W height root shown s once one root-may (only (omega arith) one))
+      (λ e.
+      let one : length (x .subtree) ≡ 1 = eqb-true (length (x .subtree)) 1 e in
+      goes _⊕_ l x Z R W height root shown s once one root-may (only (omega arith) one))
       (λ e. stays (suc l) x Z R W height root shown s))
 
   pub collapses : (l : ℕ) → Shrinks l

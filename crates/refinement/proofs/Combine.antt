@@ -102,19 +102,22 @@ module _ (_⊕_ : Pair → Pair → Pair) (s e : ℕ) (effect : Pair) where
   abbrev pub new : (l hi : ℕ) → Nodes l → Nodes l
   new l hi es = with-ends (λ h y. combine-node _⊕_ s e effect l h y) hi es
 
-  became-is : (l hi : ℕ) (es : Nodes l) (X : Image) → combine-entries _⊕_ s e effect (below-of l) hi (flat es) X .became ≡ flat (new l hi es)
+  became-is : (l hi : ℕ) (es : Nodes l) (X : Image)
+      → combine-entries _⊕_ s e effect (below-of l) hi (flat es) X .became ≡ flat (new l hi es)
   unfolding combine-entries with-ends
   became-is l hi [] X = refl
   became-is l hi (x ∷ xs) X =
       let end = next-start hi (flat xs) in
-      ap (λ (r : List Entry). took _⊕_ s e effect end (x .entry) ∷ r) (became-is l hi xs (sent _⊕_ s e effect (below-of l) end (x .entry) X))
+      ap (λ (r : List Entry). took _⊕_ s e effect end (x .entry) ∷ r)
+      (became-is l hi xs (sent _⊕_ s e effect (below-of l) end (x .entry) X))
       ∙ ap (λ (y : Entry). y ∷ flat (new l hi xs)) (sym (entry-same l end x))
 
   abbrev pub SentIs : (l hi : ℕ) → Node (Subtree l) → Image → Type 0
   SentIs l hi x X = Sent l X (sent _⊕_ s e effect (below-of l) hi (x .entry) X) x (combine-node _⊕_ s e effect l hi x) (sent-in s e l hi x)
 
   abbrev WalkIs : (l hi : ℕ) → Nodes l → Image → Type 0
-  WalkIs l hi es X = Walked l X (combine-entries _⊕_ s e effect (below-of l) hi (flat es) X .image) es (new l hi es) (sent-below s e l hi es)
+  WalkIs l hi es X =
+      Walked l X (combine-entries _⊕_ s e effect (below-of l) hi (flat es) X .image) es (new l hi es) (sent-below s e l hi es)
 
   abbrev PageIs : (l hi : ℕ) → Node (Subtree (suc l)) → Image → Type 0
   PageIs l hi x X =
@@ -140,7 +143,8 @@ module _ (_⊕_ : Pair → Pair → Pair) (s e : ℕ) (effect : Pair) where
       let U = sent-below s e l hi xs in
       let u : SentIs l end x X = f end in
       let v : WalkIs l hi xs Z =
-      g Z (all-stores l (λ q. times q W) (u .frame) (all-tail a) (λ q. omega (arith, once q, below-cons l q x xs, sent-within s e l q end x))) in
+      g Z (all-stores l (λ q. times q W) (u .frame) (all-tail a)
+      (λ q. omega (arith, once q, below-cons l q x xs, sent-within s e l q end x))) in
       record {
         shows =
             all-more
@@ -152,7 +156,8 @@ module _ (_⊕_ : Pair → Pair → Pair) (s e : ℕ) (effect : Pair) where
         pages = λ q. omega (arith, below-cons l q x xs, below-cons l q x′ (new l hi xs), u .pages q, v .pages q);
       }
 
-  walk : (l hi : ℕ) → ((h : ℕ) (x : Node (Subtree l)) (X : Image) → Stores l (X .page) x → ((q : ℕ) → times q (pages-under l x) ≤ 1) → SentIs l h x X)
+  walk : (l hi : ℕ)
+      → ((h : ℕ) (x : Node (Subtree l)) (X : Image) → Stores l (X .page) x → ((q : ℕ) → times q (pages-under l x) ≤ 1) → SentIs l h x X)
       → (es : Nodes l) (X : Image)
       → All (λ y. Stores l (X .page) y) es
       → ((q : ℕ) → times-below l q es ≤ 1)
@@ -172,7 +177,8 @@ module _ (_⊕_ : Pair → Pair → Pair) (s e : ℕ) (effect : Pair) where
       (go (combine-entries _⊕_ s e effect (below-of l) hi (flat (x .subtree)) X .image) w)
     where
       go : (Z : Image) → Walked l X Z (x .subtree) (new l hi (x .subtree)) (sent-below s e l hi (x .subtree))
-          → Sent (suc l) X (put (x .entry .child) (tree l (flat (new l hi (x .subtree)))) Z) x (record { entry = x .entry; subtree = new l hi (x .subtree) }) (x .entry .child ∷ sent-below s e l hi (x .subtree))
+          → Sent (suc l) X (put (x .entry .child) (tree l (flat (new l hi (x .subtree)))) Z) x
+          (record { entry = x .entry; subtree = new l hi (x .subtree) }) (x .entry .child ∷ sent-below s e l hi (x .subtree))
       go Z w =
           let p = x .entry .child in
           let c = tree l (flat (new l hi (x .subtree))) in
@@ -181,7 +187,12 @@ module _ (_⊕_ : Pair → Pair → Pair) (s e : ℕ) (effect : Pair) where
             shows = put-stores l Z (x .entry) (new l hi (x .subtree)) (w .shows) (λ q. omega (arith, once q, under-suc l q x, w .pages q));
             frame = λ q h. put-else p c Z q (omega (arith, h, times-cons q p U)) ∙ w .frame q (omega (arith, h, times-cons q p U));
             head = put-head p c Z ∙ w .head;
-            pages = λ q. omega (arith, under-suc l q x, under-suc l q (record { entry = x .entry; subtree = new l hi (x .subtree) }), w .pages q);
+            pages = λ q. omega (
+              arith,
+              under-suc l q x,
+              under-suc l q (record { entry = x .entry; subtree = new l hi (x .subtree) }),
+              w .pages q,
+            );
           }
 
   -- an entry, by what it sends below
@@ -189,8 +200,16 @@ module _ (_⊕_ : Pair → Pair → Pair) (s e : ℕ) (effect : Pair) where
   unfolding sent below-of Stores
   sent-none hi x X =
       let still : (Z : Image) → Type 0 = λ Z. Sent 0 X Z x (combine-node _⊕_ s e effect 0 hi x) (sent-in s e 0 hi x) in
-      let same : still X = record { shows = tt; frame = λ q h. refl; head = refl; pages = λ q. omega (arith, under-zero q x, under-zero q (combine-node _⊕_ s e effect 0 hi x)) } in
-      cond-one still (inside s e (x .entry .start) hi) (λ h. same) (λ h. cond-one still (overlaps s e (x .entry .start) hi) (λ h. same) (λ h. same))
+      let same : still X =
+      record {
+        shows = tt;
+        frame = λ q h. refl;
+        head = refl;
+        pages =
+            λ q. omega (arith, under-zero q x, under-zero q (combine-node _⊕_ s e effect 0 hi x));
+      } in
+      cond-one still (inside s e (x .entry .start) hi) (λ h. same)
+      (λ h. cond-one still (overlaps s e (x .entry .start) hi) (λ h. same) (λ h. same))
 
   sent-up : (l hi : ℕ) (x : Node (Subtree (suc l))) (X : Image) → Stores (suc l) (X .page) x
       → PageIs l hi x X
@@ -205,7 +224,13 @@ module _ (_⊕_ : Pair → Pair → Pair) (s e : ℕ) (effect : Pair) where
       c = took-child hi (x .entry)
 
       still : Sent (suc l) X X x (record { entry = E; subtree = x .subtree }) []
-      still = record { shows = same-stores (suc l) x E c (X .page) shown; frame = λ q h. refl; head = refl; pages = same-under (suc l) x E c }
+      still = record {
+        shows = same-stores (suc l) x E c (X .page) shown;
+        frame = λ q h. refl;
+        head = refl;
+        pages =
+            same-under (suc l) x E c;
+      }
 
       x′ : Node (Subtree (suc l))
       x′ = record { entry = x .entry; subtree = new l hi (x .subtree) }
@@ -225,22 +250,28 @@ module _ (_⊕_ : Pair → Pair → Pair) (s e : ℕ) (effect : Pair) where
             pages = λ q. same-under (suc l) x′ E c q ∙ w .pages q;
           }
 
-      go : (a b : Bool) → Sent (suc l) X (cond a X (cond b Z X)) x (record { entry = E; subtree = cond a (x .subtree) (cond b (new l hi (x .subtree)) (x .subtree)) }) (cond a [] (cond b U []))
+      go : (a b : Bool)
+          → Sent (suc l) X (cond a X (cond b Z X)) x
+          (record { entry = E; subtree = cond a (x .subtree) (cond b (new l hi (x .subtree)) (x .subtree)) }) (cond a [] (cond b U []))
       go true b = still
       go false true = below
       go false false = still
 
-  pub sent-is : (l hi : ℕ) (x : Node (Subtree l)) (X : Image) → Stores l (X .page) x → ((q : ℕ) → times q (pages-under l x) ≤ 1) → SentIs l hi x X
+  pub sent-is : (l hi : ℕ) (x : Node (Subtree l)) (X : Image) → Stores l (X .page) x → ((q : ℕ) → times q (pages-under l x) ≤ 1)
+      → SentIs l hi x X
   sent-is zero hi x X shown once = sent-none hi x X
   sent-is (suc l) hi x X shown once =
       sent-up l hi x X shown
       (paged l hi x X shown once
-      (walk l hi (λ h y Z a b. sent-is l h y Z a b) (x .subtree) X (subtrees-represented l X x shown) (λ q. omega (arith, once q, under-suc l q x))))
+      (walk l hi (λ h y Z a b. sent-is l h y Z a b) (x .subtree) X (subtrees-represented l X x shown)
+      (λ q. omega (arith, once q, under-suc l q x))))
 
   -- ---- from the root
 
   module _ (X : Image) (Y : State) (sh : Represents X Y) (once : Once Y) where
-    pub combine-root : Sent (suc (Y .tree .level)) X (combine-span-x _⊕_ s e effect X) (root-node (Y .tree)) (record { entry = root-node (Y .tree) .entry; subtree = new (Y .tree .level) END (Y .tree .nodes) }) (Y .tree .root ∷ sent-below s e (Y .tree .level) END (Y .tree .nodes))
+    pub combine-root : Sent (suc (Y .tree .level)) X (combine-span-x _⊕_ s e effect X) (root-node (Y .tree))
+        (record { entry = root-node (Y .tree) .entry; subtree = new (Y .tree .level) END (Y .tree .nodes) })
+        (Y .tree .root ∷ sent-below s e (Y .tree .level) END (Y .tree .nodes))
     unfolding combine-span-x root-node
     combine-root =
         let l = Y .tree .level in
@@ -248,7 +279,8 @@ module _ (_⊕_ : Pair → Pair → Pair) (s e : ℕ) (effect : Pair) where
         let few : (q : ℕ) → times q (pages-under (suc l) x) ≤ 1 = λ q. omega (arith, held-is q Y, once-is Y once q) in
         rw (from-root sh (λ n p. combine-page _⊕_ s e effect n END p X))
         (paged l END x X (sh .below) few
-        (walk l END (λ h y Z a b. sent-is l h y Z a b) (Y .tree .nodes) X (subtrees-represented l X x (sh .below)) (λ q. omega (arith, few q, under-suc l q x))))
+        (walk l END (λ h y Z a b. sent-is l h y Z a b) (Y .tree .nodes) X (subtrees-represented l X x (sh .below))
+        (λ q. omega (arith, few q, under-suc l q x))))
 
     pub combine-represented : Represents (combine-span-x _⊕_ s e effect X) (combine-span _⊕_ s e effect Y)
     unfolding combine-span combine-nodes root-node
@@ -262,7 +294,16 @@ module _ (_⊕_ : Pair → Pair → Pair) (s e : ℕ) (effect : Pair) where
           below = d .shows;
           supplied =
               supplied-move (λ q. times q (Y .tree .root ∷ U)) (d .head) (d .frame) (sh .supplied)
-              (λ q. omega (arith, times-cons q (Y .tree .root) U, ends-within s e l q (λ h y. sent-within s e l q h y) END (Y .tree .nodes), held-is q Y, under-suc l q (root-node (Y .tree)), once-is Y once q));
+              (λ q.
+              omega (
+                arith,
+                times-cons q (Y .tree .root) U,
+                ends-within s e l q (λ h y. sent-within s e l q h y) END
+                    (Y .tree .nodes),
+                held-is q Y,
+                under-suc l q (root-node (Y .tree)),
+                once-is Y once q,
+              ));
         }
 
     pub combine-held : (q : ℕ) → held q (combine-span _⊕_ s e effect Y) ≡ held q Y

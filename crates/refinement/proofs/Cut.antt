@@ -24,7 +24,8 @@ use Rattle.lists.specs.Lists.{splice}
 use Rattle.image.specs.Images.{Image, tree}
 use Rattle.lists.specs.Lists.{times}
 use Rattle.steps.specs.Supply.{put, taken, spares, pages-taken, with-supply, with-root}
-use Rattle.steps.specs.Cut.{Cutting as CuttingX, cut-leaf-entry, split-if-full as split-if-full-x, cut-entry, root-entry, grow-root, grow-if-split as grow-if-split-x, cut as cut-x}
+use Rattle.steps.specs.Cut.{Cutting as CuttingX, cut-leaf-entry, split-if-full as split-if-full-x, cut-entry, root-entry, grow-root}
+use Rattle.steps.specs.Cut.{grow-if-split as grow-if-split-x, cut as cut-x}
 use Rattle.steps.specs.Change.{path, cut-names}
 use Rattle.steps.proofs.Supply.{put-head, rooted-page, rooted-height, rooted-root, taken-page}
 use Rattle.tree.specs.Tree.{Node, Subtree, Nodes, flat, pages-under}
@@ -33,13 +34,15 @@ use Rattle.tree.specs.Cut.{Cutting, cut-leaf, not-split, split-if-full, cut-nod
 use Rattle.tree.specs.Conserved.{times-below, times-spare, held}
 use Rattle.refinement.specs.Represents.{Stores, Supplied, Represents, Once, Stocked, Full}
 use Rattle.refinement.proofs.Below.{below-leaf, under-zero, under-suc, below-one, below-at, below-splice}
-use Rattle.refinement.proofs.Moves.{leaves-represented, Frame, put-else, rooted-supplied, put-stores, splice-represented, lasting, put-supplied, spare-next, spare-is, taken-supplied, taken-lasting}
+use Rattle.refinement.proofs.Moves.{leaves-represented, Frame, put-else, rooted-supplied, put-stores, splice-represented, lasting}
+use Rattle.refinement.proofs.Moves.{put-supplied, spare-next, spare-is, taken-supplied, taken-lasting}
 use Rattle.tree.specs.Counts.{later}
 use Rattle.tree.proofs.Conservation.Supply.{later-more, later-add}
 use Rattle.refinement.proofs.Taking.{firsts, firsts-none, firsts-more, later-held, firsts-add, spares-are, taken-is}
 use Rattle.refinement.proofs.Split.{Entry-cut, splits-if-full}
 use Rattle.refinement.proofs.Stepped.{state, Steady, Stepped, steady-of, steady-then, held-is, once-is}
-use Rattle.refinement.proofs.Paths.{path-held, subtrees-represented, flat-same, there, path-top, path-past, entries-are, at-flat, has-index, stocked-on, stores-on, path-in, path-below}
+use Rattle.refinement.proofs.Paths.{path-held, subtrees-represented, flat-same, there, path-top, path-past, entries-are, at-flat}
+use Rattle.refinement.proofs.Paths.{has-index, stocked-on, stores-on, path-in, path-below}
 
 -- ---- one level up
 
@@ -55,7 +58,8 @@ module _ (half t l : ℕ) (x : Node (Subtree (suc l))) (X : Image) (S : Supply)
   abbrev Result : CuttingX → Cutting (Subtree (suc l)) → Type 0
   Result u u′ = Entry-cut (suc l) (x .entry) X S (λ q. times q (pages-under (suc l) x)) (λ q. times q (path-in t (suc l) x)) u u′
 
-  module _ (r : CuttingX) (r′ : Cutting (Subtree l)) (g : Entry-cut l (y .entry) X S (λ q. times q (pages-under l y)) (λ q. times q (path-in t l y)) r r′) where
+  module _ (r : CuttingX) (r′ : Cutting (Subtree l))
+      (g : Entry-cut l (y .entry) X S (λ q. times q (pages-under l y)) (λ q. times q (path-in t l y)) r r′) where
     abbrev new : Nodes l
     new = splice i (r′ .became) (x .subtree)
 
@@ -64,8 +68,11 @@ module _ (half t l : ℕ) (x : Node (Subtree (suc l))) (X : Image) (S : Supply)
 
     -- what each page is counted by
     record Room (q : ℕ) : Type 0 where
-      before : times q (pages-under (suc l) x) ≡ hit q (x .entry .child) + (times-below l q (take i (x .subtree)) + (times q (pages-under l y) + times-below l q (drop (suc i) (x .subtree))))
-      after : times-below l q new ≡ times-below l q (take i (x .subtree)) + ((times q (pages-under l y) + times q (firsts (g .took) S)) + times-below l q (drop (suc i) (x .subtree)))
+      before : times q (pages-under (suc l) x) ≡
+          hit q (x .entry .child)
+          + (times-below l q (take i (x .subtree)) + (times q (pages-under l y) + times-below l q (drop (suc i) (x .subtree))))
+      after : times-below l q new ≡ times-below l q (take i (x .subtree))
+          + ((times q (pages-under l y) + times q (firsts (g .took) S)) + times-below l q (drop (suc i) (x .subtree)))
       written : times q (path-in t l y) ≤ times q (pages-under l y)
       on-way : times q (path-in t (suc l) x) ≡ hit q (x .entry .child) + times q (path-in t l y)
       supply : times q (firsts (g .took) S) + times-spare q (r′ .supply) ≡ times-spare q S
@@ -85,15 +92,18 @@ module _ (half t l : ℕ) (x : Node (Subtree (suc l))) (X : Image) (S : Supply)
 
     new-represented : All (λ z. Stores l (r .image .page) z) new
     new-represented =
-        splice-represented l (λ q. times q (path-in t l y) + times q (firsts (g .took) S)) (g .frame) i (subtrees-represented l X x shown) (g .shows)
+        splice-represented l (λ q. times q (path-in t l y) + times q (firsts (g .took) S)) (g .frame) i
+        (subtrees-represented l X x shown) (g .shows)
         (λ q. let m = room q in omega arith)
 
-    unsplit : eqb (length (r .became)) 1 ≡ true → Result (record { became = x .entry ∷ []; image = r .image }) (not-split x new (r′ .supply))
+    unsplit : eqb (length (r .became)) 1 ≡ true
+        → Result (record { became = x .entry ∷ []; image = r .image }) (not-split x new (r′ .supply))
     unfolding not-split Stores
     unsplit e =
         let p = x .entry .child in
         let x′ : Node (Subtree (suc l)) = record { entry = x .entry; subtree = new } in
-        let b : flat new ≡ flat (x .subtree) = flat-same l i (r′ .became) (x .subtree) (has-index l t x stock) (sym (g .same) ∙ g .one (eqb-true (length (r .became)) 1 e)) in
+        let b : flat new ≡ flat (x .subtree) =
+        flat-same l i (r′ .became) (x .subtree) (has-index l t x stock) (sym (g .same) ∙ g .one (eqb-true (length (r .became)) 1 e)) in
         record {
           took = g .took;
           same = refl;
@@ -112,11 +122,14 @@ module _ (half t l : ℕ) (x : Node (Subtree (suc l))) (X : Image) (S : Supply)
 
     -- what was done to the pages below, and then to this one
     further : (u : CuttingX) (u′ : Cutting (Subtree (suc l)))
-        → Entry-cut (suc l) (x .entry) (r .image) (r′ .supply) (λ q. hit q (x .entry .child) + times-below l q new) (λ q. hit q (x .entry .child)) u u′
+        → Entry-cut (suc l) (x .entry) (r .image) (r′ .supply) (λ q. hit q (x .entry .child) + times-below l q new)
+        (λ q. hit q (x .entry .child)) u u′
         → Result u u′
     further u u′ h =
-        let more : (q : ℕ) → times q (firsts (h .took + g .took) S) ≡ times q (firsts (g .took) S) + times q (firsts (h .took) (r′ .supply)) =
-        λ q. firsts-add q (h .took) (g .took) S ∙ ap (λ (R : Supply). times q (firsts (g .took) S) + times q (firsts (h .took) R)) (sym (g .rest)) in
+        let more : (q : ℕ) → times q (firsts (h .took + g .took) S) ≡
+        times q (firsts (g .took) S) + times q (firsts (h .took) (r′ .supply)) =
+        λ q. firsts-add q (h .took) (g .took) S
+        ∙ ap (λ (R : Supply). times q (firsts (g .took) S) + times q (firsts (h .took) R)) (sym (g .rest)) in
         record {
           took = h .took + g .took;
           same = h .same;
@@ -146,7 +159,8 @@ module _ (half t l : ℕ) (x : Node (Subtree (suc l))) (X : Image) (S : Supply)
 
 abbrev pub CutIs : (half t l : ℕ) → Node (Subtree l) → Image → Supply → Type 0
 CutIs half t l x X S =
-    Entry-cut l (x .entry) X S (λ q. times q (pages-under l x)) (λ q. times q (path-in t l x)) (cut-entry half t l (x .entry) X) (cut-node half t l x S)
+    Entry-cut l (x .entry) X S (λ q. times q (pages-under l x)) (λ q. times q (path-in t l x)) (cut-entry half t l (x .entry) X)
+    (cut-node half t l x S)
 
 -- a leaf entry
 cut-none : (half t : ℕ) (x : Node (Subtree 0)) (X : Image) (S : Supply) → Supplied X S → CutIs half t 0 x X S
@@ -188,14 +202,16 @@ cut-up : (half t l : ℕ) (x : Node (Subtree (suc l))) (X : Image) (S : Supply)
 unfolding cut-entry cut-node
 cut-up half t l x X S shown stock once g =
     rw (entries-are l X x shown, at-flat l (x .subtree) (index-of t (flat (x .subtree))))
-    (one-up half t l x X S shown stock once (cut-entry half t l (there l t (x .subtree) .entry) X) (cut-node half t l (there l t (x .subtree)) S) g)
+    (one-up half t l x X S shown stock once (cut-entry half t l (there l t (x .subtree) .entry) X)
+    (cut-node half t l (there l t (x .subtree)) S) g)
 
 pub once-there : (t l : ℕ) (x : Node (Subtree (suc l))) (S : Supply)
     → Stocked (suc l) x
     → ((q : ℕ) → times q (pages-under (suc l) x) + times-spare q S ≤ 1)
     → (q : ℕ)
     → times q (pages-under l (there l t (x .subtree))) + times-spare q S ≤ 1
-once-there t l x S stock once q = omega (arith, once q, under-suc l q x, below-at l q (index-of t (flat (x .subtree))) (x .subtree) (has-index l t x stock))
+once-there t l x S stock once q =
+    omega (arith, once q, under-suc l q x, below-at l q (index-of t (flat (x .subtree))) (x .subtree) (has-index l t x stock))
 
 pub cut-node-is : (half t l : ℕ) (x : Node (Subtree l)) (X : Image) (S : Supply)
     → Stores l (X .page) x
@@ -206,7 +222,8 @@ pub cut-node-is : (half t l : ℕ) (x : Node (Subtree l)) (X : Image) (S : Suppl
 cut-node-is half t zero x X S shown stock s once = cut-none half t x X S s
 cut-node-is half t (suc l) x X S shown stock s once =
     cut-up half t l x X S shown stock once
-    (cut-node-is half t l (there l t (x .subtree)) X S (stores-on l t x stock X shown) (stocked-on l t x stock) s (once-there t l x S stock once))
+    (cut-node-is half t l (there l t (x .subtree)) X S (stores-on l t x stock X shown) (stocked-on l t x stock) s
+    (once-there t l x S stock once))
 
 -- ---- from the root
 
@@ -227,7 +244,8 @@ grow-root-represented l es Z R h a s once =
     let n = next-page R in
     let Z₁ = with-root (suc (suc l)) n (taken Z) in
     let a₁ : All (λ y. Stores (suc l) (Z₁ .page) y) es = rw (rooted-page (suc (suc l)) n (taken Z), taken-page Z) a in
-    let room : (q : ℕ) → hit q n + times-below (suc l) q es + times-spare q (without-next R) ≤ 1 = λ q. omega (arith, once q, spare-next q R) in
+    let room : (q : ℕ) → hit q n + times-below (suc l) q es + times-spare q (without-next R) ≤ 1 =
+    λ q. omega (arith, once q, spare-next q R) in
     rw (grow-root-is (flat es) (suc l) s h)
     (record {
       height = ap (λ (g : Head). g .height) (put-head n (tree (suc l) (flat es)) Z₁) ∙ rooted-height (suc (suc l)) n (taken Z);
@@ -236,7 +254,8 @@ grow-root-represented l es Z R h a s once =
       supplied = put-supplied n (tree (suc l) (flat es)) (rooted-supplied (suc (suc l)) n (taken-supplied s)) (λ q. omega (arith, room q));
     })
 
-grow-root-else : (es : List Entry) {Z : Image} {R : Supply} → Supplied Z R → Frame (Z .page) (grow-root es Z .page) (λ q. hit q (next-page R))
+grow-root-else : (es : List Entry) {Z : Image} {R : Supply} → Supplied Z R
+    → Frame (Z .page) (grow-root es Z .page) (λ q. hit q (next-page R))
 unfolding with-root taken
 grow-root-else es {Z} {R} s =
     rw (grow-root-is es (Z .head .height) s refl)
@@ -262,8 +281,10 @@ module _ (half t : ℕ) (X : Image) (Y : State) (sh : Represents X Y) (once : On
       → Stepped X X′ Y Y′ (path t X ++ spares (pages-taken X X′) X)
   finish X′ Y′ k a b c f d =
       let n : pages-taken X X′ ≡ k = taken-is k (sh .supplied) (subst (λ R. Supplied X′ R) b (a .supplied)) in
-      let w : (q : ℕ) → times q (path t X ++ spares (pages-taken X X′) X) ≡ times q (path-in t (suc l) x₀) + times q (firsts k (Y .supply)) =
-      λ q. rw (n, spares-are k (sh .supplied), path-top t X Y sh stock instant) (times-append q (path-in t (suc l) x₀) (firsts k (Y .supply))) in
+      let w : (q : ℕ) → times q (path t X ++ spares (pages-taken X X′) X) ≡
+      times q (path-in t (suc l) x₀) + times q (firsts k (Y .supply)) =
+      λ q. rw (n, spares-are k (sh .supplied), path-top t X Y sh stock instant)
+      (times-append q (path-in t (suc l) x₀) (firsts k (Y .supply))) in
       record {
         shown = a;
         same-held = c;
@@ -280,7 +301,8 @@ module _ (half t : ℕ) (X : Image) (Y : State) (sh : Represents X Y) (once : On
       → (q : ℕ)
       → times-below (suc l) q (r′ .became) + times-spare q (r′ .supply) ≡ held q Y
   pages-kept {r} {r′} g q =
-      let e : times q (firsts (g .took) (Y .supply)) + times-spare q (r′ .supply) ≡ times-spare q (Y .supply) = rw (g .rest) (later-held q (g .took) (Y .supply)) in
+      let e : times q (firsts (g .took) (Y .supply)) + times-spare q (r′ .supply) ≡ times-spare q (Y .supply) =
+      rw (g .rest) (later-held q (g .took) (Y .supply)) in
       omega (arith, g .pages q, held-is q Y)
 
   same-root : (x : Node (Subtree (suc l))) (R : Supply) (r : CuttingX) → Cuts r (record { became = x ∷ []; supply = R })
@@ -297,12 +319,22 @@ module _ (half t : ℕ) (X : Image) (Y : State) (sh : Represents X Y) (once : On
         supplied = g .supplied;
       })
       (g .rest)
-      (λ q. omega (arith, pages-kept g q, below-one (suc l) q x, held-is q Y′, under-suc l q x, under-suc l q (root-node (record { level = Y .tree .level; root = x .entry .child; nodes = x .subtree }))))
+      (λ q.
+      omega (
+        arith,
+        pages-kept g q,
+        below-one (suc l) q x,
+        held-is q Y′,
+        under-suc l q x,
+        under-suc l q
+            (root-node (record { level = Y .tree .level; root = x .entry .child; nodes = x .subtree })),
+      ))
       (g .frame)
       (steady-of (g .head))
 
   new-root : (es : Nodes (suc l)) (R : Supply) (r : CuttingX) → Cuts r (record { became = es; supply = R })
-      → Stepped X (grow-root (r .became) (r .image)) Y (state (suc l) (next-page R) es (without-next R)) (path t X ++ spares (pages-taken X (grow-root (r .became) (r .image))) X)
+      → Stepped X (grow-root (r .became) (r .image)) Y (state (suc l) (next-page R) es (without-next R))
+      (path t X ++ spares (pages-taken X (grow-root (r .became) (r .image))) X)
   unfolding lasting with-supply root-node
   new-root es R r g =
       let Y′ = state (suc l) (next-page R) es (without-next R) in
@@ -311,7 +343,8 @@ module _ (half t : ℕ) (X : Image) (Y : State) (sh : Represents X Y) (once : On
       let d = grow-root-steady (r .became) (r .image) in
       let n : next-page R ≡ next-page (later (g .took) (Y .supply)) = ap next-page (g .rest) in
       finish (grow-root (r .became) (r .image)) Y′ (suc (g .took))
-      (rw (g .same) (grow-root-represented l es (r .image) R h (g .shows) (g .supplied) (λ q. omega (arith, pages-kept g q, once-is Y once q))))
+      (rw (g .same) (grow-root-represented l es (r .image) R h (g .shows) (g .supplied)
+      (λ q. omega (arith, pages-kept g q, once-is Y once q))))
       (ap without-next (g .rest) ∙ sym (later-more (g .took) (Y .supply)))
       (λ q. omega (arith, pages-kept g q, held-is q Y′, under-suc (suc l) q (root-node (Y′ .tree)), spare-next q R))
       (λ q z.
@@ -338,7 +371,8 @@ cut-is half _⊕_ t X Y sh once stock =
     (λ e.
     rw same
     (grows half t X Y sh once stock (leb-false END t e) (r′ .became) (r′ .supply) (cut-entry half t (suc l) (root-node (Y .tree) .entry) X)
-    (cut-node-is half t (suc l) (root-node (Y .tree)) X (Y .supply) (sh .below) stock (sh .supplied) (λ q. omega (arith, held-is q Y, once-is Y once q)))))
+    (cut-node-is half t (suc l) (root-node (Y .tree)) X (Y .supply) (sh .below) stock (sh .supplied)
+    (λ q. omega (arith, held-is q Y, once-is Y once q)))))
   where
     l : ℕ
     l = Y .tree .level
@@ -353,7 +387,8 @@ cut-is half _⊕_ t X Y sh once stock =
           shown = sh;
           same-held = λ q. refl;
           frame = λ q h. refl;
-          inside = λ q z. rw (path-past t X h, taken-is 0 (sh .supplied) (sh .supplied), spares-are 0 (sh .supplied)) (firsts-none q (Y .supply));
+          inside = λ q z. rw (path-past t X h, taken-is 0 (sh .supplied) (sh .supplied), spares-are 0 (sh .supplied))
+              (firsts-none q (Y .supply));
           steady = steady-of refl;
         }
 

@@ -22,7 +22,8 @@ use Rattle.lists.specs.Lists.{splice}
 use Rattle.image.specs.Images.{Image, tree}
 use Rattle.lists.specs.Lists.{times}
 use Rattle.steps.specs.Supply.{put, with-supply}
-use Rattle.steps.specs.Heal.{heals, short, sibling, left-of, collapse-if-single as collapse-if-single-x, rebalance as rebalance-x, heal-page, heal as heal-x}
+use Rattle.steps.specs.Heal.{heals, short, sibling, left-of, collapse-if-single as collapse-if-single-x, rebalance as rebalance-x}
+use Rattle.steps.specs.Heal.{heal-page, heal as heal-x}
 use Rattle.steps.specs.Change.{path-from, path, siblings-used, heal-names}
 use Rattle.steps.proofs.Supply.{put-head}
 use Rattle.tree.specs.Tree.{Node, Subtree, Nodes, flat, pages-under}
@@ -34,7 +35,8 @@ use Rattle.tree.specs.Conserved.{times-below, times-spare, held}
 use Rattle.refinement.specs.Represents.{Stores, Supplied, Represents, Once, Stocked, Full}
 use Rattle.refinement.proofs.Below.{below-leaf, node-at, under-suc, below-one, below-at, below-two, below-splice}
 use Rattle.refinement.proofs.Moves.{leaves-represented, put-else, put-stores, splice-represented, lasting, put-supplied}
-use Rattle.refinement.proofs.Paths.{flat-same, from-root, entries-are, at-flat, there, has-index, stocked-on, stores-on, path-in, path-down}
+use Rattle.refinement.proofs.Paths.{flat-same, from-root, entries-are, at-flat, there, has-index, stocked-on, stores-on, path-in}
+use Rattle.refinement.proofs.Paths.{path-down}
 use Rattle.refinement.proofs.Stepped.{state, Stepped, steady-of, steady-then, held-is, once-is}
 use Rattle.refinement.proofs.Collapse.{Collapsed, collapses}
 use Rattle.refinement.proofs.Past.{heal-past}
@@ -59,10 +61,16 @@ module _ (half : ℕ) (_⊕_ : Pair → Pair → Pair) (t : ℕ) where
       cond (short half p (heal-page half _⊕_ t l p X)) (other (suc l) (x .subtree) .entry .child ∷ []) []
 
   rebalanced-up : (l : ℕ) (x : Node (Subtree (suc (suc l)))) (X : Image) → Stores (suc (suc l)) (X .page) x
-      → siblings-used half _⊕_ t (suc l) (x .entry .child) X ≡ siblings-used half _⊕_ t l (there (suc l) t (x .subtree) .entry .child) X ++ rebalanced l x X
+      → siblings-used half _⊕_ t (suc l) (x .entry .child) X ≡
+      siblings-used half _⊕_ t l (there (suc l) t (x .subtree) .entry .child) X ++ rebalanced l x X
   unfolding siblings-used
   rebalanced-up l x X s =
-      rw (entries-are (suc l) X x s, at-flat (suc l) (x .subtree) (index-of t (flat (x .subtree))), at-flat (suc l) (x .subtree) (sibling (index-of t (flat (x .subtree)))))
+      rw (
+        entries-are (suc l) X x s,
+        at-flat (suc l) (x .subtree) (index-of t (flat (x .subtree))),
+        at-flat (suc l) (x .subtree)
+            (sibling (index-of t (flat (x .subtree)))),
+      )
 
   -- how often the path and the siblings used have a page
   abbrev pub may : (l : ℕ) → Node (Subtree (suc l)) → Image → ℕ → ℕ
@@ -70,7 +78,8 @@ module _ (half : ℕ) (_⊕_ : Pair → Pair → Pair) (t : ℕ) where
 
   -- the page on the path and its sibling, and what is below them, are all below one page
   beside : (q l : ℕ) (x : Node (Subtree (suc (suc l)))) → Stocked (suc (suc l)) x
-      → times q (pages-under (suc l) (there (suc l) t (x .subtree))) + times q (pages-under (suc l) (other (suc l) (x .subtree))) ≤ times-below (suc l) q (x .subtree)
+      → times q (pages-under (suc l) (there (suc l) t (x .subtree))) + times q (pages-under (suc l) (other (suc l) (x .subtree)))
+      ≤ times-below (suc l) q (x .subtree)
   beside q l x k =
       let es = x .subtree in
       let i = index-of t (flat es) in
@@ -87,22 +96,26 @@ module _ (half : ℕ) (_⊕_ : Pair → Pair → Pair) (t : ℕ) where
   unfolding path-in
   may-up q l x X s =
       let y = there (suc l) t (x .subtree) in
-      let e : times q (siblings-used half _⊕_ t (suc l) (x .entry .child) X) ≡ times q (siblings-used half _⊕_ t l (y .entry .child) X) + times q (rebalanced l x X) =
-      ap (λ (ps : List ℕ). times q ps) (rebalanced-up l x X s) ∙ times-append q (siblings-used half _⊕_ t l (y .entry .child) X) (rebalanced l x X) in
+      let e : times q (siblings-used half _⊕_ t (suc l) (x .entry .child) X) ≡
+      times q (siblings-used half _⊕_ t l (y .entry .child) X) + times q (rebalanced l x X) =
+      ap (λ (ps : List ℕ). times q ps) (rebalanced-up l x X s)
+      ∙ times-append q (siblings-used half _⊕_ t l (y .entry .child) X) (rebalanced l x X) in
       omega (arith, times-cons q (x .entry .child) (path-in t (suc l) y))
 
   may-here : (q l : ℕ) (x : Node (Subtree (suc l))) (X : Image) → hit q (x .entry .child) ≤ may l x X q
   unfolding path-in
   may-here q l x X = omega (arith, times-cons q (x .entry .child) (path-in t l (there l t (x .subtree))))
 
-  pub may-within : (q l : ℕ) (x : Node (Subtree (suc l))) (X : Image) → Stores (suc l) (X .page) x → Stocked (suc l) x → may l x X q ≤ times q (pages-under (suc l) x)
+  pub may-within : (q l : ℕ) (x : Node (Subtree (suc l))) (X : Image) → Stores (suc l) (X .page) x → Stocked (suc l) x
+      → may l x X q ≤ times q (pages-under (suc l) x)
   may-within q zero x X s k = omega (arith, may-none q x X, under-suc 0 q x)
   may-within q (suc l) x X s k =
       let y = there (suc l) t (x .subtree) in
       let n = other (suc l) (x .subtree) in
       let r : may l y X q ≤ times q (pages-under (suc l) y) = may-within q l y X (stores-on (suc l) t x k X s) (stocked-on (suc l) t x k) in
       let c : times q (rebalanced l x X) ≤ hit q (n .entry .child) =
-      cond-one (λ (ps : List ℕ). times q ps ≤ hit q (n .entry .child)) (short half (y .entry .child) (heal-page half _⊕_ t l (y .entry .child) X))
+      cond-one (λ (ps : List ℕ). times q ps ≤ hit q (n .entry .child))
+      (short half (y .entry .child) (heal-page half _⊕_ t l (y .entry .child) X))
       (λ e. omega (arith, times-cons q (n .entry .child) [], times-none q)) (λ e. omega (arith, times-none q)) in
       omega (arith, may-up q l x X s, under-suc (suc l) q x, under-suc l q n, beside q l x k)
 
@@ -181,8 +194,10 @@ module _ (half : ℕ) (_⊕_ : Pair → Pair → Pair) (t : ℕ) where
 
     -- what each page is counted by
     record Room (q : ℕ) : Type 0 where
-      subtrees : times-below (suc l) q (x .subtree) ≡ times-below (suc l) q (take i (x .subtree)) + ((hit q (y .entry .child) + times-below l q (y .subtree)) + times-below (suc l) q (drop (suc i) (x .subtree)))
-      kids′ : times-below (suc l) q healed ≡ times-below (suc l) q (take i (x .subtree)) + ((hit q (y .entry .child) + times-below l q (r .nodes)) + times-below (suc l) q (drop (suc i) (x .subtree)))
+      subtrees : times-below (suc l) q (x .subtree) ≡ times-below (suc l) q (take i (x .subtree))
+          + ((hit q (y .entry .child) + times-below l q (y .subtree)) + times-below (suc l) q (drop (suc i) (x .subtree)))
+      kids′ : times-below (suc l) q healed ≡ times-below (suc l) q (take i (x .subtree))
+          + ((hit q (y .entry .child) + times-below l q (r .nodes)) + times-below (suc l) q (drop (suc i) (x .subtree)))
       same : times-below l q (r .nodes) + times-spare q (r .supply) ≡ times-below l q (y .subtree) + times-spare q S
       written : may l y X q ≤ hit q (y .entry .child) + times-below l q (y .subtree)
       most : hit q (x .entry .child) + times-below (suc l) q (x .subtree) + times-spare q S ≤ 1
@@ -203,7 +218,8 @@ module _ (half : ℕ) (_⊕_ : Pair → Pair → Pair) (t : ℕ) where
     shown′ =
         let p = x .entry .child in (
           g .frame p (let m = room p in omega (arith, hit-self p)) ∙ shown .0 ∙ ap (λ (es : List Entry). tree (suc l) es) (sym flat-healed),
-          splice-represented (suc l) (may l y X) (g .frame) i (shown .1) (all-more (g .shows) all-none) (λ q. let m = room q in omega arith),
+          splice-represented (suc l) (may l y X) (g .frame) i (shown .1) (all-more (g .shows) all-none)
+              (λ q. let m = room q in omega arith),
         )
 
     once′ : (q : ℕ) → times q (pages-under (suc (suc l)) x′) + times-spare q (r .supply) ≤ 1
@@ -236,8 +252,10 @@ module _ (half : ℕ) (_⊕_ : Pair → Pair → Pair) (t : ℕ) where
         let p = x .entry .child in
         let d : Healed (suc l) x′ Z (rebalance-x half _⊕_ l p i Z) (r .supply) (rebalance half _⊕_ l i healed (r .supply))
         (λ q. hit q p + (hit q (node-at (suc l) healed i .entry .child) + hit q (node-at (suc l) healed (sibling i) .entry .child))) =
-        turns half _⊕_ l x′ i Z (r .supply) (omega (arith, as-long, stocked-two l x stock)) (omega (arith, as-long, has-index (suc l) t x stock)) shown′ (g .supplied) once′ in
-        let w : (q : ℕ) → hit q p + (hit q (node-at (suc l) healed i .entry .child) + hit q (node-at (suc l) healed (sibling i) .entry .child)) ≤ now-may true q =
+        turns half _⊕_ l x′ i Z (r .supply) (omega (arith, as-long, stocked-two l x stock))
+        (omega (arith, as-long, has-index (suc l) t x stock)) shown′ (g .supplied) once′ in
+        let w : (q : ℕ) → hit q p
+        + (hit q (node-at (suc l) healed i .entry .child) + hit q (node-at (suc l) healed (sibling i) .entry .child)) ≤ now-may true q =
         λ q. omega (arith, same-child q i, same-child q (sibling i), may-here q l y X, times-cons q (z .entry .child) [], times-none q) in
         record {
           shows = d .shows;
@@ -286,7 +304,14 @@ module _ (half : ℕ) (_⊕_ : Pair → Pair → Pair) (t : ℕ) where
   heal-node-is (suc l) x X S shown stock s once =
       heal-up l x X S shown stock once
       (heal-node-is l (there (suc l) t (x .subtree)) X S (stores-on (suc l) t x stock X shown) (stocked-on (suc l) t x stock) s
-      (λ q. omega (arith, once q, under-suc (suc l) q x, below-at (suc l) q (index-of t (flat (x .subtree))) (x .subtree) (has-index (suc l) t x stock))))
+      (λ q.
+      omega (
+        arith,
+        once q,
+        under-suc (suc l) q x,
+        below-at (suc l) q (index-of t (flat (x .subtree))) (x .subtree)
+            (has-index (suc l) t x stock),
+      )))
 
 -- ---- from the root
 
@@ -307,8 +332,10 @@ heal-down half _⊕_ t X Y sh once stock =
     let Y′ : State = state l (Y .tree .root) (r .nodes) (r .supply) in
     let g : Healed l x X Z (Y .supply) r (may half _⊕_ t l x X) =
     heal-node-is half _⊕_ t l x X (Y .supply) (sh .below) stock (sh .supplied) (λ q. omega (arith, held-is q Y, once-is Y once q)) in
-    let same : (q : ℕ) → held q Y′ ≡ held q Y = λ q. omega (arith, held-is q Y, held-is q Y′, under-suc l q x, under-suc l q x′, g .pages q) in
-    let m : Collapsed Z (collapse-if-single-x _⊕_ Z) Y′ (collapse-if-single half _⊕_ l (Y .tree .root) (r .nodes) (r .supply)) (may half _⊕_ t l x X) =
+    let same : (q : ℕ) → held q Y′ ≡ held q Y =
+    λ q. omega (arith, held-is q Y, held-is q Y′, under-suc l q x, under-suc l q x′, g .pages q) in
+    let m : Collapsed Z (collapse-if-single-x _⊕_ Z) Y′ (collapse-if-single half _⊕_ l (Y .tree .root) (r .nodes) (r .supply))
+    (may half _⊕_ t l x X) =
     collapses half _⊕_ l x′ Z (r .supply) (may half _⊕_ t l x X)
     (ap (λ (f : Head). f .height) (g .head) ∙ sh .height)
     (ap (λ (f : Head). f .root) (g .head) ∙ sh .root)
@@ -332,7 +359,8 @@ heal-down half _⊕_ t X Y sh once stock =
     })
 
 -- END is on no path: the image stays as it is.
-pub heal-is : {B : Asked (Subtree 0)} (half : ℕ) (_⊕_ : Pair → Pair → Pair) (t : ℕ) (X : Image) (Y : State) → Represents X Y → Once Y → Full Y
+pub heal-is : {B : Asked (Subtree 0)} (half : ℕ) (_⊕_ : Pair → Pair → Pair) (t : ℕ) (X : Image) (Y : State) → Represents X Y
+    → Once Y → Full Y
     → Formed half B (Y .tree)
     → Stepped X (heal-x half _⊕_ t X) Y (heal half _⊕_ t Y) (heal-names half _⊕_ t X)
 unfolding path heal-names

@@ -100,14 +100,16 @@ module _ (l : ℕ) (x : Node (Subtree l)) (e : Entry) (c : e .child ≡ x .entry
   pub same-stores : (pages : ℕ → Cell) → Stores l pages x → Stores l pages (record { entry = e; subtree = x .subtree })
   same-stores = go l x c
     where
-      go : (l : ℕ) (x : Node (Subtree l)) → e .child ≡ x .entry .child → (pages : ℕ → Cell) → Stores l pages x → Stores l pages (record { entry = e; subtree = x .subtree })
+      go : (l : ℕ) (x : Node (Subtree l)) → e .child ≡ x .entry .child → (pages : ℕ → Cell) → Stores l pages x
+          → Stores l pages (record { entry = e; subtree = x .subtree })
       go zero x c pages s = unfold Stores in tt
       go (suc l) x c pages s = unfold Stores in (ap pages c ∙ s .0, s .1)
 
   pub same-under : (q : ℕ) → times q (pages-under l (record { entry = e; subtree = x .subtree })) ≡ times q (pages-under l x)
   same-under = go l x c
     where
-      go : (l : ℕ) (x : Node (Subtree l)) → e .child ≡ x .entry .child → (q : ℕ) → times q (pages-under l (record { entry = e; subtree = x .subtree })) ≡ times q (pages-under l x)
+      go : (l : ℕ) (x : Node (Subtree l)) → e .child ≡ x .entry .child → (q : ℕ)
+          → times q (pages-under l (record { entry = e; subtree = x .subtree })) ≡ times q (pages-under l x)
       go zero x c q = unfold pages-under in refl
       go (suc l) x c q = unfold pages-under in ap (λ (p : ℕ). times q (p ∷ concat-map (λ y. pages-under l y) (x .subtree))) c
 
@@ -154,7 +156,8 @@ supplied-move {X} {X′} {S} W e frame s h =
           frame q (omega (arith, h q, spare-from S q (omega (arith, s .mark)))) ∙ s .unused q (omega arith) (omega arith);
     }
 
-pub put-supplied : {X : Image} {S : Supply} (p : ℕ) (c : Cell) → Supplied X S → ((q : ℕ) → hit q p + times-spare q S ≤ 1) → Supplied (put p c X) S
+pub put-supplied : {X : Image} {S : Supply} (p : ℕ) (c : Cell) → Supplied X S → ((q : ℕ) → hit q p + times-spare q S ≤ 1)
+    → Supplied (put p c X) S
 put-supplied {X} p c s h = supplied-move (λ q. hit q p) (put-head p c X) (put-else p c X) s h
 
 pub spare-next : (q : ℕ) (S : Supply) → hit q (next-page S) + times-spare q (without-next S) ≡ times-spare q S
@@ -162,7 +165,8 @@ unfolding next-page without-next times-spare
 spare-next q S = go (S .chain) (S .mark)
   where
     go : (c : List ℕ) (m : ℕ)
-        → hit q (next-page (record { chain = c; mark = m })) + times-spare q (without-next (record { chain = c; mark = m })) ≡ times-spare q (record { chain = c; mark = m })
+        → hit q (next-page (record { chain = c; mark = m })) + times-spare q (without-next (record { chain = c; mark = m })) ≡
+        times-spare q (record { chain = c; mark = m })
     go [] m = omega (arith, hit-from q m, times-none q)
     go (p ∷ ps) m = omega (arith, times-cons q p ps)
 
@@ -186,10 +190,17 @@ pub taken-supplied : {X : Image} {S : Supply} → Supplied X S → Supplied (tak
 unfolding taken without-next with-supply
 taken-supplied {X} {S} s = go (S .chain) (S .mark) s
   where
-    go : (c : List ℕ) (m : ℕ) → Supplied X (record { chain = c; mark = m }) → Supplied (taken X) (without-next (record { chain = c; mark = m }))
+    go : (c : List ℕ) (m : ℕ) → Supplied X (record { chain = c; mark = m })
+        → Supplied (taken X) (without-next (record { chain = c; mark = m }))
     go [] m s =
         rw (eq-eqb (X .head .chain) 0 (s .length-true))
-        (record { length-true = s .length-true; linked = s .linked; mark = ap suc (s .mark); unused = λ q a b. s .unused q (omega arith) b })
+        (record {
+          length-true = s .length-true;
+          linked = s .linked;
+          mark = ap suc (s .mark);
+          unused =
+              λ q a b. s .unused q (omega arith) b;
+        })
     go (p ∷ ps) m s =
         rw (ne-eqb (X .head .chain) 0 (λ e. omega (arith, s .length-true)))
         (record { length-true = omega (arith, s .length-true); linked = linked-next (s .linked); mark = s .mark; unused = s .unused })
@@ -198,7 +209,8 @@ pub taken-lasting : (X : Image) → lasting (taken X .head) ≡ lasting (X .head
 unfolding taken lasting with-supply
 taken-lasting X = cond-one (λ (h : Head). lasting h ≡ lasting (X .head)) (eqb (X .head .chain) 0) (λ e. refl) (λ e. refl)
 
-pub given-supplied : {X : Image} {S : Supply} (p : ℕ) → Supplied X S → ((q : ℕ) → hit q p + times-spare q S ≤ 1) → Supplied (given-back p X) (with-page p S)
+pub given-supplied : {X : Image} {S : Supply} (p : ℕ) → Supplied X S → ((q : ℕ) → hit q p + times-spare q S ≤ 1)
+    → Supplied (given-back p X) (with-page p S)
 unfolding given-back with-page with-supply put
 given-supplied {X} {S} p s h =
     record {
@@ -207,7 +219,8 @@ given-supplied {X} {S} p s h =
           leads (put-at p (free (X .head .free)) X)
           (linked-move (λ q. hit q p) (put-else p (free (X .head .free)) X) (s .linked) (λ q. omega (arith, h q, spare-chain S q)));
       mark = s .mark;
-      unused = λ q m n. put-else p (free (X .head .free)) X q (omega (arith, h q, spare-from S q (omega (arith, s .mark)))) ∙ s .unused q m n;
+      unused = λ q m n. put-else p (free (X .head .free)) X q (omega (arith, h q, spare-from S q (omega (arith, s .mark))))
+          ∙ s .unused q m n;
     }
 
 pub spare-given : (q p : ℕ) (S : Supply) → times-spare q (with-page p S) ≡ hit q p + times-spare q S
@@ -220,7 +233,8 @@ given-lasting p X = refl
 
 pub given-else : (p : ℕ) (X : Image) → Frame (X .page) (given-back p X .page) (λ q. hit q p)
 unfolding given-back
-given-else p X q h = put-else p (free (X .head .free)) (record { head = with-supply p (suc (X .head .chain)) (X .head .mark) (X .head); page = X .page }) q h
+given-else p X q h =
+    put-else p (free (X .head .free)) (record { head = with-supply p (suc (X .head .chain)) (X .head .mark) (X .head); page = X .page }) q h
 
 pub rooted-supplied : {X : Image} {S : Supply} (h p : ℕ) → Supplied X S → Supplied (with-root h p X) S
 unfolding with-root

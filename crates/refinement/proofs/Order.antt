@@ -30,7 +30,8 @@ use Rattle.refinement.specs.Represents.{Stores, Represents, Once, Ordere
 use Rattle.refinement.proofs.Below.{node-at}
 use Rattle.refinement.proofs.Paths.{there, path-in, path-top, path-within}
 use Rattle.refinement.proofs.Stepped.{held-is, Stepped, steady-of-same}
-use Rattle.refinement.proofs.Combine.{over-ends, sent-in, sent-below, entry-same, new, combine-root, combine-represented, combine-held}
+use Rattle.refinement.proofs.Combine.{over-ends, sent-in, sent-below, entry-same, new, combine-root, combine-represented}
+use Rattle.refinement.proofs.Combine.{combine-held}
 
 -- ---- the entry that has t
 
@@ -51,22 +52,26 @@ module _ {A : Type 0} {Q : ℕ → ℕ → Node A → Type 0} where
   unfolding last-from
   last-none t i f done h = refl
   last-none t i f (more {lo} {mid} {hi} {x} {es} e k q r) h =
-      ap (λ (b : Bool). last-from t (suc i) (cond b i f) (flat es)) (lt-leb (x .entry .start) t (omega arith)) ∙ last-none t (suc i) f r (omega arith)
+      ap (λ (b : Bool). last-from t (suc i) (cond b i f) (flat es)) (lt-leb (x .entry .start) t (omega arith))
+      ∙ last-none t (suc i) f r (omega arith)
 
   -- the first of them does
-  last-some : (t i f g : ℕ) {lo hi : ℕ} {es : List (Node A)} → Seg Q lo hi es → lo ≤ t → t < hi → last-from t i f (flat es) ≡ last-from t i g (flat es)
+  last-some : (t i f g : ℕ) {lo hi : ℕ} {es : List (Node A)} → Seg Q lo hi es → lo ≤ t → t < hi
+      → last-from t i f (flat es) ≡ last-from t i g (flat es)
   unfolding last-from
   last-some t i f g done h k = absurd (omega arith)
   last-some t i f g (more {lo} {mid} {hi} {x} {es} e m q r) h k =
       let b : leb (x .entry .start) t ≡ true = le-leb (x .entry .start) t (omega arith) in
-      ap (λ (c : Bool). last-from t (suc i) (cond c i f) (flat es)) b ∙ sym (ap (λ (c : Bool). last-from t (suc i) (cond c i g) (flat es)) b)
+      ap (λ (c : Bool). last-from t (suc i) (cond c i f) (flat es)) b
+      ∙ sym (ap (λ (c : Bool). last-from t (suc i) (cond c i g) (flat es)) b)
 
 module _ (l t : ℕ) {Q : ℕ → ℕ → Node (Subtree l) → Type 0} {lo hi : ℕ} (x : Node (Subtree l)) {es : Nodes l} (r : Seg Q lo hi es) where
   there-first : t < lo → there l t (x ∷ es) ≡ x
   unfolding index-of last-from
   there-first h =
       ap (λ (n : ℕ). node-at l (x ∷ es) n)
-      (last-none t 1 (cond (leb (x .entry .start) t) 0 0) r h ∙ cond-one (λ (n : ℕ). n ≡ 0) (leb (x .entry .start) t) (λ e. refl) (λ e. refl))
+      (last-none t 1 (cond (leb (x .entry .start) t) 0 0) r h
+      ∙ cond-one (λ (n : ℕ). n ≡ 0) (leb (x .entry .start) t) (λ e. refl) (λ e. refl))
 
   there-later : lo ≤ t → t < hi → there l t (x ∷ es) ≡ there l t es
   unfolding index-of last-from
@@ -77,8 +82,10 @@ module _ (l t : ℕ) {Q : ℕ → ℕ → Node (Subtree l) → Type 0} {lo hi : 
 -- ---- pages that are not on the paths
 
 -- No page counts q if none of an entry does, told of the entry that it is the one that has the instants of its span.
-ends-zero : (l q : ℕ) (f : ℕ → Node (Subtree l) → List ℕ) {Q : ℕ → ℕ → Node (Subtree l) → Type 0} {lo hi : ℕ} {es : Nodes l} → Seg Q lo hi es
-    → ((a b : ℕ) (y : Node (Subtree l)) → Q a b y → y .entry .start ≡ a → lo ≤ a → a < b → b ≤ hi → ((t : ℕ) → a ≤ t → t < b → there l t es ≡ y) → times q (f b y) ≡ 0)
+ends-zero : (l q : ℕ) (f : ℕ → Node (Subtree l) → List ℕ) {Q : ℕ → ℕ → Node (Subtree l) → Type 0} {lo hi : ℕ} {es : Nodes l}
+    → Seg Q lo hi es
+    → ((a b : ℕ) (y : Node (Subtree l)) → Q a b y → y .entry .start ≡ a → lo ≤ a → a < b → b ≤ hi
+    → ((t : ℕ) → a ≤ t → t < b → there l t es ≡ y) → times q (f b y) ≡ 0)
     → times q (over-ends f hi es) ≡ 0
 unfolding over-ends
 ends-zero l q f done each = times-none q
@@ -87,7 +94,8 @@ ends-zero l q f (more {lo} {mid} {hi} {x} {es} e k p r) each =
     let a : times q (f (next-start hi (flat es)) x) ≡ 0 =
     rw (seg-start r) (each lo mid x p e (omega arith) k n (λ t _ h. there-first l t x r h)) in
     let b : times q (over-ends f hi es) ≡ 0 =
-    ends-zero l q f r (λ a b y p e h i m th. each a b y p e (omega arith) i m (λ t i j. there-later l t x r (omega arith) (omega arith) ∙ th t i j)) in
+    ends-zero l q f r (λ a b y p e h i m th. each a b y p e (omega arith) i m
+    (λ t i j. there-later l t x r (omega arith) (omega arith) ∙ th t i j)) in
     omega (arith, times-append q (f (next-start hi (flat es)) x) (over-ends f hi es))
 
 -- an entry that an effect is sent through has an end of the span inside
@@ -95,7 +103,8 @@ partly : (s e lo hi : ℕ) → inside s e lo hi ≡ false → overlaps s e lo hi
 unfolding inside overlaps
 partly s e lo hi = go (leb s lo) (leb hi e) (ltb lo e) (ltb s hi) refl refl refl refl
   where
-    go : (a b c d : Bool) → leb s lo ≡ a → leb hi e ≡ b → ltb lo e ≡ c → ltb s hi ≡ d → a && b ≡ false → c && d ≡ true → ((lo < s) × (s < hi)) ⊎ ((lo < e) × (e < hi))
+    go : (a b c d : Bool) → leb s lo ≡ a → leb hi e ≡ b → ltb lo e ≡ c → ltb s hi ≡ d → a && b ≡ false → c && d ≡ true
+        → ((lo < s) × (s < hi)) ⊎ ((lo < e) × (e < hi))
     go a b true true i j k m x y = ends a b i j x
       where
         ends : (a b : Bool) → leb s lo ≡ a → leb hi e ≡ b → a && b ≡ false → ((lo < s) × (s < hi)) ⊎ ((lo < e) × (e < hi))
@@ -111,7 +120,9 @@ module _ (s e q : ℕ) where
   Off t l lo hi x = lo < t → t < hi → times q (path-in t l x) ≡ 0
 
   abbrev Clear : (l : ℕ) → Type 0
-  Clear l = (lo hi : ℕ) (x : Node (Subtree l)) → Ordered l lo hi x → x .entry .start ≡ lo → lo < hi → Off s l lo hi x → Off e l lo hi x → times q (sent-in s e l hi x) ≡ 0
+  Clear l =
+      (lo hi : ℕ) (x : Node (Subtree l)) → Ordered l lo hi x → x .entry .start ≡ lo → lo < hi → Off s l lo hi x → Off e l lo hi x
+      → times q (sent-in s e l hi x) ≡ 0
 
   below-clear : (l lo hi : ℕ) (es : Nodes l) → Seg (λ a b y. Ordered l a b y) lo hi es → Clear l
       → Off s l lo hi (there l s es)
@@ -137,7 +148,9 @@ module _ (s e q : ℕ) where
   sent-clear zero lo hi x o st k off-s off-e = times-none q
   sent-clear (suc l) lo hi x o st k off-s off-e =
       let below = sent-below s e l hi (x .subtree) in
-      let b : times q below ≡ 0 = below-clear l lo hi (x .subtree) o (λ lo hi x. sent-clear l lo hi x) (off-below s l lo hi x off-s) (off-below e l lo hi x off-e) in
+      let b : times q below ≡ 0 =
+      below-clear l lo hi (x .subtree) o (λ lo hi x. sent-clear l lo hi x) (off-below s l lo hi x off-s)
+      (off-below e l lo hi x off-e) in
       let none : (ps : List ℕ) → Type 0 = λ ps. times q ps ≡ 0 in
       rw st
       (cond-one none (inside s e lo hi) (λ h. times-none q)
@@ -152,7 +165,8 @@ module _ (s e q : ℕ) where
 
 module _ (_⊕_ : Pair → Pair → Pair) (s e : ℕ) (effect : Pair) where
   -- an effect from hi on, or later, alters no entry
-  new-same : (l : ℕ) {Q : ℕ → ℕ → Node (Subtree l) → Type 0} {lo hi : ℕ} {es : Nodes l} → Seg Q lo hi es → hi ≤ s → flat (new _⊕_ s e effect l hi es) ≡ flat es
+  new-same : (l : ℕ) {Q : ℕ → ℕ → Node (Subtree l) → Type 0} {lo hi : ℕ} {es : Nodes l} → Seg Q lo hi es → hi ≤ s
+      → flat (new _⊕_ s e effect l hi es) ≡ flat es
   unfolding with-ends took inside
   new-same l done h = refl
   new-same l (more {lo} {mid} {hi} {x} {es} st k q r) h =
@@ -177,7 +191,8 @@ module _ (_⊕_ : Pair → Pair → Pair) (s e : ℕ) (effect : Pair) where
     missed : (q t : ℕ) → times q (path t X) ≡ 0 → t < END → hit q (Y .tree .root) + times q (path-in t l (there l t es)) ≡ 0
     unfolding path-in root-node
     missed q t z h =
-        sym (times-cons q (Y .tree .root) (path-in t l (there l t es))) ∙ ap (λ (ps : List ℕ). times q ps) (sym (path-top t X Y sh stock h)) ∙ z
+        sym (times-cons q (Y .tree .root) (path-in t l (there l t es)))
+        ∙ ap (λ (ps : List ℕ). times q ps) (sym (path-top t X Y sh stock h)) ∙ z
 
     -- the root keeps its entries under an effect from END on
     root-same : END ≤ s → combine-span-x _⊕_ s e effect X .page (Y .tree .root) ≡ X .page (Y .tree .root)
@@ -192,7 +207,9 @@ module _ (_⊕_ : Pair → Pair → Pair) (s e : ℕ) (effect : Pair) where
     combine-frame q a b = go (hit q (Y .tree .root)) refl (le-or-lt END s)
       where
         u : times q U ≡ 0
-        u = below-clear s e q l 0 END es order (sent-clear s e q l) (λ i j. omega (arith, missed q s a j)) (λ i j. omega (arith, missed q e b j))
+        u =
+            below-clear s e q l 0 END es order (sent-clear s e q l) (λ i j. omega (arith, missed q s a j))
+            (λ i j. omega (arith, missed q e b j))
 
         elsewhere : hit q (Y .tree .root) ≡ 0 → combine-span-x _⊕_ s e effect X .page q ≡ X .page q
         elsewhere z = combine-root _⊕_ s e effect X Y sh once .frame q (omega (arith, u, times-cons q (Y .tree .root) U))
@@ -208,7 +225,8 @@ pub combine-is : (half : ℕ) (_⊕_ : Pair → Pair → Pair) (s e : ℕ) (effe
     → Stepped X (combine-span-x _⊕_ s e effect X) Y (combine-span _⊕_ s e effect Y) (combine-names half _⊕_ s e X)
 unfolding combine-names
 combine-is half _⊕_ s e effect X Y sh once stock order =
-    let both : (q : ℕ) → times q (path s X ++ path e X) ≡ times q (path s X) + times q (path e X) = λ q. times-append q (path s X) (path e X) in
+    let both : (q : ℕ) → times q (path s X ++ path e X) ≡ times q (path s X) + times q (path e X) =
+    λ q. times-append q (path s X) (path e X) in
     record {
       shown = combine-represented _⊕_ s e effect X Y sh once;
       same-held = combine-held _⊕_ s e effect X Y sh once;

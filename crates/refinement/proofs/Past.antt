@@ -29,7 +29,8 @@ record Among {A : Type 0} (Q : Asked A) (hi : ℕ) (y : Node A) : Type 0 where
   starts : y .entry .start < end
   ends : end ≤ hi
 
-among : {A : Type 0} {Q : Asked A} {lo hi : ℕ} {es : List (Node A)} (i : ℕ) (d : Node A) → Seg Q lo hi es → i < length es → Among Q hi (getD es i d)
+among : {A : Type 0} {Q : Asked A} {lo hi : ℕ} {es : List (Node A)} (i : ℕ) (d : Node A) → Seg Q lo hi es → i < length es
+    → Among Q hi (getD es i d)
 among i d done h = absurd (omega arith)
 among zero d (more {lo} {mid} e k q r) h = record { lo = lo; end = mid; holds = q; starts = omega arith; ends = seg-le r }
 among (suc i) d (more e k q r) h = among i d r (omega arith)
@@ -49,7 +50,8 @@ module _ (half : ℕ) (_⊕_ : Pair → Pair → Pair) (t : ℕ) where
       let es = flat (x .subtree) in
       let i = index-of t es in
       let a = among i (no-node 0) r (has-index 0 t x k) in
-      let st : eqb (at es i .start) t ≡ false = rw (at-flat 0 (x .subtree) i) (ne-eqb (there 0 t (x .subtree) .entry .start) t (λ e. omega (arith, a .starts, a .ends))) in
+      let st : eqb (at es i .start) t ≡ false =
+      rw (at-flat 0 (x .subtree) i) (ne-eqb (there 0 t (x .subtree) .entry .start) t (λ e. omega (arith, a .starts, a .ends))) in
       rw (entries-are 0 X x shown, off (ltb 0 i) (eqb (at es i .start) t) (same-pair (at es i .pair) (at es (i - 1) .pair)) st)
 
   -- one level up: the page below is not short
@@ -61,11 +63,13 @@ module _ (half : ℕ) (_⊕_ : Pair → Pair → Pair) (t : ℕ) where
   past-up l x X shown k least below =
       let y = there (suc l) t (x .subtree) in
       let p = y .entry .child in
-      let n : length (entries X p) ≡ length (y .subtree) = ap length (entries-are l X y (stores-on (suc l) t x k X shown)) ∙ length-map (y .subtree) (λ z. z .entry) in
+      let n : length (entries X p) ≡ length (y .subtree) = ap length (entries-are l X y (stores-on (suc l) t x k X shown))
+      ∙ length-map (y .subtree) (λ z. z .entry) in
       let long : ltb (length (entries X p)) half ≡ false = le-ltb (length (entries X p)) half (omega arith) in
       rw (entries-are (suc l) X x shown, at-flat (suc l) (x .subtree) (index-of t (flat (x .subtree))), below, long)
 
-  past-page : (B : Asked (Subtree 0)) (l lo hi : ℕ) (x : Node (Subtree (suc l))) (X : Image) → Stores (suc l) (X .page) x → Stocked (suc l) x
+  past-page : (B : Asked (Subtree 0)) (l lo hi : ℕ) (x : Node (Subtree (suc l))) (X : Image) → Stores (suc l) (X .page) x
+      → Stocked (suc l) x
       → Seg (λ a b y. Shaped half B l a b y) lo hi (x .subtree)
       → hi ≤ t
       → heal-page half _⊕_ t l (x .entry .child) X ≡ X
@@ -74,11 +78,13 @@ module _ (half : ℕ) (_⊕_ : Pair → Pair → Pair) (t : ℕ) where
   past-page B (suc l) lo hi x X shown k r h =
       let a = among (index-of t (flat (x .subtree))) (no-node (suc l)) r (has-index (suc l) t x k) in
       past-up l x X shown k (a .holds .0 .least)
-      (past-page B l (a .lo) (a .end) (there (suc l) t (x .subtree)) X (stores-on (suc l) t x k X shown) (stocked-on (suc l) t x k) (a .holds .1)
+      (past-page B l (a .lo) (a .end) (there (suc l) t (x .subtree)) X (stores-on (suc l) t x k X shown) (stocked-on (suc l) t x k)
+      (a .holds .1)
       (omega (arith, a .ends)))
 
   -- the root stays
-  stays : (l : ℕ) (x : Node (Subtree (suc l))) (X : Image) → X .head .height ≡ suc l → X .head .root ≡ x .entry .child → Stores (suc l) (X .page) x
+  stays : (l : ℕ) (x : Node (Subtree (suc l))) (X : Image) → X .head .height ≡ suc l → X .head .root ≡ x .entry .child
+      → Stores (suc l) (X .page) x
       → Stocked (suc l) x
       → collapse-if-single-x _⊕_ X ≡ X
   unfolding collapse-if-single-x Stocked root-least
@@ -90,7 +96,8 @@ module _ (half : ℕ) (_⊕_ : Pair → Pair → Pair) (t : ℕ) where
       let two : 2 ≤ m = omega (arith, n, k .0) in
       rw (lt-ltb 1 (X .head .height) (omega arith), ne-eqb m 1 (λ (e : m ≡ 1). omega arith))
 
-  pub heal-past : {B : Asked (Subtree 0)} (X : Image) (Y : State) → Represents X Y → Full Y → Formed half B (Y .tree) → END ≤ t → heal-x half _⊕_ t X ≡ X
+  pub heal-past : {B : Asked (Subtree 0)} (X : Image) (Y : State) → Represents X Y → Full Y → Formed half B (Y .tree) → END ≤ t
+      → heal-x half _⊕_ t X ≡ X
   unfolding heal-x root-node Full
   heal-past {B} X Y sh k f h =
       let l = Y .tree .level in

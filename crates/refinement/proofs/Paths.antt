@@ -26,11 +26,13 @@ use Rattle.tree.proofs.Find.{index-inside}
 use Rattle.refinement.specs.Represents.{Stores, Represents, Stocked, Full}
 use Rattle.refinement.proofs.Below.{node-at, under-zero, under-suc, below-at}
 
-pub entries-are : (l : ℕ) (X : Image) (x : Node (Subtree (suc l))) → Stores (suc l) (X .page) x → entries X (x .entry .child) ≡ flat (x .subtree)
+pub entries-are : (l : ℕ) (X : Image) (x : Node (Subtree (suc l))) → Stores (suc l) (X .page) x
+    → entries X (x .entry .child) ≡ flat (x .subtree)
 unfolding Stores entries entries-in
 entries-are l X x s = ap entries-in (s .0)
 
-pub subtrees-represented : (l : ℕ) (X : Image) (x : Node (Subtree (suc l))) → Stores (suc l) (X .page) x → All (λ y. Stores l (X .page) y) (x .subtree)
+pub subtrees-represented : (l : ℕ) (X : Image) (x : Node (Subtree (suc l))) → Stores (suc l) (X .page) x
+    → All (λ y. Stores l (X .page) y) (x .subtree)
 unfolding Stores
 subtrees-represented l X x s = s .1
 
@@ -67,17 +69,20 @@ unfoldable pub path-in : ℕ → (l : ℕ) → Node (Subtree l) → List ℕ
 path-in t zero x = []
 path-in t (suc l) x = x .entry .child ∷ path-in t l (there l t (x .subtree))
 
-pub path-is : (t l : ℕ) (X : Image) (x : Node (Subtree (suc l))) → Stocked (suc l) x → Stores (suc l) (X .page) x → path-from t l (x .entry .child) X ≡ path-in t (suc l) x
+pub path-is : (t l : ℕ) (X : Image) (x : Node (Subtree (suc l))) → Stocked (suc l) x → Stores (suc l) (X .page) x
+    → path-from t l (x .entry .child) X ≡ path-in t (suc l) x
 unfolding path-from path-in
 path-is t zero X x k s = refl
 path-is t (suc l) X x k s =
     let y = there (suc l) t (x .subtree) in
-    let e : at (entries X (x .entry .child)) (index-of t (entries X (x .entry .child))) ≡ y .entry = rw (entries-are (suc l) X x s) (at-flat (suc l) (x .subtree) (index-of t (flat (x .subtree)))) in
+    let e : at (entries X (x .entry .child)) (index-of t (entries X (x .entry .child))) ≡ y .entry =
+    rw (entries-are (suc l) X x s) (at-flat (suc l) (x .subtree) (index-of t (flat (x .subtree)))) in
     ap (λ (b : Entry). x .entry .child ∷ path-from t l (b .child) X) e
     ∙ ap (λ (r : List ℕ). x .entry .child ∷ r) (path-is t l X y (stocked-on (suc l) t x k) (stores-on (suc l) t x k X s))
 
 -- what starts at the root of an image starts at the root of the tree that it shows
-pub from-root : {A : Type 0} {X : Image} {Y : State} → Represents X Y → (f : ℕ → ℕ → A) → f (X .head .height - 1) (X .head .root) ≡ f (Y .tree .level) (Y .tree .root)
+pub from-root : {A : Type 0} {X : Image} {Y : State} → Represents X Y → (f : ℕ → ℕ → A)
+    → f (X .head .height - 1) (X .head .root) ≡ f (Y .tree .level) (Y .tree .root)
 from-root {A} {X} {Y} sh f =
     let e : X .head .height - 1 ≡ Y .tree .level = omega (arith, sh .height) in
     ap (λ (n : ℕ). f n (X .head .root)) e ∙ ap (λ (p : ℕ). f (Y .tree .level) p) (sh .root)
@@ -89,7 +94,8 @@ unfolding root-node Full
 path-down t X Y sh k = from-root sh (λ n p. path-from t n p X) ∙ path-is t (Y .tree .level) X (root-node (Y .tree)) k (sh .below)
 
 -- it is the one to t, unless t is END
-pub path-top : (t : ℕ) (X : Image) (Y : State) → Represents X Y → Full Y → t < END → path t X ≡ path-in t (suc (Y .tree .level)) (root-node (Y .tree))
+pub path-top : (t : ℕ) (X : Image) (Y : State) → Represents X Y → Full Y → t < END
+    → path t X ≡ path-in t (suc (Y .tree .level)) (root-node (Y .tree))
 unfolding path
 path-top t X Y sh k h = rw (lt-leb END t h) (path-down t X Y sh k)
 
@@ -103,13 +109,21 @@ path-below q t zero x k = omega (arith, times-none q, under-zero q x)
 path-below q t (suc l) x k =
     let y = there l t (x .subtree) in
     let r : times q (path-in t l y) ≤ times q (pages-under l y) = path-below q t l y (stocked-on l t x k) in
-    omega (arith, times-cons q (x .entry .child) (path-in t l y), under-suc l q x, below-at l q (index-of t (flat (x .subtree))) (x .subtree) (has-index l t x k))
+    omega (
+      arith,
+      times-cons q (x .entry .child) (path-in t l y),
+      under-suc l q x,
+      below-at l q (index-of t (flat (x .subtree)))
+          (x .subtree) (has-index l t x k),
+    )
 
-pub path-held : (q t : ℕ) (Y : State) → Full Y → times q (path-in t (suc (Y .tree .level)) (root-node (Y .tree))) ≤ times q (pages-under (suc (Y .tree .level)) (root-node (Y .tree)))
+pub path-held : (q t : ℕ) (Y : State) → Full Y
+    → times q (path-in t (suc (Y .tree .level)) (root-node (Y .tree))) ≤ times q (pages-under (suc (Y .tree .level)) (root-node (Y .tree)))
 unfolding Full
 path-held q t Y k = path-below q t (suc (Y .tree .level)) (root-node (Y .tree)) k
 
-pub path-within : (q t : ℕ) (X : Image) (Y : State) → Represents X Y → Full Y → times q (path t X) ≤ times q (pages-under (suc (Y .tree .level)) (root-node (Y .tree)))
+pub path-within : (q t : ℕ) (X : Image) (Y : State) → Represents X Y → Full Y
+    → times q (path t X) ≤ times q (pages-under (suc (Y .tree .level)) (root-node (Y .tree)))
 unfolding path
 path-within q t X Y sh k =
     cond-one (λ (ps : List ℕ). times q ps ≤ times q (pages-under (suc (Y .tree .level)) (root-node (Y .tree)))) (leb END t)

@@ -23,13 +23,15 @@ use Rattle.tree.specs.Cut.{Cutting, not-split, split, split-if-full}
 use Rattle.tree.specs.Conserved.{times-below, times-spare}
 use Rattle.refinement.specs.Represents.{Stores, Supplied}
 use Rattle.refinement.proofs.Below.{under-suc, below-cons, below-one, below-halves}
-use Rattle.refinement.proofs.Moves.{Frame, put-else, stores-move, all-stores, put-stores, lasting, put-supplied, spare-next, spare-is, taken-supplied, taken-lasting}
+use Rattle.refinement.proofs.Moves.{Frame, put-else, stores-move, all-stores, put-stores, lasting, put-supplied, spare-next}
+use Rattle.refinement.proofs.Moves.{spare-is, taken-supplied, taken-lasting}
 use Rattle.tree.specs.Counts.{later}
 use Rattle.refinement.proofs.Taking.{firsts, firsts-none, firsts-more}
 
 -- What the cut of an entry does to an image and to the tree that it shows. Before counts the pages that were below the entry, W
 -- those that may be written besides pages taken.
-pub record Entry-cut (l : ℕ) (e : Entry) (X : Image) (S : Supply) (before W : ℕ → ℕ) (r : CuttingX) (r′ : Cutting (Subtree l)) : Type 0 where
+pub record Entry-cut (l : ℕ) (e : Entry) (X : Image) (S : Supply) (before W : ℕ → ℕ) (r : CuttingX) (r′ : Cutting (Subtree l)) : Type
+    0 where
   pub took : ℕ
   pub same : r .became ≡ flat (r′ .became)
   pub some : 1 ≤ length (r′ .became)
@@ -86,7 +88,9 @@ module _ (half l : ℕ) (x : Node (Subtree (suc l))) (es : Nodes l) (Z : Image) 
   abbrev Z₃ : Image
   Z₃ = put (next-page R) (tree l (flat right)) Z₂
 
-  room : (q : ℕ) → hit q (x .entry .child) + (times-below l q left + times-below l q right) + (hit q (next-page R) + times-spare q (without-next R)) ≤ 1
+  room : (q : ℕ)
+      → hit q (x .entry .child) + (times-below l q left + times-below l q right)
+      + (hit q (next-page R) + times-spare q (without-next R)) ≤ 1
   room q = omega (arith, once q, below-halves l q half es, spare-next q R)
 
   taken-represented : All (λ v. Stores l (Z₁ .page) v) es
@@ -101,7 +105,8 @@ module _ (half l : ℕ) (x : Node (Subtree (suc l))) (es : Nodes l) (Z : Image) 
   right-represented : Stores (suc l) (Z₃ .page) z
   right-represented =
       put-stores l Z₂ (z .entry) right
-      (all-stores l (λ q. hit q (x .entry .child)) (put-else (x .entry .child) (tree l (flat left)) Z₁) (all-drop half taken-represented) (λ q. omega (arith, room q)))
+      (all-stores l (λ q. hit q (x .entry .child)) (put-else (x .entry .child) (tree l (flat left)) Z₁)
+      (all-drop half taken-represented) (λ q. omega (arith, room q)))
       (λ q. omega (arith, room q))
 
   split-supplied : Supplied Z₃ (without-next R)
@@ -127,7 +132,16 @@ module _ (half l : ℕ) (x : Node (Subtree (suc l))) (es : Nodes l) (Z : Image) 
         rest = refl;
         supplied = split-supplied;
         pages =
-            λ q. omega (arith, below-cons (suc l) q y (z ∷ []), below-one (suc l) q z, under-suc l q y, under-suc l q z, below-halves l q half es, one-taken q);
+            λ q. omega (
+              arith,
+              below-cons (suc l) q y (z ∷ []),
+              below-one (suc l) q z,
+              under-suc l q y,
+              under-suc l q z,
+              below-halves
+                  l q half es,
+              one-taken q,
+            );
         frame =
             λ q h. put-else (next-page R) (tree l (flat right)) Z₂ q (omega (arith, h, one-taken q))
             ∙ put-else (x .entry .child) (tree l (flat left)) Z₁ q (omega arith)
@@ -137,7 +151,8 @@ module _ (half l : ℕ) (x : Node (Subtree (suc l))) (es : Nodes l) (Z : Image) 
             ∙ taken-lasting Z;
       })
 
-  pub splits-if-full : Entry-cut (suc l) (x .entry) Z R (λ q. hit q (x .entry .child) + times-below l q es) (λ q. hit q (x .entry .child)) (split-if-full-x half l (x .entry) (flat es) Z) (split-if-full half x es R)
+  pub splits-if-full : Entry-cut (suc l) (x .entry) Z R (λ q. hit q (x .entry .child) + times-below l q es)
+      (λ q. hit q (x .entry .child)) (split-if-full-x half l (x .entry) (flat es) Z) (split-if-full half x es R)
   unfolding split-if-full-x split-if-full
   splits-if-full =
       cond-both Settles

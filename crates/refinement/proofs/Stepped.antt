@@ -102,11 +102,13 @@ absent q (p ∷ ps) h =
     none zero e = e
     none (suc n) e = absurd (h (List·Memᴰ·head (hit-is q p (omega arith))))
 
-pub unnamed : {X X′ : Image} {Y Y′ : State} {names : List ℕ} → Stepped X X′ Y Y′ names → (q : ℕ) → ¬ List·Memᴰ q names → X′ .page q ≡ X .page q
+pub unnamed : {X X′ : Image} {Y Y′ : State} {names : List ℕ} → Stepped X X′ Y Y′ names → (q : ℕ) → ¬ List·Memᴰ q names
+    → X′ .page q ≡ X .page q
 unnamed {names = names} d q h = d .frame q (absent q names h)
 
 -- the pages held are the root, those below it, and those of the supply
-pub held-is : (q : ℕ) (Y : State) → held q Y ≡ times q (pages-under (suc (Y .tree .level)) (root-node (Y .tree))) + times-spare q (Y .supply)
+pub held-is : (q : ℕ) (Y : State)
+    → held q Y ≡ times q (pages-under (suc (Y .tree .level)) (root-node (Y .tree))) + times-spare q (Y .supply)
 unfolding held root-node
 held-is q Y =
     let T = Y .tree in

@@ -29,7 +29,8 @@ pub firsts-more : (q k : ℕ) (S : Supply) → times q (firsts (suc k) S) ≡ ti
 unfolding firsts later
 firsts-more q zero S = omega (arith, times-cons q (next-page S) [], times-none q)
 firsts-more q (suc k) S =
-    let r : times q (firsts (suc k) (without-next S)) ≡ times q (firsts k (without-next S)) + hit q (next-page (later k (without-next S))) = firsts-more q k (without-next S) in
+    let r : times q (firsts (suc k) (without-next S)) ≡ times q (firsts k (without-next S))
+    + hit q (next-page (later k (without-next S))) = firsts-more q k (without-next S) in
     omega (arith, times-cons q (next-page S) (firsts (suc k) (without-next S)), times-cons q (next-page S) (firsts k (without-next S)))
 
 pub firsts-add : (q j k : ℕ) (S : Supply) → times q (firsts (j + k) S) ≡ times q (firsts k S) + times q (firsts j (later k S))
@@ -43,7 +44,8 @@ pub later-held : (q k : ℕ) (S : Supply) → times q (firsts k S) + times-spare
 unfolding firsts later
 later-held q zero S = omega (arith, times-none q)
 later-held q (suc k) S =
-    let r : times q (firsts k (without-next S)) + times-spare q (later k (without-next S)) ≡ times-spare q (without-next S) = later-held q k (without-next S) in
+    let r : times q (firsts k (without-next S)) + times-spare q (later k (without-next S)) ≡ times-spare q (without-next S) =
+    later-held q k (without-next S) in
     omega (arith, times-cons q (next-page S) (firsts k (without-next S)), spare-next q S)
 
 pub spares-are : (k : ℕ) {X : Image} {S : Supply} → Supplied X S → spares k X ≡ firsts k S

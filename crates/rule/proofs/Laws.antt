@@ -24,7 +24,8 @@ pair-eq e f = λ i. record { sum = e i; count = f i }
 
 pub same-pair-is : (p q : Pair) → (same-pair p q ≡ true) ↔ (p ≡ q)
 unfolding same-pair
-same-pair-is p q = (λ t. pair-eq (fields .0 t .0) (fields .0 t .1), λ e. fields .1 (ap (λ (r : Pair). r .sum) e, ap (λ (r : Pair). r .count) e))
+same-pair-is p q =
+    (λ t. pair-eq (fields .0 t .0) (fields .0 t .1), λ e. fields .1 (ap (λ (r : Pair). r .sum) e, ap (λ (r : Pair). r .count) e))
   where
     fields : (same-pair p q ≡ true) ↔ ((p .sum ≡ q .sum) × (p .count ≡ q .count))
     fields =
@@ -93,7 +94,9 @@ module _ (best : ℤ → ℤ → ℤ) where
 
   module _ (choice : Best best) where
     better-comm : (p q : Pair) → p ⊕ q ≡ q ⊕ p
-    better-comm p q = ⊎-elim (λ e. rw e (unit-left q ∙ sym (unit-right q))) (λ x. ⊎-elim (λ f. rw f (unit-right p ∙ sym (unit-left p))) (both-some x) (none-or q)) (none-or p)
+    better-comm p q =
+        ⊎-elim (λ e. rw e (unit-left q ∙ sym (unit-right q)))
+        (λ x. ⊎-elim (λ f. rw f (unit-right p ∙ sym (unit-left p))) (both-some x) (none-or q)) (none-or p)
       where
         both-some : same-pair p none ≡ false → same-pair q none ≡ false → p ⊕ q ≡ q ⊕ p
         both-some x y = better-some p q x y ∙ pair-eq (choice .comm (p .sum) (q .sum)) refl ∙ sym (better-some q p y x)
@@ -121,7 +124,8 @@ abbrev of-tests : Bool → Bool → Pair → Pair → Pair
 of-tests x y p q = cond x (added p q) (cond y (better greater p q) (better lesser p q))
 
 -- what holds of the better of any choice holds of kinds 2 and 3
-pub by-choice {ℓ} : (P : (Pair → Pair → Pair) → Type ℓ) → ((best : ℤ → ℤ → ℤ) → Best best → P (better best)) → (kind : ℕ) → eqb kind 1 ≡ false → P (combine kind)
+pub by-choice {ℓ} : (P : (Pair → Pair → Pair) → Type ℓ) → ((best : ℤ → ℤ → ℤ) → Best best → P (better best)) → (kind : ℕ)
+    → eqb kind 1 ≡ false → P (combine kind)
 unfolding combine
 by-choice P b kind e = subst⁻¹ (λ (x : Bool). P (of-tests x (eqb kind 2))) e (go (eqb kind 2))
   where
@@ -130,7 +134,8 @@ by-choice P b kind e = subst⁻¹ (λ (x : Bool). P (of-tests x (eqb kind 2))) e
     go false = b lesser least
 
 -- and what holds of adding too, of every kind
-pub by-kind {ℓ} : (P : (Pair → Pair → Pair) → Type ℓ) → P added → ((best : ℤ → ℤ → ℤ) → Best best → P (better best)) → (kind : ℕ) → P (combine kind)
+pub by-kind {ℓ} : (P : (Pair → Pair → Pair) → Type ℓ) → P added → ((best : ℤ → ℤ → ℤ) → Best best → P (better best)) → (kind : ℕ)
+    → P (combine kind)
 unfolding combine
 by-kind P a b kind = go (eqb kind 1) refl
   where
@@ -149,7 +154,8 @@ combine-left kind p q e = rw (same-pair-is p none .0 e) (sym (lawful kind .unit 
 pub combine-right : (kind : ℕ) (p q : Pair) → same-pair q none ≡ true → p ≡ combine kind p q
 combine-right kind p q e = rw (same-pair-is q none .0 e) (sym (lawful kind .comm p none ∙ lawful kind .unit p))
 
-pub combine-some : (kind : ℕ) (p q : Pair) → eqb kind 1 ≡ false → same-pair p none ≡ false → same-pair q none ≡ false → value-of (λ a b. cond (eqb kind 2) (greater a b) (lesser a b)) p q ≡ combine kind p q
+pub combine-some : (kind : ℕ) (p q : Pair) → eqb kind 1 ≡ false → same-pair p none ≡ false → same-pair q none ≡ false
+    → value-of (λ a b. cond (eqb kind 2) (greater a b) (lesser a b)) p q ≡ combine kind p q
 unfolding combine better
 combine-some kind p q k e f = rw (k, e, f) (go (eqb kind 2))
   where
@@ -163,7 +169,8 @@ combine-some kind p q k e f = rw (k, e, f) (go (eqb kind 2))
 pub best-bound : {best : ℤ → ℤ → ℤ} → Best best → (a b : ℤ) → natAbs (best a b) ≤ max (natAbs a) (natAbs b)
 best-bound {best} choice a b = ⊎-elim (λ e. rw e (omega arith)) (λ e. rw e (omega arith)) (choice .picks a b)
 
-pub better-sum-bound : {best : ℤ → ℤ → ℤ} → Best best → (p q : Pair) → natAbs (better best p q .sum) ≤ max (natAbs (p .sum)) (natAbs (q .sum))
+pub better-sum-bound : {best : ℤ → ℤ → ℤ} → Best best → (p q : Pair)
+    → natAbs (better best p q .sum) ≤ max (natAbs (p .sum)) (natAbs (q .sum))
 better-sum-bound {best} choice p q =
     better-is best (λ r. natAbs (r .sum) ≤ max (natAbs (p .sum)) (natAbs (q .sum))) p q (omega arith) (omega arith)
     (best-bound choice (p .sum) (q .sum))
@@ -217,7 +224,8 @@ value-or-none-is p =
 pub value-or-none-bound : (p : Pair) → value-or-none p ≡ true → (natAbs (p .sum) ≤ most-value) × (natAbs (p .count) ≤ 1)
 value-or-none-bound p t = ⊎-elim (λ e. rw e (omega arith)) (λ h. (h .0, rw (h .1) (omega arith))) (value-or-none-is p .0 t)
 
-pub combine-value-or-none : (kind : ℕ) (p q : Pair) → eqb kind 1 ≡ false → value-or-none p ≡ true → value-or-none q ≡ true → value-or-none (combine kind p q) ≡ true
+pub combine-value-or-none : (kind : ℕ) (p q : Pair) → eqb kind 1 ≡ false → value-or-none p ≡ true → value-or-none q ≡ true
+    → value-or-none (combine kind p q) ≡ true
 combine-value-or-none kind p q k a b =
     by-choice (λ rule. value-or-none (rule p q) ≡ true)
     (λ best choice. better-is best (λ r. value-or-none r ≡ true) p q a b

@@ -1,7 +1,8 @@
 -- Rounding: `nearest` is the whole number nearest n / d, a half up, and the code's way leads to it. Assumes nothing.
 use Prim.Native.Nat.{ℕ, suc, _+_, _*_, _/_, _≤_, _<_}
 use mathlib.Core.Path.{_≡_, refl, sym, ap, _∙_}
-use native.Mathlib.Nat.{div-mul-le-self, div-le-self, lt-div-mul-add, div-eq-of-lt-le, mul-assoc, mul-left-comm, add-mul, one-mul, not-suc-le-zero}
+use native.Mathlib.Nat.{div-mul-le-self, div-le-self, lt-div-mul-add, div-eq-of-lt-le, mul-assoc, mul-left-comm, add-mul, one-mul}
+use native.Mathlib.Nat.{not-suc-le-zero}
 use native.Mathlib.Omega.{arith}
 use mathlib.Core.Bool.{Bool, true, false, not, _||_, true≢false}
 use lib.Dec.{eqb}
@@ -18,7 +19,8 @@ use Rattle.rule.proofs.Signed.{sfits-natAbs, natAbs-neg, natAbs-add, na
 
 -- the products of the definition and of the two bounds, as multiples of k * d
 abbrev Products : ℕ → ℕ → Type 0
-Products k d = (k * (2 * d) ≡ 2 * (k * d)) × (2 * k * d ≡ 2 * (k * d)) × ((2 * k + 1) * d ≡ 2 * k * d + d) × ((k + 1) * (2 * d) ≡ k * (2 * d) + 2 * d)
+Products k d =
+    (k * (2 * d) ≡ 2 * (k * d)) × (2 * k * d ≡ 2 * (k * d)) × ((2 * k + 1) * d ≡ 2 * k * d + d) × ((k + 1) * (2 * d) ≡ k * (2 * d) + 2 * d)
 
 products : (k d : ℕ) → Products k d
 products k d = (mul-left-comm k 2 d, mul-assoc 2 k d, rw (add-mul, one-mul), rw (add-mul, one-mul))
@@ -114,7 +116,8 @@ module _ (kind : ℕ) (p : Pair) where
   unfolding average
   average-beyond e h = rw (e, lt-ltb most-sum (natAbs (p .sum)) h)
 
-  pub average-shown : no-average kind p ≡ false → natAbs (p .sum) ≤ most-sum → Hundredths (hundredths (p .sum) (natAbs (p .count))) ≡ average kind p
+  pub average-shown : no-average kind p ≡ false → natAbs (p .sum) ≤ most-sum
+      → Hundredths (hundredths (p .sum) (natAbs (p .count))) ≡ average kind p
   unfolding average
   average-shown e h = rw (e, le-ltb most-sum (natAbs (p .sum)) h)
 

@@ -17,7 +17,7 @@ pub fn same_pair(p: Pair, q: Pair) -> bool
 }
 
 // Whether nothing counts.
-pub fn is_none(p: Pair) -> bool
+fn is_none(p: Pair) -> bool
     ensures { λ r. ⌜ r ≡ same-pair p none ⌝ }
 {
     same_pair(p, Pair { sum: 0, count: 0 })

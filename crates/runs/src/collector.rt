@@ -7,7 +7,7 @@ ghost use Prim.Native.Nat.{_<_};
 ghost use Rattle.runs.specs.Open.{stepped};
 
 // The collector's step: the open run is updated behind its reference.
-pub fn step(run: &mut Run, start: u32, pair: Pair)
+fn step(run: &mut Run, start: u32, pair: Pair)
     requires { ⌜ now run .written < 4294967295 ⌝ }
     ensures { λ _. ⌜ now (run .exit) ≡ stepped (now (run .entry)) (record { start = start; pair = pair }) ⌝ }
 {

@@ -17,7 +17,7 @@ ghost use Rattle.image.specs.Listing.{run-bytes};
 ghost use Rattle.runs.specs.Open.{goes-on, output-after};
 
 // Writes a run at its offset: "16 bytes each: start (u32), count (i32), sum (i64)".
-pub fn put_run(out: &mut [u8], at: usize, start: u32, pair: Pair)
+fn put_run(out: &mut [u8], at: usize, start: u32, pair: Pair)
     requires { ⌜ 16 * at + 16 ≤ length (now out) ⌝ }
     ensures { λ _. ⌜ now (out .exit) ≡ patch (now (out .entry)) (16 * at) (run-bytes (record { start = start; pair = pair })) ⌝ }
 {

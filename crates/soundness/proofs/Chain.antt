@@ -1,5 +1,5 @@
--- A chain that ends has no page twice: how many pages it has from a page on is fixed by that page. And a list of free pages that was not cut
--- off is a chain that ends. Assumes nothing.
+-- A chain that ends has no page twice: how many pages it has from a page on is fixed by that page. And a list of free pages that was not
+-- cut off is a chain that ends. Assumes nothing.
 use mathlib.Core.Path.{_≡_, refl, ap}
 use mathlib.Core.Bool.{true, cond, and-eq-true-iff}
 use mathlib.Core.List.{List, [], _∷_}

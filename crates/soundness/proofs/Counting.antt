@@ -14,7 +14,8 @@ use Rattle.soundness.specs.Counting.{chain-ends, sound-by-counting}
 use Rattle.lists.proofs.Times.{count-of-once, once-of-count}
 use Rattle.soundness.proofs.Tree.{tree-some}
 use Rattle.soundness.proofs.Chain.{link, Among, Chain, chain-listed, listed-ends}
-use Rattle.soundness.proofs.Sound.{the-head, the-tree, the-chain, Fit-image, fit-image, never-passes, Sound-facts, sound-facts, facts-sound}
+use Rattle.soundness.proofs.Sound.{the-head, the-tree, the-chain, Fit-image, fit-image, never-passes, Sound-facts, sound-facts}
+use Rattle.soundness.proofs.Sound.{facts-sound}
 use Rattle.soundness.proofs.Used.{tree-within, chain-within, used-once}
 
 -- what soundness by counting says, by name, and back
@@ -58,7 +59,8 @@ module _ {half : ℕ} {img : List ℕ} where
       once zero l h = absurd (omega arith)
       once (suc i) l h =
           once-of-count (the-head half img .mark - 1) (the-tree half img) (the-chain half img) (tree-within (f .fit))
-          (chain-within (f .fit) free) (used-once (f .fit) free (λ p. chain p .most)) (omega (arith, f .count, chain 0 .long)) i (omega arith)
+          (chain-within (f .fit) free) (used-once (f .fit) free (λ p. chain p .most)) (omega (arith, f .count, chain 0 .long)) i
+          (omega arith)
 
   -- Pages that are there once each are as many as lie below the mark; so the chain's list was not cut off, and the chain ends.
   pub sound-counted : Sound-facts half img → Counting-facts half img

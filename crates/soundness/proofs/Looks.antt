@@ -64,7 +64,8 @@ module _ (half : ℕ) (img : List ℕ) (q : ℕ) where
   unfolding chain-looks
   chain-inside zero p h = absurd (omega (arith, h, times-none q))
   chain-inside (suc k) p h =
-      go (leb 1 p) (ltb p (pages-in half img)) (free-ok half (page-at half img p)) refl refl (chain-inside k (next-of (page-at half img p))) h
+      go (leb 1 p) (ltb p (pages-in half img)) (free-ok half (page-at half img p)) refl refl
+      (chain-inside k (next-of (page-at half img p))) h
     where
       next : List ℕ
       next = chain-looks half img k (next-of (page-at half img p))
@@ -144,7 +145,8 @@ chain-looked half img (suc most) (suc k) p l e =
 -- ---- a sound image
 
 module _ (half : ℕ) (img : List ℕ) (fits : sound half img ≡ true) where
-  looks-are : audit-looks half img ≡ the-tree half img ++ (the-chain half img ++ from (the-head half img .mark) (pages-in half img - the-head half img .mark))
+  looks-are : audit-looks half img ≡
+      the-tree half img ++ (the-chain half img ++ from (the-head half img .mark) (pages-in half img - the-head half img .mark))
   unfolding audit-looks
   looks-are =
       let c = sound-counted (sound-facts half img fits) in

@@ -48,7 +48,8 @@ tree-test half img =
     tree-fit half (the-head half img) img (the-head half img .height - 1) (root-context (the-head half img)) (the-head half img .root)
 
 abbrev pub never-test : ℕ → List ℕ → Bool
-never-test half img = every (pages-in half img - the-head half img .mark) (λ i. never-used-ok (page-at half img (the-head half img .mark + i)))
+never-test half img =
+    every (pages-in half img - the-head half img .mark) (λ i. never-used-ok (page-at half img (the-head half img .mark + i)))
 
 -- the length is in range, head and tree are fit, and all is FF from the high mark on
 pub record Fit-image (half : ℕ) (img : List ℕ) : Type 0 where

@@ -50,7 +50,8 @@ module _ (half : ℕ) (h : Head) (img : List ℕ) where
   up-to-fewer [] = omega arith
   up-to-fewer (v ∷ vs) = go (finds-fit half h img v) (up-to-fewer vs)
     where
-      go : (c : Bool) → length (up-to-unfit half h img vs) ≤ length vs → length (v ∷ cond c (up-to-unfit half h img vs) []) ≤ suc (length vs)
+      go : (c : Bool) → length (up-to-unfit half h img vs) ≤ length vs
+          → length (v ∷ cond c (up-to-unfit half h img vs) []) ≤ suc (length vs)
       go true r = omega arith
       go false r = omega arith
 
@@ -96,7 +97,8 @@ module _ (half : ℕ) (h : Head) (img : List ℕ) where
     where
       go : (c : Bool) → times p (found-fit half h img (up-to-unfit half h img vs)) ≤ times p (found-fit half h img vs)
           → times p
-          (cond c (v .page ∷ found-fit half h img (cond c (up-to-unfit half h img vs) [])) (found-fit half h img (cond c (up-to-unfit half h img vs) [])))
+          (cond c (v .page ∷ found-fit half h img (cond c (up-to-unfit half h img vs) []))
+          (found-fit half h img (cond c (up-to-unfit half h img vs) [])))
           ≤ times p (cond c (v .page ∷ found-fit half h img vs) (found-fit half h img vs))
       go true r = omega arith
       go false r = omega arith
@@ -119,7 +121,8 @@ module _ (half : ℕ) (h : Head) (img : List ℕ) where
   all-each zero t f r = refl
   all-each (suc n) t f r = (λ j. all-each n t f r j && r n j) ∙ sym (all-fit-append half h img (each-in-turn n f) (f n))
 
-  pub tree-looks : (l : ℕ) (at : Page-context) (q : ℕ) → tree-fit half h img l at q ≡ all-fit half h img (visits half h img every-entry l at q)
+  pub tree-looks : (l : ℕ) (at : Page-context) (q : ℕ)
+      → tree-fit half h img l at q ≡ all-fit half h img (visits half h img every-entry l at q)
   unfolding tree-fit all-fit visits finds-fit every-entry
   tree-looks zero at q = go (page-fit half h at (page-at half img q))
     where
@@ -127,7 +130,8 @@ module _ (half : ℕ) (h : Head) (img : List ℕ) where
       go true = refl
       go false = refl
   tree-looks (suc l) at q =
-      go (λ i. tree-looks l (context-below half (page-at half img q) at i) (child-at half (page-at half img q) i)) (page-fit half h at (page-at half img q))
+      go (λ i. tree-looks l (context-below half (page-at half img q) at i) (child-at half (page-at half img q) i))
+      (page-fit half h at (page-at half img q))
     where
       s : List ℕ
       s = page-at half img q
@@ -177,7 +181,8 @@ module _ (half : ℕ) (h : Head) (img : List ℕ) where
       looks : ℕ → List Visit
       looks i = cond (into at s i) (under i) []
 
-      one : (i : ℕ) (c : Bool) → (1 ≤ times p (pages-of (under i)) → (1 ≤ p) × (p < h .pages)) → 1 ≤ times p (pages-of (cond c (under i) []))
+      one : (i : ℕ) (c : Bool) → (1 ≤ times p (pages-of (under i)) → (1 ≤ p) × (p < h .pages))
+          → 1 ≤ times p (pages-of (cond c (under i) []))
           → (1 ≤ p) × (p < h .pages)
       one i true r m = r m
       one i false r m = absurd (omega arith)
@@ -210,10 +215,12 @@ module _ (half : ℕ) (img : List ℕ) (fits : head-test half img ≡ true) wher
 
   module _ (into : Page-context → List ℕ → ℕ → Bool) where
     placed : (p : ℕ)
-        → Placed (times p (found-fit half (the-head half img) img (all-visits half img into))) p (page-at half img p) (suc (the-head half img .height - 1))
+        → Placed (times p (found-fit half (the-head half img) img (all-visits half img into))) p (page-at half img p)
+        (suc (the-head half img .height - 1))
         (root-context (the-head half img) .lo) (root-context (the-head half img) .hi) (the-head half img .pages)
     placed p =
-        visits-placed half (the-head half img) img p into (the-head half img .height - 1) (root-context (the-head half img)) (the-head half img .root)
+        visits-placed half (the-head half img) img p into (the-head half img .height - 1) (root-context (the-head half img))
+        (the-head half img .root)
         (unfold root-context in refl) (facts .root-least) (omega (arith, facts .pages-is, facts .root-below))
 
     pub found-short : length (found-fit half (the-head half img) img (all-visits half img into)) < pages-in half img
@@ -234,7 +241,8 @@ module _ (half : ℕ) (img : List ℕ) (fits : head-test half img ≡ true) wher
     unfolding trail
     trail-in p m =
         let k : (1 ≤ p) × (p < the-head half img .pages) =
-        visits-in half (the-head half img) img into p (the-head half img .height - 1) (root-context (the-head half img)) (the-head half img .root)
+        visits-in half (the-head half img) img into p (the-head half img .height - 1) (root-context (the-head half img))
+        (the-head half img .root)
         (unfold root-context in refl) (facts .root-least) (omega (arith, facts .pages-is, facts .root-below))
         (omega (arith, up-to-pages half (the-head half img) img p (all-visits half img into))) in
         omega (arith, k, facts .pages-is)

@@ -34,7 +34,12 @@ pub record Placed (k p : ℕ) (s : List ℕ) (l lo hi pages : ℕ) : Type 0 wher
 
 nowhere : (p : ℕ) (s : List ℕ) (l lo hi pages : ℕ) → Placed 0 p s l lo hi pages
 nowhere p s l lo hi pages =
-    record { held = record { most = omega arith; inside = λ h. absurd (omega arith) }; low = λ h. absurd (omega arith); inside = λ h. absurd (omega arith) }
+    record {
+      held = record { most = omega arith; inside = λ h. absurd (omega arith) };
+      low = λ h. absurd (omega arith);
+      inside =
+          λ h. absurd (omega arith);
+    }
 
 -- ---- what the definitions say at a page with pages below it
 
@@ -60,7 +65,8 @@ tree-top half h img l at q t = page-fit-is half h at (page-at half img q) .0 (to
 
 module _ (half : ℕ) (img : List ℕ) (l q : ℕ) (m : entry-count (page-at half img q) ≤ capacity half) where
   tree-more : tree-pages half img (suc l) q
-      ≡ q ∷ concat-map (λ e. tree-pages half img l (e .child)) (listed (entry-count (page-at half img q)) (λ i. entry-at half (page-at half img q) i))
+      ≡ q ∷ concat-map (λ e. tree-pages half img l (e .child))
+      (listed (entry-count (page-at half img q)) (λ i. entry-at half (page-at half img q) i))
   unfolding tree-pages entries-of
   tree-more =
       let s : List ℕ = page-at half img q in
@@ -76,7 +82,8 @@ module _ (half : ℕ) (img : List ℕ) (l q : ℕ) (m : entry-count (page-at hal
       ap (times p) tree-more
       ∙ times-cons p q _
       ∙ ap (λ k. hit p q + k)
-      (times-concat-map (λ e. tree-pages half img l (e .child)) (λ i. entry-at half (page-at half img q) i) (entry-count (page-at half img q)) p)
+      (times-concat-map (λ e. tree-pages half img l (e .child)) (λ i. entry-at half (page-at half img q) i)
+      (entry-count (page-at half img q)) p)
 
   pub tree-length : length (tree-pages half img (suc l) q)
       ≡ suc (total (entry-count (page-at half img q)) (λ i. length (tree-pages half img l (child-at half (page-at half img q) i))))
@@ -84,7 +91,8 @@ module _ (half : ℕ) (img : List ℕ) (l q : ℕ) (m : entry-count (page-at hal
   tree-length =
       ap length tree-more
       ∙ ap suc
-      (concat-map-length (λ e. tree-pages half img l (e .child)) (λ i. entry-at half (page-at half img q) i) (entry-count (page-at half img q)))
+      (concat-map-length (λ e. tree-pages half img l (e .child)) (λ i. entry-at half (page-at half img q) i)
+      (entry-count (page-at half img q)))
 
 -- ---- what the looks below a page's entries find, one after the other
 
@@ -171,7 +179,8 @@ module _ (half : ℕ) (h : Head) (img : List ℕ) (p : ℕ) where
       s : List ℕ
       s = page-at half img p
 
-      go : (c : Bool) → page-fit half h at (page-at half img q) ≡ c → Placed (times p (cond c (q ∷ []) [])) p s 1 (at .lo) (at .hi) (h .pages)
+      go : (c : Bool) → page-fit half h at (page-at half img q) ≡ c
+          → Placed (times p (cond c (q ∷ []) [])) p s 1 (at .lo) (at .hi) (h .pages)
       go true f = top zero q 0 at (page-fit-is half h at (page-at half img q) .0 f) e a b (nowhere p s zero (at .lo) (at .hi) (h .pages))
       go false f = nowhere p s 1 (at .lo) (at .hi) (h .pages)
   visits-placed into (suc l) at q e a b =
@@ -185,15 +194,18 @@ module _ (half : ℕ) (h : Head) (img : List ℕ) (p : ℕ) where
       looks i = cond (into at s i) (visits half h img into l (context-below half s at i) (child-at half s i)) []
 
       one : (i : ℕ) (c : Bool)
-          → Placed (times p (found-fit half h img (visits half h img into l (context-below half s at i) (child-at half s i)))) p (page-at half img p) (suc l)
+          → Placed (times p (found-fit half h img (visits half h img into l (context-below half s at i) (child-at half s i)))) p
+          (page-at half img p) (suc l)
           (start-at s i) (end-at s (at .hi) i) (h .pages)
-          → Placed (times p (found-fit half h img (cond c (visits half h img into l (context-below half s at i) (child-at half s i)) []))) p (page-at half img p)
+          → Placed (times p (found-fit half h img
+          (cond c (visits half h img into l (context-below half s at i) (child-at half s i)) []))) p (page-at half img p)
           (suc l) (start-at s i) (end-at s (at .hi) i) (h .pages)
       one i true r = r
       one i false r = nowhere p (page-at half img p) (suc l) (start-at s i) (end-at s (at .hi) i) (h .pages)
 
       go : ((i : ℕ) → at .level - 1 ≡ l → 1 ≤ child-at half s i → child-at half s i < h .pages
-          → Placed (times p (found-fit half h img (visits half h img into l (context-below half s at i) (child-at half s i)))) p (page-at half img p) (suc l)
+          → Placed (times p (found-fit half h img (visits half h img into l (context-below half s at i) (child-at half s i)))) p
+          (page-at half img p) (suc l)
           (start-at s i) (end-at s (at .hi) i) (h .pages))
           → (c : Bool) → page-fit half h at s ≡ c
           → Placed

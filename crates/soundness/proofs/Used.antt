@@ -1,4 +1,5 @@
--- The pages that the tree and the chain use: all below the high mark, a tree page at one place, and none a tree page and free. Assumes nothing.
+-- The pages that the tree and the chain use: all below the high mark, a tree page at one place, and none a tree page and free. Assumes
+-- nothing.
 use mathlib.Core.Path.{_≡_, refl}
 use mathlib.Core.Bool.{true}
 use mathlib.Core.List.{List}
@@ -17,10 +18,12 @@ use Rattle.soundness.proofs.Sound.{the-head, the-tree, the-chain, Fit-i
 
 module _ {half : ℕ} {img : List ℕ} (f : Fit-image half img) where
   placed : (p : ℕ)
-      → Placed (times p (the-tree half img)) p (page-at half img p) (suc (the-head half img .height - 1)) (root-context (the-head half img) .lo)
+      → Placed (times p (the-tree half img)) p (page-at half img p) (suc (the-head half img .height - 1))
+      (root-context (the-head half img) .lo)
       (root-context (the-head half img) .hi) (the-head half img .pages)
   placed p =
-      tree-placed half (the-head half img) img p (the-head half img .height - 1) (root-context (the-head half img)) (the-head half img .root)
+      tree-placed half (the-head half img) img p (the-head half img .height - 1) (root-context (the-head half img))
+      (the-head half img .root)
       (unfold root-context in refl) (f .head .root-least) (omega arith) (f .tree)
 
   -- a page of the tree

@@ -5,13 +5,18 @@ use Rattle.rule.specs.Time.{span-ok, value-ok, kind-ok, window-ok, effect-end, 
 use Rattle.rule.specs.Pairs.{same-number, same-pair, added, greater, lesser, better, combine}
 use Rattle.page.specs.Entries.{last-from, index-of, inserted, push}
 use Rattle.lists.specs.Lists.{splice}
-use Rattle.image.specs.Images.{page-at, pages-in, length-ok, entries-in, next-in, cell-of, cell-bytes, image-of, image-bytes, fresh-page, fresh}
+use Rattle.image.specs.Images.{page-at, pages-in, length-ok, entries-in, next-in, cell-of, cell-bytes, image-of, image-bytes, fresh-page}
+use Rattle.image.specs.Images.{fresh}
 use Rattle.steps.specs.Supply.{entries, put, with-supply, spare, taken, given-back, spares, pages-taken, with-root, count-change}
 use Rattle.steps.specs.Cut.{cut-leaf-entry, not-split, split, split-if-full, cut-entry, root-entry, grow-root, grow-if-split, cut}
 use Rattle.steps.specs.Combine.{inside, next-start, took, sent, combine-entries, combine-over, combine-page, combine-span}
-use Rattle.steps.specs.Heal.{heals, short, sibling, left-of, pushed, joint, redistribute, merge, collapse-root, collapse-if-single, rebalance, heal-page, heal}
-use Rattle.steps.specs.Change.{cuts, lacks-pages, path-from, path, change, cut-names, combine-names, siblings-used, heal-names, change-names}
-use Rattle.steps.specs.Cases.{enter, withdraw, enter-names, withdraw-names, one, grown as grown′, collapsed as collapsed′, split-below, redistributed-left, before-merge, merged, four-entries, end-apart, giver-left, no-giver, giver-right, three-levels}
+use Rattle.steps.specs.Heal.{heals, short, sibling, left-of, pushed, joint, redistribute, merge, collapse-root, collapse-if-single}
+use Rattle.steps.specs.Heal.{rebalance, heal-page, heal}
+use Rattle.steps.specs.Change.{cuts, lacks-pages, path-from, path, change, cut-names, combine-names, siblings-used, heal-names}
+use Rattle.steps.specs.Change.{change-names}
+use Rattle.steps.specs.Cases.{enter, withdraw, enter-names, withdraw-names, one, grown as grown′, collapsed as collapsed′}
+use Rattle.steps.specs.Cases.{split-below, redistributed-left, before-merge, merged, four-entries, end-apart, giver-left, no-giver}
+use Rattle.steps.specs.Cases.{giver-right, three-levels}
 
 pub cases : Cases
 unfolding span-ok value-ok kind-ok window-ok effect-end covers same-number same-pair added greater lesser better combine last-from index-of splice inserted push page-at pages-in length-ok entries-in next-in cell-of cell-bytes image-of image-bytes fresh-page fresh entries put with-supply spare taken given-back spares pages-taken with-root count-change cut-leaf-entry not-split split split-if-full cut-entry root-entry grow-root grow-if-split cut inside overlaps next-start took sent combine-entries combine-over combine-page combine-span heals short sibling left-of pushed joint redistribute merge collapse-root collapse-if-single rebalance heal-page heal cuts lacks-pages path-from path change cut-names combine-names siblings-used heal-names change-names enter withdraw enter-names withdraw-names one grown′ collapsed′ split-below redistributed-left before-merge merged four-entries end-apart giver-left no-giver giver-right three-levels

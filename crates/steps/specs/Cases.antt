@@ -1,4 +1,5 @@
--- Cases of the five steps that compute, on images of pages of four entries (half of which is 2): the definitions' own test. Assumes nothing.
+-- Cases of the five steps that compute, on images of pages of four entries (half of which is 2): the definitions' own test. Assumes
+-- nothing.
 use Prim.Native.Nat.{ℕ}
 use mathlib.Core.Path.{_≡_}
 use mathlib.Core.Bool.{true, false}
@@ -62,8 +63,7 @@ unfoldable pub end-apart : Image
 end-apart = enter (pos 1) 5 8 (enter (pos 1) 2 4 (fresh 4 1 0))
 
 -- Pages that will be rebalanced with a sibling that no path leads to: page 2, between pages 1 and 4, with page 1, which can give or not;
--- page 1,
--- the first, with page 4, which can give.
+-- page 1, the first, with page 4, which can give.
 unfoldable pub giver-left : Image
 giver-left = enter (pos 1) 10 11 (enter (pos 1) 23 24 (enter (pos 1) 17 19 (enter (pos 1) 9 20 (fresh 6 1 0))))
 

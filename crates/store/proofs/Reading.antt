@@ -74,7 +74,8 @@ module _ {img : List ℕ} {X : Image} {l p : ℕ} (h : Encodes img X) (t : Tree-
     pub lent-slot : {i : ℕ} (instant : ℕ) → i ≡ index-of instant (entries-of 12 s) → i ≡ index-of instant (entries X p)
     lent-slot instant e = e ∙ ap (index-of instant) (lent-read .entries)
 
-module _ {img : List ℕ} {X : Image} {l p t : ℕ} (h : Encodes img X) (k : Searchable l p t X) {s : List ℕ} (same : s ≡ page-at 12 img p) where
+module _ {img : List ℕ} {X : Image} {l p t : ℕ} (h : Encodes img X) (k : Searchable l p t X) {s : List ℕ}
+    (same : s ≡ page-at 12 img p) where
   start-is : (i : ℕ) → i < length (entries X p) → start-at s i ≡ at (entries X p) i .start
   unfolding entry-at
   start-is i n = ap (λ (e : Entry). e .start) (lent-entry h (k .tree-page) same i n)

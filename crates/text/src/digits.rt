@@ -20,7 +20,7 @@ fn all_digits(ds: &[u8]) -> bool
 }
 
 // Whether a field is a number, whose length is tested before its bytes are looked at.
-pub fn number_read(ds: &[u8]) -> bool
+pub(crate) fn number_read(ds: &[u8]) -> bool
     ensures { λ r. ⌜ r ≡ number-read (now (ds .entry)) ⌝ }
 {
     let n = ds.len();
@@ -34,7 +34,7 @@ pub fn number_read(ds: &[u8]) -> bool
 }
 
 // The number: ten digits can't wrap a u64.
-pub fn number_from(ds: &[u8]) -> u64
+pub(crate) fn number_from(ds: &[u8]) -> u64
     requires { ⌜ number-read (now ds) ≡ true ⌝ }
     ensures { λ r. ⌜ (r ≡ number-from 0 (now (ds .entry))) × (r < 10 ^ 10) ⌝ }
 {

@@ -7,7 +7,7 @@ ghost use mathlib.Core.Bool.{true};
 ghost use Rattle.calls.specs.Program.{instant-read, value-read, value-from};
 
 // Document 01: "s and e at most END"
-pub fn instant_read(ds: &[u8]) -> bool
+pub(crate) fn instant_read(ds: &[u8]) -> bool
     ensures { λ r. ⌜ r ≡ instant-read (now (ds .entry)) ⌝ }
 {
     if !number_read(ds) {
@@ -17,7 +17,7 @@ pub fn instant_read(ds: &[u8]) -> bool
 }
 
 // Document 01: "v may have a minus"
-pub fn value_read(v: &[u8]) -> bool
+pub(crate) fn value_read(v: &[u8]) -> bool
     ensures { λ r. ⌜ r ≡ value-read (now (v .entry)) ⌝ }
 {
     if v.len() == 0 {
@@ -30,7 +30,7 @@ pub fn value_read(v: &[u8]) -> bool
 }
 
 // The value: ten digits and a minus fit an i64.
-pub fn value_from(ds: &[u8]) -> i64
+pub(crate) fn value_from(ds: &[u8]) -> i64
     requires { ⌜ value-read (now ds) ≡ true ⌝ }
     ensures { λ r. ⌜ r ≡ value-from (now (ds .entry)) ⌝ }
 {

@@ -50,7 +50,7 @@ fn signed_line(sign: &[u8], v: &[u8], s: &[u8], e: &[u8]) -> Parsed
 }
 
 // A line of any length: the booking that it is, or that it is "any other form". Exactly three spaces part four fields.
-pub fn parse(line: &[u8]) -> Parsed
+pub(crate) fn parse(line: &[u8]) -> Parsed
     ensures { λ r. ⌜ line-of r ≡ line-from (cut-at 32 (now (line .entry))) ⌝ }
 {
     let n = line.len();

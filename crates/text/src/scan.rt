@@ -4,7 +4,7 @@ ghost use lib.ListN.{length};
 ghost use Rattle.text.specs.Reading.{Found};
 
 // The offset of the first byte b at `from` or behind it, or the length if there is none.
-pub fn find_byte(s: &[u8], b: u8, from: usize) -> usize
+pub(crate) fn find_byte(s: &[u8], b: u8, from: usize) -> usize
     requires { ⌜ from ≤ length (now s) ⌝ }
     ensures { λ r. ⌜ Found (now (s .entry)) b from r ⌝ }
 {

@@ -33,7 +33,8 @@ module _ {A : Type 0} (f : ℕ → Node A → Node A) where
 
   module _ (starts : (h : ℕ) (x : Node A) → f h x .entry .start ≡ x .entry .start) {Q : Asked A} where
     pub ends-seg : {R : Asked A} {lo hi : ℕ} {es : List (Node A)}
-        → ((a b : ℕ) (x : Node A) → x .entry .start ≡ a → a < b → Q a b x → R a b (f b x)) → Seg Q lo hi es → Seg R lo hi (with-ends f hi es)
+        → ((a b : ℕ) (x : Node A) → x .entry .start ≡ a → a < b → Q a b x → R a b (f b x)) → Seg Q lo hi es
+        → Seg R lo hi (with-ends f hi es)
     unfolding with-ends
     ends-seg each done = done
     ends-seg {R} {lo} each (more {mid} {x} e lt q r) =
@@ -80,7 +81,9 @@ module _ (s e a b : ℕ) where
     apart-covers : Apart s a b → Apart e a b → inside s e a b ≡ false → covers s e u ≡ false
     apart-covers p q h =
         fails (covers s e u) (covers-is s e u) .1
-        (λ k. fails (inside s e a b) inside-is .0 h (⊎-elim (λ (x : b ≤ s). absurd (omega arith)) (λ x. x) p, ⊎-elim (λ x. x) (λ (x : e ≤ a). absurd (omega arith)) q))
+        (λ k.
+        fails (inside s e a b) inside-is .0 h
+        (⊎-elim (λ (x : b ≤ s). absurd (omega arith)) (λ x. x) p, ⊎-elim (λ x. x) (λ (x : e ≤ a). absurd (omega arith)) q))
 
 module _ (_⊕_ : Pair → Pair → Pair) (s e : ℕ) (effect : Pair) where
   infixl 60 _⊕_
@@ -92,7 +95,8 @@ module _ (_⊕_ : Pair → Pair → Pair) (s e : ℕ) (effect : Pair) where
       go true = refl
       go false = refl
 
-      by-level : (l : ℕ) (x : Node (Subtree l)) → took _⊕_ s e effect h (x .entry) .start ≡ x .entry .start → combine-node _⊕_ s e effect l h x .entry .start ≡ x .entry .start
+      by-level : (l : ℕ) (x : Node (Subtree l)) → took _⊕_ s e effect h (x .entry) .start ≡ x .entry .start
+          → combine-node _⊕_ s e effect l h x .entry .start ≡ x .entry .start
       by-level zero x p = p
       by-level (suc l) x p = p
 
@@ -103,7 +107,12 @@ module _ (_⊕_ : Pair → Pair → Pair) (s e : ℕ) (effect : Pair) where
     unfolding combine-node took Shaped
     combine-shaped zero a b x q = go (inside s e (x .entry .start) b)
       where
-        go : (z : Bool) → B a b (record { entry = cond z (entry (x .entry .start) (x .entry .pair ⊕ effect) (x .entry .child)) (x .entry); subtree = tt })
+        go : (z : Bool)
+            → B a b (record {
+              entry =
+                  cond z (entry (x .entry .start) (x .entry .pair ⊕ effect) (x .entry .child)) (x .entry);
+              subtree = tt;
+            })
         go true = any .any-pair a b x (x .entry .pair ⊕ effect) q
         go false = q
     combine-shaped (suc l) a b x q =
@@ -137,12 +146,15 @@ module _ (_⊕_ : Pair → Pair → Pair) (s e : ℕ) (effect : Pair) where
 
   -- the list below, if each of its entries is effected
   combine-list : (l : ℕ) {Q : Asked (Subtree l)} {lo hi : ℕ} {es : Nodes l} (u : ℕ)
-      → ((a b : ℕ) (x : Node (Subtree l)) → x .entry .start ≡ a → a < b → a ≤ u → u < b → Q a b x → Effected u (pair-under _⊕_ l u x) (pair-under _⊕_ l u (combine-node _⊕_ s e effect l b x)))
+      → ((a b : ℕ) (x : Node (Subtree l)) → x .entry .start ≡ a → a < b → a ≤ u → u < b → Q a b x
+      → Effected u (pair-under _⊕_ l u x) (pair-under _⊕_ l u (combine-node _⊕_ s e effect l b x)))
       → Seg Q lo hi es → lo ≤ u → u < hi
       → Effected u (pair-in _⊕_ l u es) (pair-in _⊕_ l u (with-ends (λ h y. combine-node _⊕_ s e effect l h y) hi es))
   combine-list l u each r low high =
       subst₂ (Effected u) (sym (pair-in-look _⊕_ l u none r (omega arith) low))
-      (sym (pair-in-look _⊕_ l u none (ends-seg (λ h y. combine-node _⊕_ s e effect l h y) (combine-start l) {R = λ a b y. Unit {0}} (λ a b y p lt k. tt) r) (omega arith) low))
+      (sym (pair-in-look _⊕_ l u none
+      (ends-seg (λ h y. combine-node _⊕_ s e effect l h y) (combine-start l) {R = λ a b y. Unit {0}} (λ a b y p lt k. tt) r)
+      (omega arith) low))
       (ends-look (λ h y. combine-node _⊕_ s e effect l h y) (combine-start l) (pair-under _⊕_ l u) (Effected u) u none none each r low high)
 
   module _ (lawful : Lawful _⊕_) where
@@ -156,7 +168,8 @@ module _ (_⊕_ : Pair → Pair → Pair) (s e : ℕ) (effect : Pair) where
         go true = sym (lawful .assoc p q effect)
         go false = refl
 
-    module _ (half : ℕ) {B : Asked (Subtree 0)} (apart : (lo hi : ℕ) (x : Node (Subtree 0)) → B lo hi x → Apart s lo hi × Apart e lo hi) where
+    module _ (half : ℕ) {B : Asked (Subtree 0)} (apart : (lo hi : ℕ) (x : Node (Subtree 0)) → B lo hi x → Apart s lo hi
+        × Apart e lo hi) where
       combine-under : (l b : ℕ) (x : Node (Subtree l)) (u : ℕ) → x .entry .start ≤ u → u < b → Shaped half B l (x .entry .start) b x
           → Effected u (pair-under _⊕_ l u x) (pair-under _⊕_ l u (combine-node _⊕_ s e effect l b x))
       unfolding combine-node took Shaped pair-under pair-in
@@ -165,7 +178,8 @@ module _ (_⊕_ : Pair → Pair → Pair) (s e : ℕ) (effect : Pair) where
           a : ℕ
           a = x .entry .start
 
-          go : (z : Bool) → inside s e a b ≡ z → Effected u (x .entry .pair) (cond z (entry a (x .entry .pair ⊕ effect) (x .entry .child)) (x .entry) .pair)
+          go : (z : Bool) → inside s e a b ≡ z
+              → Effected u (x .entry .pair) (cond z (entry a (x .entry .pair ⊕ effect) (x .entry .child)) (x .entry) .pair)
           go true h = took-effect u (x .entry .pair) (inside-covers s e a b u low high h)
           go false h =
               let k = apart a b x q in
@@ -186,12 +200,17 @@ module _ (_⊕_ : Pair → Pair → Pair) (s e : ℕ) (effect : Pair) where
           below = with-ends (λ h y. combine-node _⊕_ s e effect l h y) b (x .subtree)
 
           go : (z w : Bool) → inside s e a b ≡ z → overlaps s e a b ≡ w → Effected u (pair-in _⊕_ l u (x .subtree)) (pair-in _⊕_ l u below)
-              → Effected u (p ⊕ pair-in _⊕_ l u (x .subtree)) (cond z (entry a (p ⊕ effect) (x .entry .child)) (x .entry) .pair ⊕ pair-in _⊕_ l u (cond z (x .subtree) (cond w below (x .subtree))))
-          go true w h k r = effect-last p (pair-in _⊕_ l u (x .subtree)) ∙ took-effect u (p ⊕ pair-in _⊕_ l u (x .subtree)) (inside-covers s e a b u low high h)
+              → Effected u (p ⊕ pair-in _⊕_ l u (x .subtree))
+              (cond z (entry a (p ⊕ effect) (x .entry .child)) (x .entry) .pair ⊕ pair-in _⊕_ l u
+              (cond z (x .subtree) (cond w below (x .subtree))))
+          go true w h k r =
+              effect-last p (pair-in _⊕_ l u (x .subtree))
+              ∙ took-effect u (p ⊕ pair-in _⊕_ l u (x .subtree)) (inside-covers s e a b u low high h)
           go false true h k r = effect-below u p (pair-in _⊕_ l u (x .subtree)) (pair-in _⊕_ l u below) r
           go false false h k r = took-nothing u (p ⊕ pair-in _⊕_ l u (x .subtree)) (away-covers s e a b u low high k)
 
-module _ {half : ℕ} {B : Asked (Subtree 0)} (_⊕_ : Pair → Pair → Pair) (s e : ℕ) (effect : Pair) (Y : State) (F : Formed half B (Y .tree)) where
+module _ {half : ℕ} {B : Asked (Subtree 0)} (_⊕_ : Pair → Pair → Pair) (s e : ℕ) (effect : Pair) (Y : State)
+    (F : Formed half B (Y .tree)) where
   infixl 60 _⊕_
   pub combine-formed : Pairless B → Formed half B (combine-span _⊕_ s e effect Y .tree)
   unfolding combine-span combine-nodes
@@ -206,9 +225,12 @@ module _ {half : ℕ} {B : Asked (Subtree 0)} (_⊕_ : Pair → Pair → Pair) (
       }
 
   pub combine-pairs : Lawful _⊕_ → ((lo hi : ℕ) (x : Node (Subtree 0)) → B lo hi x → Apart s lo hi × Apart e lo hi) → (u : ℕ) → u < END
-      → pair-at _⊕_ (combine-span _⊕_ s e effect Y .tree) u ≡ cond (covers s e u) (pair-at _⊕_ (Y .tree) u ⊕ effect) (pair-at _⊕_ (Y .tree) u)
+      → pair-at _⊕_ (combine-span _⊕_ s e effect Y .tree) u ≡
+      cond (covers s e u) (pair-at _⊕_ (Y .tree) u ⊕ effect) (pair-at _⊕_ (Y .tree) u)
   unfolding combine-span combine-nodes
   combine-pairs lawful apart u high =
       combine-list _⊕_ s e effect (Y .tree .level) u
-      (λ a b y f lt low r k. combine-under _⊕_ s e effect lawful half apart (Y .tree .level) b y u (omega arith) r (subst⁻¹ (λ z. Shaped half B (Y .tree .level) z b y) f k))
+      (λ a b y f lt low r k.
+      combine-under _⊕_ s e effect lawful half apart (Y .tree .level) b y u (omega arith) r
+      (subst⁻¹ (λ z. Shaped half B (Y .tree .level) z b y) f k))
       (F .spans) (omega arith) high

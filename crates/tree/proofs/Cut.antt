@@ -23,7 +23,8 @@ use Rattle.tree.specs.Shape.{Asked, Seg, more, Filled, Shaped, Formed, r
 use Rattle.tree.proofs.Seg.{seg-map, seg-one, seg-append}
 use Rattle.tree.proofs.Find.{Found, found, find}
 use Rattle.tree.proofs.Splice.{splice-at}
-use Rattle.tree.proofs.Same.{Same, with-subtree, same-refl, same-sym, same-trans, same-within, same-one, same-leaf, same-pair-in, pair-in-one, span}
+use Rattle.tree.proofs.Same.{Same, with-subtree, same-refl, same-sym, same-trans, same-within, same-one, same-leaf, same-pair-in}
+use Rattle.tree.proofs.Same.{pair-in-one, span}
 use Rattle.tree.proofs.Shapes.{Cuttable, Parts, from, shaped-map, Became, parted}
 
 module _ (half : ℕ) (B : Asked (Subtree 0)) (_⊕_ : Pair → Pair → Pair) (t : ℕ) where
@@ -51,13 +52,16 @@ module _ (half : ℕ) (B : Asked (Subtree 0)) (_⊕_ : Pair → Pair → Pair) (
     cut-in : {lo hi : ℕ} {es : Nodes l} (zs : Node (Subtree l) → Nodes l) (d : Node (Subtree l))
         → ((a b : ℕ) (x : Node (Subtree l)) → x .entry .start ≡ a → a < b → a ≤ t → t < b → Shaped half B l a b x → Cut-of l a b x (zs x))
         → Seg (Shaped half B l) lo hi es → lo ≤ t → t < hi
-        → Cuts l lo hi es (splice (index-of t (flat es)) (zs (getD es (index-of t (flat es)) d)) es) (length (zs (getD es (index-of t (flat es)) d)))
+        → Cuts l lo hi es (splice (index-of t (flat es)) (zs (getD es (index-of t (flat es)) d)) es)
+        (length (zs (getD es (index-of t (flat es)) d)))
     cut-in {lo} {hi} {es} zs d each s low high = go (find t s (omega arith) low)
       where
-        go : {es : Nodes l} {i : ℕ} → Found (Shaped half B l) t lo hi es i → Cuts l lo hi es (splice i (zs (getD es i d)) es) (length (zs (getD es i d)))
+        go : {es : Nodes l} {i : ℕ} → Found (Shaped half B l) t lo hi es i
+            → Cuts l lo hi es (splice i (zs (getD es i d)) es) (length (zs (getD es i d)))
         go (found {a = a} {b = b} {xs = xs} {x = x} {ys = ys} f e lt q r le after) =
             let c = each a b x e lt le (after high) q in
-            subst⁻¹ (λ y. Cuts l lo hi (xs ++ x ∷ ys) (splice (length xs) (zs y) (xs ++ x ∷ ys)) (length (zs y))) (getD-append-seam xs x ys d)
+            subst⁻¹ (λ y. Cuts l lo hi (xs ++ x ∷ ys) (splice (length xs) (zs y) (xs ++ x ∷ ys)) (length (zs y)))
+            (getD-append-seam xs x ys d)
             (subst⁻¹ (λ y. Cuts l lo hi (xs ++ x ∷ ys) y (length (zs x))) (splice-at xs x ys (zs x))
             (record {
               spans = seg-append (before le f) (seg-append (c .spans) (behind (omega (arith, after high)) r));
@@ -70,23 +74,28 @@ module _ (half : ℕ) (B : Asked (Subtree 0)) (_⊕_ : Pair → Pair → Pair) (
   -- a page with the entries es below e, in which t is cut: it stays whole or stands in two
   data Outcome (l lo hi : ℕ) (e : Entry) (es : Nodes l) : Nodes (suc l) → Type 0 where
     whole : length es ≤ capacity half → Outcome l lo hi e es (with-subtree e es ∷ [])
-    halves : {y z : Node (Subtree (suc l))} → capacity half < length es → Became half (Parts t B) _⊕_ l lo hi e es (y ∷ z ∷ []) → Outcome l lo hi e es (y ∷ z ∷ [])
+    halves : {y z : Node (Subtree (suc l))} → capacity half < length es → Became half (Parts t B) _⊕_ l lo hi e es (y ∷ z ∷ [])
+        → Outcome l lo hi e es (y ∷ z ∷ [])
 
   module _ (pos : 0 < half) where
-    split-if-full-outcome : {l lo hi : ℕ} (x : Node (Subtree (suc l))) (es : Nodes l) (S : Supply) → x .entry .start ≡ lo → length es ≤ suc (capacity half)
+    split-if-full-outcome : {l lo hi : ℕ} (x : Node (Subtree (suc l))) (es : Nodes l) (S : Supply) → x .entry .start ≡ lo
+        → length es ≤ suc (capacity half)
         → Seg (Shaped half (Parts t B) l) lo hi es → Outcome l lo hi (x .entry) es (split-if-full half x es S .became)
     unfolding split-if-full not-split split
     split-if-full-outcome {l} {lo} {hi} x es S e most s = go (leb (length es) (capacity half)) refl
       where
-        go : (z : Bool) → leb (length es) (capacity half) ≡ z → Outcome l lo hi (x .entry) es (cond z (not-split x es S) (split half x es S) .became)
+        go : (z : Bool) → leb (length es) (capacity half) ≡ z
+            → Outcome l lo hi (x .entry) es (cond z (not-split x es S) (split half x es S) .became)
         go true f = whole (leb-true (length es) (capacity half) f)
         go false f =
             let k : capacity half < length es = leb-false (length es) (capacity half) f in
             halves k (parted half (Parts t B) _⊕_ l half (x .entry) _ e refl refl pos (omega arith) (omega arith) (omega arith) s)
 
     -- what is below x became es, one of the entries n
-    page-outcome : {l lo hi n : ℕ} (x : Node (Subtree (suc l))) (es : Nodes l) (S : Supply) → x .entry .start ≡ lo → length (x .subtree) ≤ capacity half
-        → Cuts l lo hi (x .subtree) es n → Outcome l lo hi (x .entry) es (cond (eqb n 1) (not-split x es S) (split-if-full half x es S) .became)
+    page-outcome : {l lo hi n : ℕ} (x : Node (Subtree (suc l))) (es : Nodes l) (S : Supply) → x .entry .start ≡ lo
+        → length (x .subtree) ≤ capacity half
+        → Cuts l lo hi (x .subtree) es n
+        → Outcome l lo hi (x .entry) es (cond (eqb n 1) (not-split x es S) (split-if-full half x es S) .became)
     unfolding not-split
     page-outcome {l} {lo} {hi} {n} x es S e most c = go (eqb n 1) refl
       where
@@ -116,7 +125,8 @@ module _ (half : ℕ) (B : Asked (Subtree 0)) (_⊕_ : Pair → Pair → Pair) (
         }
 
   module _ (cuts : Cuttable B) where
-    leaf-cut : (a b : ℕ) (x : Node (Subtree 0)) → x .entry .start ≡ a → a < b → a ≤ t → t < b → Shaped half B 0 a b x → Cut-of 0 a b x (cut-leaf t x)
+    leaf-cut : (a b : ℕ) (x : Node (Subtree 0)) → x .entry .start ≡ a → a < b → a ≤ t → t < b → Shaped half B 0 a b x
+        → Cut-of 0 a b x (cut-leaf t x)
     unfolding cut-leaf Shaped
     leaf-cut a b x e lt low high q = go (eqb (x .entry .start) t) refl
       where
@@ -137,11 +147,13 @@ module _ (half : ℕ) (B : Asked (Subtree 0)) (_⊕_ : Pair → Pair → Pair) (
             }
 
     module _ (pos : 0 < half) where
-      node-cut : (l a b : ℕ) (x : Node (Subtree l)) (S : Supply) → x .entry .start ≡ a → a < b → a ≤ t → t < b → Shaped half B l a b x → Cut-of l a b x (cut-node half t l x S .became)
+      node-cut : (l a b : ℕ) (x : Node (Subtree l)) (S : Supply) → x .entry .start ≡ a → a < b → a ≤ t → t < b
+          → Shaped half B l a b x → Cut-of l a b x (cut-node half t l x S .became)
       unfolding cut-node Shaped
       node-cut zero a b x S e lt low high q = leaf-cut a b x e lt low high q
       node-cut (suc l) a b x S e lt low high q =
-          let c = cut-in l (λ y. cut-node half t l y S .became) (no-node l) (λ a b y e lt low high q. node-cut l a b y S e lt low high q) (q .1) low high in
+          let c = cut-in l (λ y. cut-node half t l y S .became) (no-node l)
+          (λ a b y e lt low high q. node-cut l a b y S e lt low high q) (q .1) low high in
           page-cut pos x e lt q c (page-outcome pos x _ _ e (q .0 .most) c)
 
 -- what a tree became
@@ -150,7 +162,8 @@ pub record Cut-tree (half : ℕ) (B : Asked (Subtree 0)) (_⊕_ : Pair → Pair 
   pub pairs : (u : ℕ) → pair-at _⊕_ U u ≡ pair-at _⊕_ T u
   pub level : (U .level ≡ T .level) ⊎ ((U .level ≡ suc (T .level)) × (length (T .nodes) ≡ capacity half))
 
-module _ {half : ℕ} (two : 2 ≤ half) {B : Asked (Subtree 0)} (cuts : Cuttable B) {_⊕_ : Pair → Pair → Pair} (lawful : Lawful _⊕_) (t : ℕ) where
+module _ {half : ℕ} (two : 2 ≤ half) {B : Asked (Subtree 0)} (cuts : Cuttable B) {_⊕_ : Pair → Pair → Pair} (lawful : Lawful _⊕_)
+    (t : ℕ) where
   grown-cut : (T : Tree) {es : Nodes (T .level)} {zs : Nodes (suc (T .level))} {n : ℕ} (S : Supply) → Formed half B T
       → Cuts half B _⊕_ t (T .level) 0 END (T .nodes) es n → Outcome half B _⊕_ t (T .level) 0 END (entry 0 none (T .root)) es zs
       → Cut-tree half B _⊕_ t T (grow-if-split (T .level) zs S .tree)
@@ -180,7 +193,10 @@ module _ {half : ℕ} (two : 2 ≤ half) {B : Asked (Subtree 0)} (cuts : Cuttabl
       T : Tree
       T = Y .tree
 
-      go : (b : Bool) → leb END t ≡ b → Cut-tree half B _⊕_ t T (cond b Y (grow-if-split (T .level) (cut-node half t (suc (T .level)) (root-node T) (Y .supply) .became) (cut-node half t (suc (T .level)) (root-node T) (Y .supply) .supply)) .tree)
+      go : (b : Bool) → leb END t ≡ b
+          → Cut-tree half B _⊕_ t T
+          (cond b Y (grow-if-split (T .level) (cut-node half t (suc (T .level)) (root-node T) (Y .supply) .became)
+          (cut-node half t (suc (T .level)) (root-node T) (Y .supply) .supply)) .tree)
       go true e =
           record {
             formed = record { least = F .least; most = F .most; spans = before half B _⊕_ t (T .level) (leb-true END t e) (F .spans) };
@@ -202,7 +218,8 @@ module _ {half : ℕ} (two : 2 ≤ half) {B : Asked (Subtree 0)} (cuts : Cuttabl
     pub cut-pairs : (u : ℕ) → pair-at _⊕_ (cut half t Y .tree) u ≡ pair-at _⊕_ (Y .tree) u
     cut-pairs = cut-tree Y F .pairs
 
-    pub cut-level : (cut half t Y .tree .level ≡ Y .tree .level) ⊎ ((cut half t Y .tree .level ≡ suc (Y .tree .level)) × (length (Y .tree .nodes) ≡ capacity half))
+    pub cut-level : (cut half t Y .tree .level ≡ Y .tree .level)
+        ⊎ ((cut half t Y .tree .level ≡ suc (Y .tree .level)) × (length (Y .tree .nodes) ≡ capacity half))
     cut-level = cut-tree Y F .level
 
 pub cut-past : (half t : ℕ) (Y : State) → END ≤ t → cut half t Y ≡ Y

@@ -40,11 +40,13 @@ record Index-found {A : Type 0} (Q : Asked A) (t lo hi i k : ℕ) (es : List (No
   here : Found Q t lo hi es index
 
 module _ {A : Type 0} {Q : Asked A} where
-  pub beside : {lo a : ℕ} {xs : List (Node A)} (x : Node A) (ys : List (Node A)) → Seg Q lo a xs → Beside Q x ys lo a (xs ++ x ∷ ys) (length xs)
+  pub beside : {lo a : ℕ} {xs : List (Node A)} (x : Node A) (ys : List (Node A)) → Seg Q lo a xs
+      → Beside Q x ys lo a (xs ++ x ∷ ys) (length xs)
   beside x ys done = first
   beside x ys (more e lt q r) = put e lt q (beside x ys r)
     where
-      put : {lo mid a n : ℕ} {y : Node A} {es : List (Node A)} → y .entry .start ≡ lo → lo < mid → Q lo mid y → Beside Q x ys mid a es n → Beside Q x ys lo a (y ∷ es) (suc n)
+      put : {lo mid a n : ℕ} {y : Node A} {es : List (Node A)} → y .entry .start ≡ lo → lo < mid → Q lo mid y
+          → Beside Q x ys mid a es n → Beside Q x ys lo a (y ∷ es) (suc n)
       put e lt q first = next done e lt q
       put e lt q (next s f l p) = next (more e lt q s) f l p
 
@@ -55,7 +57,8 @@ module _ {A : Type 0} {Q : Asked A} where
       let l : t < x .entry .start = omega arith in
       ap (λ z. last-from t (suc i) z (flat es)) (from-no i k l) ∙ last-early t (suc i) k r (omega arith)
 
-  last-here : {mid hi : ℕ} {es : List (Node A)} (x : Node A) (t i k : ℕ) → x .entry .start ≤ t → Seg Q mid hi es → t < mid → last-from t i k (flat (x ∷ es)) ≡ i
+  last-here : {mid hi : ℕ} {es : List (Node A)} (x : Node A) (t i k : ℕ) → x .entry .start ≤ t → Seg Q mid hi es → t < mid
+      → last-from t i k (flat (x ∷ es)) ≡ i
   unfolding last-from
   last-here {es} x t i k s r h = ap (λ z. last-from t (suc i) z (flat es)) (from-yes i k s) ∙ last-early t (suc i) i r h
 
@@ -68,7 +71,13 @@ module _ {A : Type 0} {Q : Asked A} where
   counted-find {lo} {hi} t i k (more {mid} {x} e l q (more {x = y} {es = es} f l′ q′ r)) lt h =
       ⊎-elim
       (λ past. after (counted-find t (suc i) (cond (leb (x .entry .start) t) i k) (more f l′ q′ r) (omega (arith, seg-le r)) past))
-      (λ before. record { index = 0; counted = last-here x t i k (omega arith) (more f l′ q′ r) before ∙ omega arith; here = found done e l q (more f l′ q′ r) h (λ z. before) })
+      (λ before.
+      record {
+        index = 0;
+        counted = last-here x t i k (omega arith) (more f l′ q′ r) before
+            ∙ omega arith;
+        here = found done e l q (more f l′ q′ r) h (λ z. before);
+      })
       (le-or-lt mid t)
     where
       put : {n : ℕ} {zs : List (Node A)} → Found Q t mid hi zs n → Found Q t lo hi (x ∷ zs) (suc n)
@@ -90,7 +99,8 @@ pub record Has {A : Type 0} (Q : Asked A) (t hi : ℕ) (x : Node A) : Type 0 whe
   pub ends : t < hi → t < end
   pub holds : Q (x .entry .start) end x
 
-pub find-node : (l : ℕ) {Q : Asked (Subtree l)} {lo hi : ℕ} {es : Nodes l} (t : ℕ) → Seg Q lo hi es → lo < hi → lo ≤ t → Has Q t hi (node-of l t es)
+pub find-node : (l : ℕ) {Q : Asked (Subtree l)} {lo hi : ℕ} {es : Nodes l} (t : ℕ) → Seg Q lo hi es → lo < hi → lo ≤ t
+    → Has Q t hi (node-of l t es)
 unfolding node-of
 find-node l {Q} {hi = hi} t s lt h = go (find t s lt h)
   where

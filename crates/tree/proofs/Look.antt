@@ -23,12 +23,14 @@ cond-ap g true x y = refl
 cond-ap g false x y = refl
 
 module _ {A : Type 0} where
-  pub look-append : {B : Type 0} (f : Node A → B) (t : ℕ) (d : B) (xs ys : List (Node A)) → look f t d (xs ++ ys) ≡ look f t (look f t d xs) ys
+  pub look-append : {B : Type 0} (f : Node A → B) (t : ℕ) (d : B) (xs ys : List (Node A))
+      → look f t d (xs ++ ys) ≡ look f t (look f t d xs) ys
   unfolding look
   look-append f t d [] ys = refl
   look-append f t d (x ∷ xs) ys = look-append f t (cond (leb (x .entry .start) t) (f x) d) xs ys
 
-  pub look-after : {B C : Type 0} (g : B → C) (f : Node A → B) (t : ℕ) (d : B) (es : List (Node A)) → g (look f t d es) ≡ look (λ x. g (f x)) t (g d) es
+  pub look-after : {B C : Type 0} (g : B → C) (f : Node A → B) (t : ℕ) (d : B) (es : List (Node A))
+      → g (look f t d es) ≡ look (λ x. g (f x)) t (g d) es
   unfolding look
   look-after g f t d [] = refl
   look-after g f t d (x ∷ xs) =
@@ -47,13 +49,15 @@ module _ {A : Type 0} where
       ∙ ap (λ z. cond (leb (x .entry .start) t) z (getD all k d)) (ap (λ z. getD all z d) (sym (add-zero i)) ∙ h 0))
 
   -- an entry that starts at t or before hides the default
-  pub look-first : {B : Type 0} (f : Node A → B) (t : ℕ) (d : B) (x : Node A) (es : List (Node A)) → x .entry .start ≤ t → look f t d (x ∷ es) ≡ look f t (f x) es
+  pub look-first : {B : Type 0} (f : Node A → B) (t : ℕ) (d : B) (x : Node A) (es : List (Node A)) → x .entry .start ≤ t
+      → look f t d (x ∷ es) ≡ look f t (f x) es
   unfolding look
   look-first f t d x es h = ap (λ z. look f t z es) (from-yes (f x) d h)
 
   module _ {Q : Asked A} where
     -- before the first start
-    pub look-early : {B : Type 0} {lo hi : ℕ} {es : List (Node A)} (f : Node A → B) (t : ℕ) (d : B) → Seg Q lo hi es → t < lo → look f t d es ≡ d
+    pub look-early : {B : Type 0} {lo hi : ℕ} {es : List (Node A)} (f : Node A → B) (t : ℕ) (d : B) → Seg Q lo hi es → t < lo
+        → look f t d es ≡ d
     unfolding look
     look-early f t d done h = refl
     look-early f t d (more {x} {es} e lt q r) h =
@@ -61,7 +65,8 @@ module _ {A : Type 0} where
         ap (λ z. look f t z es) (from-no (f x) d l) ∙ look-early f t d r (omega arith)
 
     -- from the first start on the default doesn't count
-    pub look-any : {B : Type 0} {lo hi : ℕ} {es : List (Node A)} (f : Node A → B) (t : ℕ) (d d′ : B) → Seg Q lo hi es → lo < hi → lo ≤ t → look f t d es ≡ look f t d′ es
+    pub look-any : {B : Type 0} {lo hi : ℕ} {es : List (Node A)} (f : Node A → B) (t : ℕ) (d d′ : B) → Seg Q lo hi es → lo < hi
+        → lo ≤ t → look f t d es ≡ look f t d′ es
     look-any f t d d′ done lt h = absurd (omega arith)
     look-any f t d d′ (more {x} {es} e l q r) lt h =
         let s : x .entry .start ≤ t = omega arith in

@@ -29,12 +29,14 @@ module _ (_⊕_ : Pair → Pair → Pair) where
   unfolding push-nodes
   push-length p es = length-map es (push-node _⊕_ p)
 
-  push-look : {A B : Type 0} (f : Node A → B) (t : ℕ) (d : B) (p : Pair) (es : List (Node A)) → look f t d (push-nodes _⊕_ p es) ≡ look (λ x. f (push-node _⊕_ p x)) t d es
+  push-look : {A B : Type 0} (f : Node A → B) (t : ℕ) (d : B) (p : Pair) (es : List (Node A))
+      → look f t d (push-nodes _⊕_ p es) ≡ look (λ x. f (push-node _⊕_ p x)) t d es
   unfolding push-nodes look
   push-look f t d p [] = refl
   push-look f t d p (x ∷ xs) = push-look f t (cond (leb (x .entry .start) t) (f (push-node _⊕_ p x)) d) p xs
 
-  push-shaped : (half : ℕ) {B : Asked (Subtree 0)} → Pairless B → (l lo hi : ℕ) (x : Node (Subtree l)) (p : Pair) → Shaped half B l lo hi x → Shaped half B l lo hi (push-node _⊕_ p x)
+  push-shaped : (half : ℕ) {B : Asked (Subtree 0)} → Pairless B → (l lo hi : ℕ) (x : Node (Subtree l)) (p : Pair)
+      → Shaped half B l lo hi x → Shaped half B l lo hi (push-node _⊕_ p x)
   unfolding Shaped
   push-shaped half any zero lo hi x p q = any .any-pair lo hi x (p ⊕ x .entry .pair) q
   push-shaped half any (suc l) lo hi x p q = q
@@ -60,7 +62,8 @@ module _ (_⊕_ : Pair → Pair → Pair) (l : ℕ) (x : Node (Subtree (suc l)))
   unfolding pushed
   pushed-length = push-length _⊕_ (x .entry .pair) (x .subtree)
 
-  pub pushed-spans : (half : ℕ) {B : Asked (Subtree 0)} {lo hi : ℕ} → Pairless B → Seg (Shaped half B l) lo hi (x .subtree) → Seg (Shaped half B l) lo hi (pushed _⊕_ x)
+  pub pushed-spans : (half : ℕ) {B : Asked (Subtree 0)} {lo hi : ℕ} → Pairless B → Seg (Shaped half B l) lo hi (x .subtree)
+      → Seg (Shaped half B l) lo hi (pushed _⊕_ x)
   unfolding pushed
   pushed-spans half any s = push-seg _⊕_ (x .entry .pair) (λ a b y q. push-shaped _⊕_ half any l a b y (x .entry .pair) q) s
 

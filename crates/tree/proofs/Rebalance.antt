@@ -23,7 +23,8 @@ use Rattle.tree.specs.Shape.{Asked, Seg, done, more, Filled, Shaped}
 use Rattle.tree.proofs.Seg.{seg-some, seg-one, seg-append}
 use Rattle.tree.proofs.Find.{Beside, first, next}
 use Rattle.tree.proofs.Splice.{splice-at, splice-next, getD-next}
-use Rattle.tree.proofs.Same.{Same, with-subtree, same-refl, same-sym, same-trans, same-append, same-within, same-two, pair-in-same, pair-in-one, span}
+use Rattle.tree.proofs.Same.{Same, with-subtree, same-refl, same-sym, same-trans, same-append, same-within, same-two, pair-in-same}
+use Rattle.tree.proofs.Same.{pair-in-one, span}
 use Rattle.tree.proofs.Shapes.{Pairless, Became, parted}
 use Rattle.tree.proofs.Push.{pushed-length, pushed-spans, pushed-pair}
 
@@ -43,7 +44,8 @@ flat-of x = entry (x .entry .start) none (x .entry .child)
 module _ {_⊕_ : Pair → Pair → Pair} (lawful : Lawful _⊕_) (l : ℕ) where
   infixl 60 _⊕_
   -- the pair of x combined into its page's entries and set to (0, 0)
-  emptied-same : {lo hi : ℕ} {Q : Asked (Subtree l)} (x : Node (Subtree (suc l))) → x .entry .start ≡ lo → lo < hi → Seg Q lo hi (x .subtree)
+  emptied-same : {lo hi : ℕ} {Q : Asked (Subtree l)} (x : Node (Subtree (suc l))) → x .entry .start ≡ lo → lo < hi
+      → Seg Q lo hi (x .subtree)
       → Same _⊕_ (suc l) (x ∷ []) (with-subtree (flat-of x) (pushed _⊕_ x) ∷ [])
   emptied-same x e lt s =
       pair-in-same (span (x .entry) (x .subtree) e lt) (span (flat-of x) (pushed _⊕_ x) e lt) lt
@@ -57,17 +59,20 @@ module _ {_⊕_ : Pair → Pair → Pair} (lawful : Lawful _⊕_) (l : ℕ) wher
     unfolding joint
     both-length = length-append (pushed _⊕_ x) (pushed _⊕_ y) ∙ omega (arith, pushed-length _⊕_ l x, pushed-length _⊕_ l y)
 
-    both-spans : (half : ℕ) {B : Asked (Subtree 0)} {lo mid hi : ℕ} → Pairless B → Seg (Shaped half B l) lo mid (x .subtree) → Seg (Shaped half B l) mid hi (y .subtree) → Seg (Shaped half B l) lo hi (joint _⊕_ x y)
+    both-spans : (half : ℕ) {B : Asked (Subtree 0)} {lo mid hi : ℕ} → Pairless B → Seg (Shaped half B l) lo mid (x .subtree)
+        → Seg (Shaped half B l) mid hi (y .subtree) → Seg (Shaped half B l) lo hi (joint _⊕_ x y)
     unfolding joint
     both-spans half any s r = seg-append (pushed-spans _⊕_ l x half any s) (pushed-spans _⊕_ l y half any r)
 
-    both-same : (half : ℕ) {B : Asked (Subtree 0)} {lo mid hi : ℕ} → Pairless B → x .entry .start ≡ lo → lo < mid → Seg (Shaped half B l) lo mid (x .subtree)
+    both-same : (half : ℕ) {B : Asked (Subtree 0)} {lo mid hi : ℕ} → Pairless B → x .entry .start ≡ lo → lo < mid
+        → Seg (Shaped half B l) lo mid (x .subtree)
         → y .entry .start ≡ mid → mid < hi → Seg (Shaped half B l) mid hi (y .subtree)
         → Same _⊕_ (suc l) (x ∷ y ∷ []) (with-subtree (flat-of x) (joint _⊕_ x y) ∷ [])
     unfolding joint
     both-same half any e lt s f lt′ r =
         same-trans (same-append (emptied-same x e lt s) (emptied-same y f lt′ r))
-        (same-sym (same-two _⊕_ l (flat-of x) (flat-of y) e f refl lt lt′ (pushed-spans _⊕_ l x half any s) (pushed-spans _⊕_ l y half any r)))
+        (same-sym (same-two _⊕_ l (flat-of x) (flat-of y) e f refl lt lt′ (pushed-spans _⊕_ l x half any s)
+        (pushed-spans _⊕_ l y half any r)))
 
 -- ---- what rebalancing does to the parent's entries
 
@@ -86,11 +91,19 @@ module _ (half : ℕ) (_⊕_ : Pair → Pair → Pair) (l : ℕ) (x y : Node (Su
 module _ (half : ℕ) (_⊕_ : Pair → Pair → Pair) (l : ℕ) (pre : Nodes (suc l)) (x y : Node (Subtree (suc l))) (post : Nodes (suc l)) where
   -- two edits at x and y
   two-edits : (f g : Node (Subtree (suc l)) → Node (Subtree (suc l)) → Nodes (suc l))
-      → splice (length pre) (f (getD (pre ++ x ∷ y ∷ post) (length pre) (no-node (suc l))) (getD (pre ++ x ∷ y ∷ post) (suc (length pre)) (no-node (suc l))))
-      (splice (suc (length pre)) (g (getD (pre ++ x ∷ y ∷ post) (length pre) (no-node (suc l))) (getD (pre ++ x ∷ y ∷ post) (suc (length pre)) (no-node (suc l)))) (pre ++ x ∷ y ∷ post))
+      → splice (length pre)
+      (f (getD (pre ++ x ∷ y ∷ post) (length pre) (no-node (suc l))) (getD (pre ++ x ∷ y ∷ post) (suc (length pre)) (no-node (suc l))))
+      (splice (suc (length pre))
+      (g (getD (pre ++ x ∷ y ∷ post) (length pre) (no-node (suc l)))
+      (getD (pre ++ x ∷ y ∷ post) (suc (length pre)) (no-node (suc l)))) (pre ++ x ∷ y ∷ post))
       ≡ pre ++ (f x y ++ (g x y ++ post))
   two-edits f g =
-      rw (getD-append-seam pre x (y ∷ post) (no-node (suc l)), getD-next pre x y post (no-node (suc l)), splice-next pre x y post (g x y)) (splice-at pre x (g x y ++ post) (f x y))
+      rw (
+        getD-append-seam pre x (y ∷ post) (no-node (suc l)),
+        getD-next pre x y post (no-node (suc l)),
+        splice-next pre x y post
+            (g x y),
+      ) (splice-at pre x (g x y ++ post) (f x y))
 
   redistribute-is : (k : ℕ) → redistribute _⊕_ l (length pre) k (pre ++ x ∷ y ∷ post) ≡ pre ++ (given half _⊕_ l x y k ++ post)
   unfolding redistribute emptied
@@ -102,15 +115,23 @@ module _ (half : ℕ) (_⊕_ : Pair → Pair → Pair) (l : ℕ) (pre : Nodes (s
   unfolding merge emptied
   merge-is = two-edits (λ a b. with-subtree (flat-of a) (joint _⊕_ a b) ∷ []) (λ a b. [])
 
-  rebalance-is : (i n k : ℕ) (S : Supply) → left-of i ≡ length pre → length (getD (pre ++ x ∷ y ∷ post) (sibling i) (no-node (suc l)) .subtree) ≡ n → cond (eqb i 0) half (n - 1) ≡ k
-      → rebalance half _⊕_ l i (pre ++ x ∷ y ∷ post) S .nodes ≡ pre ++ (cond (ltb half n) (given half _⊕_ l x y k) (merged half _⊕_ l x y) ++ post)
+  rebalance-is : (i n k : ℕ) (S : Supply) → left-of i ≡ length pre
+      → length (getD (pre ++ x ∷ y ∷ post) (sibling i) (no-node (suc l)) .subtree) ≡ n → cond (eqb i 0) half (n - 1) ≡ k
+      → rebalance half _⊕_ l i (pre ++ x ∷ y ∷ post) S .nodes ≡
+      pre ++ (cond (ltb half n) (given half _⊕_ l x y k) (merged half _⊕_ l x y) ++ post)
   unfolding rebalance
   rebalance-is i n k S left number takes = rw (number, takes, left) (go (ltb half n))
     where
       joins : Healing (Subtree (suc l))
-      joins = record { nodes = merge _⊕_ l (length pre) (pre ++ x ∷ y ∷ post); supply = with-page (getD (pre ++ x ∷ y ∷ post) (suc (length pre)) (no-node (suc l)) .entry .child) S }
+      joins = record {
+        nodes = merge _⊕_ l (length pre) (pre ++ x ∷ y ∷ post);
+        supply =
+            with-page (getD (pre ++ x ∷ y ∷ post) (suc (length pre)) (no-node (suc l)) .entry .child) S;
+      }
 
-      go : (z : Bool) → cond z (record { nodes = redistribute _⊕_ l (length pre) k (pre ++ x ∷ y ∷ post); supply = S }) joins .nodes ≡ pre ++ (cond z (given half _⊕_ l x y k) (merged half _⊕_ l x y) ++ post)
+      go : (z : Bool)
+          → cond z (record { nodes = redistribute _⊕_ l (length pre) k (pre ++ x ∷ y ∷ post); supply = S }) joins .nodes ≡
+          pre ++ (cond z (given half _⊕_ l x y k) (merged half _⊕_ l x y) ++ post)
       go true = redistribute-is k
       go false = merge-is
 
@@ -120,7 +141,8 @@ pub sibling-next : (n : ℕ) → sibling (suc n) ≡ n
 unfolding sibling
 sibling-next n = ap (λ z. cond z 1 (suc n - 1)) (eqb·suc-zero n) ∙ omega arith
 
-module _ (half : ℕ) (pos : 0 < half) {B : Asked (Subtree 0)} (any : Pairless B) {_⊕_ : Pair → Pair → Pair} (lawful : Lawful _⊕_) (l : ℕ) where
+module _ (half : ℕ) (pos : 0 < half) {B : Asked (Subtree 0)} (any : Pairless B) {_⊕_ : Pair → Pair → Pair} (lawful : Lawful _⊕_)
+    (l : ℕ) where
   -- the pages under x and y have one entry less than half and n together; the one at i is rebalanced with the other
   rebalance-two : {lo a b c hi : ℕ} {pre post : Nodes (suc l)} (x y : Node (Subtree (suc l))) (i n k : ℕ) (S : Supply)
       → Seg (Shaped half B (suc l)) lo a pre → x .entry .start ≡ a → a < b → Seg (Shaped half B l) a b (x .subtree)
@@ -131,7 +153,8 @@ module _ (half : ℕ) (pos : 0 < half) {B : Asked (Subtree 0)} (any : Pairless B
       → Heals half B _⊕_ (suc l) lo hi (pre ++ x ∷ y ∷ post) (rebalance half _⊕_ l i (pre ++ x ∷ y ∷ post) S .nodes)
   unfolding Shaped
   rebalance-two {lo} {a} {b} {c} {hi} {pre} {post} x y i n k S before e lt s f lt′ r behind left number takes which total low high =
-      subst⁻¹ (Heals half B _⊕_ (suc l) lo hi (pre ++ x ∷ y ∷ post)) (rebalance-is half _⊕_ l pre x y post i n k S left number takes) (go (ltb half n) refl)
+      subst⁻¹ (Heals half B _⊕_ (suc l) lo hi (pre ++ x ∷ y ∷ post))
+      (rebalance-is half _⊕_ l pre x y post i n k S left number takes) (go (ltb half n) refl)
     where
       all : length (joint _⊕_ x y) ≡ length (x .subtree) + length (y .subtree)
       all = both-length lawful l x y
@@ -139,7 +162,8 @@ module _ (half : ℕ) (pos : 0 < half) {B : Asked (Subtree 0)} (any : Pairless B
       spans : Seg (Shaped half B l) a c (joint _⊕_ x y)
       spans = both-spans lawful l x y half any s r
 
-      became : {zs : Nodes (suc l)} → Became half B _⊕_ l a c (flat-of x) (joint _⊕_ x y) zs → length zs ≤ 2 → Heals half B _⊕_ (suc l) lo hi (pre ++ x ∷ y ∷ post) (pre ++ (zs ++ post))
+      became : {zs : Nodes (suc l)} → Became half B _⊕_ l a c (flat-of x) (joint _⊕_ x y) zs → length zs ≤ 2
+          → Heals half B _⊕_ (suc l) lo hi (pre ++ x ∷ y ∷ post) (pre ++ (zs ++ post))
       became w most =
           let n = seg-some (w .spans) (omega arith) in
           record {
@@ -149,11 +173,13 @@ module _ (half : ℕ) (pos : 0 < half) {B : Asked (Subtree 0)} (any : Pairless B
             most = simp length-append (omega arith);
           }
 
-      go : (z : Bool) → ltb half n ≡ z → Heals half B _⊕_ (suc l) lo hi (pre ++ x ∷ y ∷ post) (pre ++ (cond z (given half _⊕_ l x y k) (merged half _⊕_ l x y) ++ post))
+      go : (z : Bool) → ltb half n ≡ z
+          → Heals half B _⊕_ (suc l) lo hi (pre ++ x ∷ y ∷ post) (pre ++ (cond z (given half _⊕_ l x y k) (merged half _⊕_ l x y) ++ post))
       go true h =
           let over : half < n = ltb-true half n h in
           let least : half ≤ k = ⊎-elim (λ (q : k ≡ half). omega arith) (λ (q : k ≡ n - 1). omega arith) which in
-          let most : half + k ≤ length (joint _⊕_ x y) = ⊎-elim (λ (q : k ≡ half). omega (arith, all)) (λ (q : k ≡ n - 1). omega (arith, all)) which in
+          let most : half + k ≤ length (joint _⊕_ x y) =
+          ⊎-elim (λ (q : k ≡ half). omega (arith, all)) (λ (q : k ≡ n - 1). omega (arith, all)) which in
           became (parted half B _⊕_ l k (flat-of x) _ e refl refl pos least most (omega (arith, all)) spans) (omega arith)
       go false h =
           let under : n ≤ half = ltb-false half n h in
@@ -172,7 +198,8 @@ module _ (half : ℕ) (pos : 0 < half) {B : Asked (Subtree 0)} (any : Pairless B
       refl refl refl (inl refl) (omega arith) (omega (arith, q .0)) (omega (arith, q .0))
 
   -- the page under x is short by one entry
-  pub rebalance-heals : {lo a b hi i : ℕ} {es ys : Nodes (suc l)} (x : Node (Subtree (suc l))) (S : Supply) → Beside (Shaped half B (suc l)) x ys lo a es i
+  pub rebalance-heals : {lo a b hi i : ℕ} {es ys : Nodes (suc l)} (x : Node (Subtree (suc l))) (S : Supply)
+      → Beside (Shaped half B (suc l)) x ys lo a es i
       → x .entry .start ≡ a → a < b → Seg (Shaped half B l) a b (x .subtree) → suc (length (x .subtree)) ≡ half
       → Seg (Shaped half B (suc l)) b hi ys → 2 ≤ length es
       → Heals half B _⊕_ (suc l) lo hi es (rebalance half _⊕_ l i es S .nodes)

@@ -55,7 +55,10 @@ module _ {_⊕_ : Pair → Pair → Pair} {l : ℕ} where
     same-pair-in h u low = pair-in-look _⊕_ l u none s lt low ∙ (h .same u none ∙ sym (pair-in-look _⊕_ l u none r lt low))
 
     pub pair-in-same : ((u : ℕ) → lo ≤ u → pair-in _⊕_ l u es ≡ pair-in _⊕_ l u fs) → Same _⊕_ l es fs
-    pair-in-same h = record { same = λ u d. ⊎-elim (λ low. late u d low) (λ early. look-early (pair-under _⊕_ l u) u d s early ∙ sym (look-early (pair-under _⊕_ l u) u d r early)) (le-or-lt lo u) }
+    pair-in-same h = record {
+      same = λ u d. ⊎-elim (λ low. late u d low) (λ early. look-early (pair-under _⊕_ l u) u d s early
+          ∙ sym (look-early (pair-under _⊕_ l u) u d r early)) (le-or-lt lo u);
+    }
       where
         late : (u : ℕ) (d : Pair) → lo ≤ u → look (pair-under _⊕_ l u) u d es ≡ look (pair-under _⊕_ l u) u d fs
         late u d low = sym (pair-in-look _⊕_ l u d s lt low) ∙ (h u low ∙ pair-in-look _⊕_ l u d r lt low)
@@ -81,7 +84,8 @@ module _ (_⊕_ : Pair → Pair → Pair) (l : ℕ) where
   unfolding pair-in pair-under node-of index-of last-from
   pair-in-one x u = go (leb (x .entry .start) u)
     where
-      go : (b : Bool) → pair-under _⊕_ (suc l) u (getD (x ∷ []) (cond b 0 0) (no-node (suc l))) ≡ x .entry .pair ⊕ pair-in _⊕_ l u (x .subtree)
+      go : (b : Bool)
+          → pair-under _⊕_ (suc l) u (getD (x ∷ []) (cond b 0 0) (no-node (suc l))) ≡ x .entry .pair ⊕ pair-in _⊕_ l u (x .subtree)
       go true = refl
       go false = refl
 
@@ -126,7 +130,8 @@ module _ (_⊕_ : Pair → Pair → Pair) (l : ℕ) where
       second = span f right at-mid lt′
 
 -- a leaf entry and a later one with the same pair
-pub same-leaf : (_⊕_ : Pair → Pair → Pair) (x y : Node (Subtree 0)) → x .entry .start ≤ y .entry .start → y .entry .pair ≡ x .entry .pair → Same _⊕_ 0 (x ∷ y ∷ []) (x ∷ [])
+pub same-leaf : (_⊕_ : Pair → Pair → Pair) (x y : Node (Subtree 0)) → x .entry .start ≤ y .entry .start
+    → y .entry .pair ≡ x .entry .pair → Same _⊕_ 0 (x ∷ y ∷ []) (x ∷ [])
 unfolding look pair-under
 same-leaf _⊕_ x y le pairs =
     record {
@@ -134,7 +139,8 @@ same-leaf _⊕_ x y le pairs =
           λ u d. ⊎-elim
           (λ (late : y .entry .start ≤ u).
           let k : x .entry .start ≤ u = omega arith in
-          from-yes (y .entry .pair) (cond (leb (x .entry .start) u) (x .entry .pair) d) late ∙ (pairs ∙ sym (from-yes (x .entry .pair) d k)))
+          from-yes (y .entry .pair) (cond (leb (x .entry .start) u) (x .entry .pair) d) late
+          ∙ (pairs ∙ sym (from-yes (x .entry .pair) d k)))
           (λ early. from-no (y .entry .pair) (cond (leb (x .entry .start) u) (x .entry .pair) d) early)
           (le-or-lt (y .entry .start) u);
     }

@@ -32,7 +32,8 @@ pub record Pairless (B : Asked (Subtree 0)) : Type 0 where
 
 -- kept of two with equal pairs by the first, once it has the span of both
 pub record Joinable (B : Asked (Subtree 0)) : Type 0 where
-  pub joined : (lo mid hi : ℕ) (x y : Node (Subtree 0)) → lo < mid → mid < hi → y .entry .pair ≡ x .entry .pair → B lo mid x → B mid hi y → B lo hi x
+  pub joined : (lo mid hi : ℕ) (x y : Node (Subtree 0)) → lo < mid → mid < hi → y .entry .pair ≡ x .entry .pair → B lo mid x
+      → B mid hi y → B lo hi x
 
 -- and where t is cut besides
 abbrev pub Parts : ℕ → Asked (Subtree 0) → Asked (Subtree 0)
@@ -83,7 +84,8 @@ module _ (half : ℕ) (B : Asked (Subtree 0)) (_⊕_ : Pair → Pair → Pair) (
     pub spans : Seg (Shaped half B (suc l)) lo hi zs
     pub same : Same _⊕_ (suc l) (with-subtree e es ∷ []) zs
 
-  pub parted : {lo hi : ℕ} {es : Nodes l} (k : ℕ) (e f : Entry) → e .start ≡ lo → f .start ≡ at (flat (drop k es)) 0 .start → f .pair ≡ e .pair
+  pub parted : {lo hi : ℕ} {es : Nodes l} (k : ℕ) (e f : Entry) → e .start ≡ lo → f .start ≡ at (flat (drop k es)) 0 .start
+      → f .pair ≡ e .pair
       → 0 < half → half ≤ k → half + k ≤ length es → length es ≤ capacity half + half
       → Seg (Shaped half B l) lo hi es
       → Became lo hi e es (with-subtree e (take k es) ∷ with-subtree f (drop k es) ∷ [])
@@ -100,6 +102,7 @@ module _ (half : ℕ) (B : Asked (Subtree 0)) (_⊕_ : Pair → Pair → Pair) (
       record {
         spans = more at-lo lt (left, p .front) (seg-one start lt′ (right, p .back));
         same =
-            subst (λ z. Same _⊕_ (suc l) (with-subtree e z ∷ []) (with-subtree e (take k es) ∷ with-subtree f (drop k es) ∷ [])) (take-append-drop k es)
+            subst (λ z. Same _⊕_ (suc l) (with-subtree e z ∷ []) (with-subtree e (take k es) ∷ with-subtree f (drop k es) ∷ []))
+            (take-append-drop k es)
             (same-two _⊕_ l e f at-lo start pairs lt lt′ (p .front) (p .back));
       }

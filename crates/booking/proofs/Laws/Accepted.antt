@@ -37,7 +37,8 @@ pub record Passed (unsound other full lacking : Bool) : Type 0 where
   pub enough : lacking ≡ false
 
 passed : (unsound other full lacking : Bool) {h g : Head}
-    → Accepted h ≡ cond (eqb (first ((21, unsound) ∷ (22, other) ∷ (23, full) ∷ (24, lacking) ∷ [])) 0) (Accepted g) (Refused (first ((21, unsound) ∷ (22, other) ∷ (23, full) ∷ (24, lacking) ∷ [])))
+    → Accepted h ≡ cond (eqb (first ((21, unsound) ∷ (22, other) ∷ (23, full) ∷ (24, lacking) ∷ [])) 0) (Accepted g)
+    (Refused (first ((21, unsound) ∷ (22, other) ∷ (23, full) ∷ (24, lacking) ∷ [])))
     → Passed unsound other full lacking × (h ≡ g)
 unfolding first
 passed true other full lacking e = absurd (let z : _≡_ {A = ℕ} 0 1 = cc in omega arith)
@@ -82,11 +83,13 @@ module _ {side : Side} {v : ℤ} {s e : ℕ} {img : List ℕ} {h : Head} (a : Ac
       below : (m n : ℕ) → m ≤ n → m ≢ n → m < n
       below m n l d = omega (arith, d)
 
-  module _ (bytes : Bytes img) {k to : ℕ} {p : Pair} (same-kind : k ≡ head 12 img .kind) (same-end : to ≡ end) (same-effect : p ≡ effect side v) where
+  module _ (bytes : Bytes img) {k to : ℕ} {p : Pair} (same-kind : k ≡ head 12 img .kind) (same-end : to ≡ end)
+      (same-effect : p ≡ effect side v) where
     ready-so : Changeable k s to p X
     ready-so =
         subst⁻¹ (λ j. Changeable j s to p X) same-kind
-        (subst⁻¹ (λ t. Changeable (head 12 img .kind) s t p X) same-end (subst⁻¹ (λ q. Changeable (head 12 img .kind) s end q X) same-effect ready))
+        (subst⁻¹ (λ t. Changeable (head 12 img .kind) s t p X) same-end
+        (subst⁻¹ (λ q. Changeable (head 12 img .kind) s end q X) same-effect ready))
 
     holds : Encodes img X
     holds = sound-holds img bytes accepted-sound
@@ -94,6 +97,8 @@ module _ {side : Side} {v : ℤ} {s e : ℕ} {img : List ℕ} {h : Head} (a : Ac
     pub accepted-some : Pre img (Changeable k s to p)
     accepted-some = record { image = X; holds = holds; ready = ready-so }
 
-    pub accepted-changed : {after : List ℕ} → Post img (Changeable k s to p) (λ Z. Encodes after (change 12 (combine k) s to p Z)) → after ≡ changed 12 side v s e img
+    pub accepted-changed : {after : List ℕ} → Post img (Changeable k s to p) (λ Z. Encodes after (change 12 (combine k) s to p Z))
+        → after ≡ changed 12 side v s e img
     unfolding changed
-    accepted-changed g = g X holds ready-so .bytes ∙ (λ j. image-bytes 12 (change 12 (combine (same-kind j)) s (same-end j) (same-effect j) X))
+    accepted-changed g =
+        g X holds ready-so .bytes ∙ (λ j. image-bytes 12 (change 12 (combine (same-kind j)) s (same-end j) (same-effect j) X))

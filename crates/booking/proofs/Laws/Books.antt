@@ -65,13 +65,19 @@ module _ (side : Side) (v : ℤ) (s e : ℕ) (img scratch : List ℕ) where
   unfolding made book book-status scratch-after
   book-is = refl
 
-  pub book-early-out : {n : ℕ} → n ≡ first early → n ≢ 0 → record { status = n; image = img; scratch = scratch } ≡ book 12 side v s e img scratch
+  pub book-early-out : {n : ℕ} → n ≡ first early → n ≢ 0
+      → record { status = n; image = img; scratch = scratch } ≡ book 12 side v s e img scratch
   unfolding made
   book-early-out {n} e d =
       let f : first early ≢ 0 = λ z. d (e ∙ z) in
       let number : n ≡ first (early ++ late) = e ∙ sym (first-early early late f) in
       (λ j. record { status = number j; image = cond (sym (ne-eqb n 0 d) j) done img; scratch = scratch })
-      ∙ (λ j. record { status = first (early ++ late); image = cond (eqb (number j) 0) done img; scratch = cond (sym (ne-eqb (first early) 0 f) j) clean scratch })
+      ∙ (λ j. record {
+        status = first (early ++ late);
+        image = cond (eqb (number j) 0) done img;
+        scratch =
+            cond (sym (ne-eqb (first early) 0 f) j) clean scratch;
+      })
       ∙ book-is
 
   module _ (z : first early ≡ 0) where
@@ -96,7 +102,8 @@ module _ (side : Side) (v : ℤ) (s e : ℕ) (img scratch : List ℕ) where
     late-status : first (early ++ late) ≡ first late
     unfolding book-input-rows first
     late-status =
-        λ j. first ((16, not (tests .whole-is j)) ∷ (17, not (tests .room-is j)) ∷ (11, not (tests .span-is j)) ∷ (13, not (tests .fits-is j)) ∷ late)
+        λ j. first ((16, not (tests .whole-is j)) ∷ (17, not (tests .room-is j)) ∷ (11, not (tests .span-is j))
+        ∷ (13, not (tests .fits-is j)) ∷ late)
 
     by-late : {n : ℕ} {after left : List ℕ} → n ≡ first late → after ≡ cond (eqb n 0) done img → left ≡ clean
         → record { status = n; image = after; scratch = left } ≡ book 12 side v s e img scratch
@@ -122,7 +129,8 @@ module _ (side : Side) (v : ℤ) (s e : ℕ) (img scratch : List ℕ) where
         go true f e = eqb-true n 0 f
         go false f e = absurd (let y : _≡_ {A = ℕ} 0 1 = cc in omega arith)
 
-    pub book-late-out : {row : ℕ} {left : List ℕ} → Refused row ≡ state-check side s e img → left ≡ clean → record { status = row; image = img; scratch = left } ≡ book 12 side v s e img scratch
+    pub book-late-out : {row : ℕ} {left : List ℕ} → Refused row ≡ state-check side s e img → left ≡ clean
+        → record { status = row; image = img; scratch = left } ≡ book 12 side v s e img scratch
     unfolding state-check
     book-late-out j c =
         let r = refused-row (first late) (head 12 img) j in

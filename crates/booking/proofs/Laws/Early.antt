@@ -24,7 +24,8 @@ module _ (v : ℤ) (s e : ℕ) (img scratch : List ℕ) where
       → first ((16, not whole) ∷ (17, not room) ∷ (11, not span) ∷ (13, not fits) ∷ []) ≡ first (book-input-rows 12 v s e img scratch)
   unfolding book-input-rows scratch-ok borrowed
   rows-are t =
-      λ j. first ((16, not (sym (t .whole-is) j)) ∷ (17, not (sym (t .room-is) j)) ∷ (11, not (sym (t .span-is) j)) ∷ (13, not (sym (t .fits-is) j)) ∷ [])
+      λ j. first ((16, not (sym (t .whole-is) j)) ∷ (17, not (sym (t .room-is) j)) ∷ (11, not (sym (t .span-is) j))
+      ∷ (13, not (sym (t .fits-is) j)) ∷ [])
 
 -- for a u32 the span's second half always holds
 pub span-less : (s e : ℕ) → e ≤ END → span-ok s e ≡ ltb s e

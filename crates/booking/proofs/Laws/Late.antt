@@ -33,7 +33,8 @@ module _ (b : Bool) (s e : ℕ) (img : List ℕ) where
   abbrev h : Head
   h = head 12 img
 
-  by-tests : (unsound other full lacking : Bool) → not (sound 12 img) ≡ unsound → (b && not (eqb (h .kind) 1)) ≡ other → eqb (h .changes) most-changes ≡ full
+  by-tests : (unsound other full lacking : Bool) → not (sound 12 img) ≡ unsound → (b && not (eqb (h .kind) 1)) ≡ other
+      → eqb (h .changes) most-changes ≡ full
       → lacks-pages 12 s (effect-end e (h .window)) (image-of 12 img) ≡ lacking
       → judgement unsound other full lacking h ≡ state-check (side-of b) s e img
   unfolding judgement state-check
@@ -61,7 +62,8 @@ module _ (b : Bool) (s e : ℕ) (img : List ℕ) where
         full : eqb (h .changes) most-changes ≡ false
         full = ap (λ (f : Head). eqb (f .changes) most-changes) (sym k) ∙ r
 
-        lacking : {z : Bool} → z ≡ lacks-pages 12 s end (image-of 12 img) → lacks-pages 12 s (effect-end e (h .window)) (image-of 12 img) ≡ z
+        lacking : {z : Bool} → z ≡ lacks-pages 12 s end (image-of 12 img)
+            → lacks-pages 12 s (effect-end e (h .window)) (image-of 12 img) ≡ z
         lacking t = ap (λ n. lacks-pages 12 s n (image-of 12 img)) (sym (l ∙ ap (λ (f : Head). effect-end e (f .window)) k)) ∙ sym t
 
         pub late-24 : true ≡ lacks-pages 12 s end (image-of 12 img) → Refused 24 ≡ state-check (side-of b) s e img

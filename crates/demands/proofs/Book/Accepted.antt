@@ -30,7 +30,8 @@ unfolding first
 row n true rows e = absurd (omega arith)
 row n false rows e = (refl, e)
 
-pub passed : (half : ℕ) (side : Side) (v : ℤ) (s e : ℕ) (img scratch : List ℕ) → book half side v s e img scratch .status ≡ 0 → Passed half side v s e img scratch
+pub passed : (half : ℕ) (side : Side) (v : ℤ) (s e : ℕ) (img scratch : List ℕ) → book half side v s e img scratch .status ≡ 0
+    → Passed half side v s e img scratch
 unfolding book book-status book-input-rows
 passed half side v s e img scratch h =
     let r16 = row 15 _ _ h in

@@ -12,7 +12,8 @@ use Rattle.rule.specs.Pairs.{none, entry-effect, opposite, same-number, same-pa
 use Rattle.rule.proofs.Laws.{lawful, same-pair-is}
 use Rattle.calls.specs.Changes.{withdraws, effect, Change}
 use Rattle.calls.specs.Book.{book-of, book-pair}
-use Rattle.calls.specs.Aggregate.{counts-at, counting, signed, sum-of, count-of, best-of, best-pair, aggregate-of, aggregate, Matched, live-from}
+use Rattle.calls.specs.Aggregate.{counts-at, counting, signed, sum-of, count-of, best-of, best-pair, aggregate-of, aggregate, Matched}
+use Rattle.calls.specs.Aggregate.{live-from}
 use Rattle.demands.specs.Items.{effect-of, Spanned, Enters, Sided}
 use Rattle.demands.proofs.Book.Spans.{span-is, overlap-is}
 use Rattle.demands.proofs.Book.Totals.{total, total-same, unit-right, cond-unit}
@@ -36,7 +37,8 @@ each-counting {P} w t (all-more {x = c} {xs = cs} p h) = go (counts-at w c t) (e
 abbrev pub overlap : ℕ → ℕ → ℕ → ℕ → Bool
 overlap w t s e = leb s t && ltb (t - w) e
 
-counting-total : (kind w t : ℕ) (cs : List Change) → total (combine kind) effect-of (counting w cs t) ≡ total (combine kind) (share (overlap w t)) cs
+counting-total : (kind w t : ℕ) (cs : List Change)
+    → total (combine kind) effect-of (counting w cs t) ≡ total (combine kind) (share (overlap w t)) cs
 unfolding total counting share counts-at
 counting-total kind w t [] = refl
 counting-total kind w t (c ∷ cs) =
@@ -45,7 +47,8 @@ counting-total kind w t (c ∷ cs) =
   where
     go : (x : Bool) → total (combine kind) effect-of (counting w cs t) ≡ total (combine kind) (share (overlap w t)) cs
         → total (combine kind) effect-of (cond x (c ∷ counting w cs t) (counting w cs t))
-        ≡ cond x (combine kind (effect-of c) (total (combine kind) (share (overlap w t)) cs)) (total (combine kind) (share (overlap w t)) cs)
+        ≡ cond x (combine kind (effect-of c) (total (combine kind) (share (overlap w t)) cs))
+        (total (combine kind) (share (overlap w t)) cs)
     go true ih = ap (λ z. combine kind (effect-of c) z) ih
     go false ih = ih
 
@@ -107,7 +110,8 @@ module _ (kind w : ℕ) (t : ℕ) where
   aggregate-total {cs} h = aggregate-of-total kind (each-counting w t h) ∙ counting-total kind w t cs
 
   -- the book's pair is the aggregate
-  pub book-aggregate : {cs : List Change} → t < END → All Spanned cs → All (Sided kind) cs → book-pair (book-of kind w cs) t ≡ aggregate kind w cs t
+  pub book-aggregate : {cs : List Change} → t < END → All Spanned cs → All (Sided kind) cs
+      → book-pair (book-of kind w cs) t ≡ aggregate kind w cs t
   unfolding share
   book-aggregate {cs} l spans sided =
       book-total kind w t cs
@@ -118,7 +122,8 @@ module _ (kind w : ℕ) (t : ℕ) where
       same-test c h = ap (λ x. cond x (effect-of c) none) (sym (overlap-is (c .s) (c .e) w t (span-is (c .s) (c .e) h) l))
 
   -- "If every withdrawal matches an earlier entry not yet withdrawn, this is the aggregate over live bookings."
-  pub aggregate-live : {cs : List Change} → All (Sided kind) cs → Matched [] cs → aggregate kind w cs t ≡ aggregate kind w (live-from [] cs) t
+  pub aggregate-live : {cs : List Change} → All (Sided kind) cs → Matched [] cs
+      → aggregate kind w cs t ≡ aggregate kind w (live-from [] cs) t
   unfolding total
   aggregate-live {cs} h m =
       aggregate-total h

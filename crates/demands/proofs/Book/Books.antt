@@ -85,7 +85,8 @@ module _ (kind w : ℕ) (t : ℕ) where
 
 -- ---- its items
 
-entered-all-is : (cs : List Change) (B : Book) → entered-all cs B ≡ record { kind = B .kind; window = B .window; items = items-onto (B .window) cs (B .items) }
+entered-all-is : (cs : List Change) (B : Book)
+    → entered-all cs B ≡ record { kind = B .kind; window = B .window; items = items-onto (B .window) cs (B .items) }
 unfolding entered-all entered items-onto item-of effect-of
 entered-all-is [] B = refl
 entered-all-is (c ∷ cs) B = entered-all-is cs (entered 0 (c .side) (c .v) (c .s) (c .e) B)

@@ -15,7 +15,8 @@ use Rattle.demands.proofs.Book.Runs.{listing-same}
 module _ (kind w a b : ℕ) (out : List ℕ) where
   pub book-listing : {cs : List Change} → All Spanned cs → All (Sided kind) cs
       → listing-of (book-pair (book-of kind w cs)) a b out ≡ listing-of (aggregate kind w cs) a b out
-  book-listing {cs} spans sided = listing-same (book-pair (book-of kind w cs)) (aggregate kind w cs) a b out (λ t x y l. book-aggregate kind w t l spans sided)
+  book-listing {cs} spans sided =
+      listing-same (book-pair (book-of kind w cs)) (aggregate kind w cs) a b out (λ t x y l. book-aggregate kind w t l spans sided)
 
   pub listing-same-changes : {xs ys : List Change} → Same-changes xs ys → All (Sided kind) xs → All (Sided kind) ys
       → listing-of (book-pair (book-of kind w xs)) a b out ≡ listing-of (book-pair (book-of kind w ys)) a b out

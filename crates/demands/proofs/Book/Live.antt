@@ -25,7 +25,8 @@ matching b = by-side (λ d. same-booking (withdrawal b) d ≡ true → Enters d 
     found d e n =
         let h =
         both (same-number (b .v) (d .v)) (eqb (b .s) (d .s) && eqb (b .e) (d .e)) (same-number-is (b .v) (d .v))
-        (both (eqb (b .s) (d .s)) (eqb (b .e) (d .e)) (eqb-true (b .s) (d .s), eq-eqb (b .s) (d .s)) (eqb-true (b .e) (d .e), eq-eqb (b .e) (d .e)))
+        (both (eqb (b .s) (d .s)) (eqb (b .e) (d .e)) (eqb-true (b .s) (d .s), eq-eqb (b .s) (d .s))
+        (eqb-true (b .e) (d .e), eq-eqb (b .e) (d .e)))
         .0 e in
         λ i. record { side = entering; v = h .0 i; s = h .1 .0 i; e = h .1 .1 i }
 
@@ -50,7 +51,8 @@ live-enters live (c ∷ cs) h = live-enters (live-after c live) cs (after-enters
 
 module _ {_⊕_ : Pair → Pair → Pair} (L : Lawful _⊕_) (share : Change → Pair) where
   infixl 60 _⊕_
-  without-total : (b : Booking) {live : List Change} → share (entry b) ⊕ share (withdrawal b) ≡ none → All Enters live → live-has (withdrawal b) live ≡ true
+  without-total : (b : Booking) {live : List Change} → share (entry b) ⊕ share (withdrawal b) ≡ none → All Enters live
+      → live-has (withdrawal b) live ≡ true
       → total _⊕_ share (without (withdrawal b) live) ≡ share (withdrawal b) ⊕ total _⊕_ share live
   unfolding total without live-has
   without-total b u all-none e = absurd (false≢true e)

@@ -14,14 +14,21 @@ module _ (f g : ℕ → Pair) where
   after-same : (t k : ℕ) → ((u : ℕ) → t ≤ u → u ≤ t + k → f u ≡ g u) → runs-after f t k ≡ runs-after g t k
   unfolding runs-after
   after-same t zero h = refl
-  after-same t (suc k) h = rw (h t (omega arith) (omega arith), h (suc t) (omega arith) (omega arith), after-same (suc t) k (λ u a b. h u (omega arith) (omega arith)))
+  after-same t (suc k) h =
+      rw (
+        h t (omega arith) (omega arith),
+        h (suc t) (omega arith) (omega arith),
+        after-same (suc t) k
+            (λ u a b. h u (omega arith) (omega arith)),
+      )
 
   pub runs-same : (a b : ℕ) → a < b → ((t : ℕ) → a ≤ t → t < b → f t ≡ g t) → runs-of f a b ≡ runs-of g a b
   unfolding runs-of
   runs-same a b l h = rw (h a (omega arith) l, after-same a (b - suc a) (λ u x y. h u x (omega arith)))
 
   -- a span that isn't one is turned back by 11 for both, so the pairs count at instants only
-  pub listing-same : (a b : ℕ) (out : List ℕ) → ((t : ℕ) → a ≤ t → t < b → t < END → f t ≡ g t) → listing-of f a b out ≡ listing-of g a b out
+  pub listing-same : (a b : ℕ) (out : List ℕ) → ((t : ℕ) → a ≤ t → t < b → t < END → f t ≡ g t)
+      → listing-of f a b out ≡ listing-of g a b out
   unfolding listing-of first
   listing-same a b out h = go (span-ok a b) refl
     where

@@ -19,12 +19,15 @@ unfoldable pub share : (ℕ → ℕ → Bool) → Change → Pair
 share test c = cond (test (c .s) (c .e)) (effect-of c) none
 
 -- kind 1: a withdrawal undoes its entry
-undone : (kind : ℕ) (test : ℕ → ℕ → Bool) (b : Booking) → eqb kind 1 ≡ true → combine kind (share test (entry b)) (share test (withdrawal b)) ≡ none
+undone : (kind : ℕ) (test : ℕ → ℕ → Bool) (b : Booking) → eqb kind 1 ≡ true
+    → combine kind (share test (entry b)) (share test (withdrawal b)) ≡ none
 unfolding share effect-of effect
 undone kind test b k = go (test (b .s) (b .e))
   where
     go : (x : Bool) → combine kind (cond x (entry-effect (b .v)) none) (cond x (opposite (entry-effect (b .v))) none) ≡ none
-    go true = subst⁻¹ (λ (n : ℕ). combine n (entry-effect (b .v)) (opposite (entry-effect (b .v))) ≡ none) (eqb-true kind 1 k) (invertible .undone (entry-effect (b .v)))
+    go true =
+        subst⁻¹ (λ (n : ℕ). combine n (entry-effect (b .v)) (opposite (entry-effect (b .v))) ≡ none) (eqb-true kind 1 k)
+        (invertible .undone (entry-effect (b .v)))
     go false = lawful kind .unit none
 
 -- where 22 turns back the withdrawals of the other kinds, there are none that would have to undo

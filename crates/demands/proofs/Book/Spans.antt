@@ -20,7 +20,10 @@ span-is s e h =
 -- [s, e) overlaps [t−w, t] exactly where [s, e′) has t
 pub overlap-is : (s e w t : ℕ) → Span s e → t < END → leb s t && ltb (t - w) e ≡ covers s (effect-end e w) t
 unfolding covers effect-end
-overlap-is s e w t h l = ap (λ x. leb s t && x) (one-test {P = t - w < e} (ltb (t - w) e) (ltb t (min (e + w) END)) (ltb-true (t - w) e, lt-ltb (t - w) e) (λ x. omega (arith, ltb-true t (min (e + w) END) x), λ x. lt-ltb t (min (e + w) END) (omega arith)))
+overlap-is s e w t h l =
+    ap (λ x. leb s t && x)
+    (one-test {P = t - w < e} (ltb (t - w) e) (ltb t (min (e + w) END)) (ltb-true (t - w) e, lt-ltb (t - w) e)
+    (λ x. omega (arith, ltb-true t (min (e + w) END) x), λ x. lt-ltb t (min (e + w) END) (omega arith)))
 
 pub covers-not : (s e t : ℕ) → (t < s) ⊎ (e ≤ t) → covers s e t ≡ false
 unfolding covers
@@ -31,7 +34,8 @@ covers-not s e t (inr h) = rw (le-ltb t e h, and-false)
 pub counts-at-is : (w : ℕ) (c : Change) (t : ℕ) → Span (c .s) (c .e) → (counts-at w c t ≡ true) ↔ Counts (c .s) (c .e) w t
 unfolding counts-at
 counts-at-is w c t span = (
-  λ h. let r = test .0 h in record { at = max (c .s) (t - w); begun = omega arith; live = omega arith; past = omega arith; recent = omega arith },
+  λ h. let r = test .0 h in
+      record { at = max (c .s) (t - w); begun = omega arith; live = omega arith; past = omega arith; recent = omega arith },
   λ o. test .1 (omega arith),
 )
   where

@@ -40,7 +40,8 @@ module _ {_⊕_ : Pair → Pair → Pair} (L : Lawful _⊕_) (share : Change →
       ∙ L .unit (total _⊕_ share (couples bs ++ left))
       ∙ couples-total bs left h
 
-  left-total : {xs : List Change} (bs : List Booking) (left : List Change) → Reordered xs (couples bs ++ left) → All (Undone _⊕_ share) xs → total _⊕_ share xs ≡ total _⊕_ share left
+  left-total : {xs : List Change} (bs : List Booking) (left : List Change) → Reordered xs (couples bs ++ left)
+      → All (Undone _⊕_ share) xs → total _⊕_ share xs ≡ total _⊕_ share left
   left-total bs left r h = total-reordered L share r ∙ couples-total bs left (all-reordered r h)
 
   pub same-changes-total : {xs ys : List Change} → Same-changes xs ys → All (Undone _⊕_ share) xs → All (Undone _⊕_ share) ys

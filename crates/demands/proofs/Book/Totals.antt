@@ -13,7 +13,8 @@ total rule share [] = none
 total rule share (c ∷ cs) = rule (share c) (total rule share cs)
 
 -- shares that agree on each change of the list
-pub total-same : (rule : Pair → Pair → Pair) (f g : Change → Pair) {cs : List Change} → All (λ c. f c ≡ g c) cs → total rule f cs ≡ total rule g cs
+pub total-same : (rule : Pair → Pair → Pair) (f g : Change → Pair) {cs : List Change} → All (λ c. f c ≡ g c) cs
+    → total rule f cs ≡ total rule g cs
 unfolding total
 total-same rule f g all-none = refl
 total-same rule f g (all-more {x = c} {xs = cs} e h) = rw (e, total-same rule f g h)

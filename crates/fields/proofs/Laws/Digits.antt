@@ -88,7 +88,8 @@ num-digits k v h = num-digits-mod k v ∙ mod-eq-of-lt h
 -- what a number has beyond its k bytes does not show in them
 pub digits-mod : (k v : ℕ) → digits k (v % 256 ^ k) ≡ digits k v
 digits-mod k v =
-    ap (digits k) (sym (num-digits-mod k v)) ∙ ap (λ n. digits n (num (digits k v))) (sym (length-digits k v)) ∙ digits-num (digits k v) (bytes-digits k v)
+    ap (digits k) (sym (num-digits-mod k v)) ∙ ap (λ n. digits n (num (digits k v))) (sym (length-digits k v))
+    ∙ digits-num (digits k v) (bytes-digits k v)
 
 -- bytes in two runs, the lower ones first
 pub num-append : (xs ys : List ℕ) → num (xs ++ ys) ≡ num xs + 256 ^ length xs * num ys

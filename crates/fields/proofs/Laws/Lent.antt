@@ -1,4 +1,5 @@
--- A part of a slice that is lent as `&s[a..e]` or `&mut s[a..e]`: what it shows is a `part`, and the slice that it came back to is a `patch`. Assumes nothing.
+-- A part of a slice that is lent as `&s[a..e]` or `&mut s[a..e]`: what it shows is a `part`, and the slice that it came back to is a
+-- `patch`. Assumes nothing.
 use mathlib.Core.Path.{_≡_, ap, _∙_}
 use Prim.Native.Nat.{ℕ, _+_, _-_, _≤_}
 use native.Mathlib.Omega.{arith}
@@ -15,7 +16,8 @@ lent-part s a e n q =
     ap (λ k. take k (drop a s)) d
 
 -- the slice once the part came back as ys, which are as many as were lent (the call's `.kept`)
-pub back-patch : (s : List ℕ) (a e : ℕ) (ys : List ℕ) → a ≤ e → e ≤ length s → length ys ≡ length (midOf a (e - a) s) → putMid a (e - a) s ys ≡ patch s a ys
+pub back-patch : (s : List ℕ) (a e : ℕ) (ys : List ℕ) → a ≤ e → e ≤ length s → length ys ≡ length (midOf a (e - a) s)
+    → putMid a (e - a) s ys ≡ patch s a ys
 unfolding patch
 back-patch s a e ys g h l =
     let k : length (midOf a (e - a) s) ≡ e - a = mid-len a e s h in

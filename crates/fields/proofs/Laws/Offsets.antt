@@ -69,7 +69,8 @@ i64 = signed w64 8 refl
 
 -- ---- numbers from their bytes, as the code reads them
 
-pub num-part-add : (s : List ℕ) (o n m : ℕ) → o + n ≤ length s → num (part s o (n + m)) ≡ num (part s o n) + 256 ^ n * num (part s (o + n) m)
+pub num-part-add : (s : List ℕ) (o n m : ℕ) → o + n ≤ length s
+    → num (part s o (n + m)) ≡ num (part s o n) + 256 ^ n * num (part s (o + n) m)
 num-part-add s o n m h =
     ap num (part-add s o n m)
     ∙ num-append (part s o n) (part s (o + n) m)

@@ -5,8 +5,10 @@ use native.Mathlib.Nat.{add-zero, zero-add, add-assoc, add-sub-of-le}
 use native.Mathlib.Numerals.{add-one}
 use native.Mathlib.Omega.{arith}
 use mathlib.Core.List.{List, [], _∷_, _++_, append-assoc, append-nil}
-use lib.ListN.{length, getD, set, take, drop, replicate, length-replicate, replicate-append-replicate, length-append, length-take, length-drop, take-append-drop}
-use lib.Seq.{length-take-le, take-length, drop-length, take-take, take-add, drop-cons, drop-drop, take-at, drop-at, take-append-le, drop-append-le, take-append-add, drop-append-add, set-split, sets, sets-eq}
+use lib.ListN.{length, getD, set, take, drop, replicate, length-replicate, replicate-append-replicate, length-append, length-take}
+use lib.ListN.{length-drop, take-append-drop}
+use lib.Seq.{length-take-le, take-length, drop-length, take-take, take-add, drop-cons, drop-drop, take-at, drop-at, take-append-le}
+use lib.Seq.{drop-append-le, take-append-add, drop-append-add, set-split, sets, sets-eq}
 use Rattle.fields.specs.Bytes.{part, patch}
 
 -- ---- a part
@@ -110,7 +112,8 @@ unfolding patch
 sets-patch s o bs h = sets-eq bs s o h ∙ append-assoc (take o s) bs (drop (o + length bs) s)
 
 -- adjacent patches join
-pub patch-patch-next : (s : List ℕ) (o : ℕ) (xs ys : List ℕ) (p : ℕ) → o + length xs ≡ p → o ≤ length s → patch (patch s o xs) p ys ≡ patch s o (xs ++ ys)
+pub patch-patch-next : (s : List ℕ) (o : ℕ) (xs ys : List ℕ) (p : ℕ) → o + length xs ≡ p → o ≤ length s
+    → patch (patch s o xs) p ys ≡ patch s o (xs ++ ys)
 unfolding patch
 patch-patch-next s o xs ys p e h =
     let d : p + length ys ≡ o + length (xs ++ ys) = simp length-append (omega arith) in
@@ -120,14 +123,16 @@ patch-patch-next s o xs ys p e h =
     ∙ ap (λ l. take o s ++ l) (sym (append-assoc xs ys (drop (o + length (xs ++ ys)) s)))
 
 -- a store right after a patch, and after a run of one byte
-pub set-patch-next : (s : List ℕ) (o : ℕ) (bs : List ℕ) (i v : ℕ) → o + length bs ≡ i → i < length s → set (patch s o bs) i v ≡ patch s o (bs ++ (v ∷ []))
+pub set-patch-next : (s : List ℕ) (o : ℕ) (bs : List ℕ) (i v : ℕ) → o + length bs ≡ i → i < length s
+    → set (patch s o bs) i v ≡ patch s o (bs ++ (v ∷ []))
 set-patch-next s o bs i v e h =
     let l : length (patch s o bs) ≡ length s = length-patch s o bs (omega arith) in
     set-patch (patch s o bs) i v (omega arith) ∙ patch-patch-next s o bs (v ∷ []) i e (omega arith)
 
 pub fill-more : (s : List ℕ) (a i b : ℕ) → a + i < length s → set (patch s a (replicate i b)) (a + i) b ≡ patch s a (replicate (i + 1) b)
 fill-more s a i b h =
-    set-patch-next s a (replicate i b) (a + i) b (ap (λ k. a + k) (length-replicate i b)) h ∙ ap (patch s a) (replicate-append-replicate i 1 b)
+    set-patch-next s a (replicate i b) (a + i) b (ap (λ k. a + k) (length-replicate i b)) h
+    ∙ ap (patch s a) (replicate-append-replicate i 1 b)
 
 -- a patch of an append, within its first list or past it
 pub patch-append-left : (xs ys : List ℕ) (o : ℕ) (bs : List ℕ) → o + length bs ≤ length xs → patch (xs ++ ys) o bs ≡ patch xs o bs ++ ys
@@ -141,5 +146,6 @@ pub patch-append-right : (xs ys : List ℕ) (o : ℕ) (bs : List ℕ) → patch 
 unfolding patch
 patch-append-right xs ys o bs =
     ap (λ l. l ++ (bs ++ drop (length xs + o + length bs) (xs ++ ys))) (take-append-add xs ys o)
-    ∙ ap (λ l. xs ++ take o ys ++ (bs ++ l)) (ap (λ k. drop k (xs ++ ys)) (add-assoc (length xs) o (length bs)) ∙ drop-append-add xs ys (o + length bs))
+    ∙ ap (λ l. xs ++ take o ys ++ (bs ++ l))
+    (ap (λ k. drop k (xs ++ ys)) (add-assoc (length xs) o (length bs)) ∙ drop-append-add xs ys (o + length bs))
     ∙ append-assoc xs (take o ys) (bs ++ drop (o + length bs) ys)

@@ -1,5 +1,5 @@
--- Signed numbers and their bits, as the code turns one into the other, at any width: bits below half are the number itself, and a negative number's bits,
--- turned, are below half. Assumes nothing.
+-- Signed numbers and their bits, as the code turns one into the other, at any width: bits below half are the number itself, and a negative
+-- number's bits, turned, are below half. Assumes nothing.
 use mathlib.Core.Path.{_≡_, ap, _∙_}
 use mathlib.Core.Bool.{true, false, true≢false}
 use Prim.Native.Nat.{ℕ, _-_, _^_, _≤_, _<_}

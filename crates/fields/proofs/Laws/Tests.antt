@@ -36,7 +36,8 @@ pub all-are-none : (b : ℕ) (s : List ℕ) (a : ℕ) → all-are b (part s a 0)
 unfolding all-are part
 all-are-none b s a = refl
 
-pub all-are-more : (b : ℕ) (s : List ℕ) (a i : ℕ) → a + i < length s → all-are b (part s a (i + 1)) ≡ all-are b (part s a i) && eqb (getD s (a + i) 0) b
+pub all-are-more : (b : ℕ) (s : List ℕ) (a i : ℕ) → a + i < length s
+    → all-are b (part s a (i + 1)) ≡ all-are b (part s a i) && eqb (getD s (a + i) 0) b
 unfolding all-are
 all-are-more b s a i h =
     ap (all-are b) (part-add s a i 1)

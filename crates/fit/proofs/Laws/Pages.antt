@@ -72,9 +72,14 @@ pair-is h at p = case-is (eqb (h .kind) 1) _ total mark
   where
     total : eqb (h .kind) 1 ≡ true → (pair-ok h at p ≡ true) ↔ Paired h at p
     total e =
-        let bounds = both (leb (at .sums + natAbs (p .sum)) (most-value * h .changes)) (leb (at .counts + natAbs (p .count)) (h .changes)) (le-is _ _) (le-is _ _) in
+        let bounds = both (leb (at .sums + natAbs (p .sum)) (most-value * h .changes))
+        (leb (at .counts + natAbs (p .count)) (h .changes)) (le-is _ _) (le-is _ _) in
         rw (pair-total h at p e) (
-          λ t. record { total = λ _. record { sums = bounds .0 t .0; counts = bounds .0 t .1 }; mark = λ f. absurd (true≢false (sym e ∙ f)) },
+          λ t. record {
+            total = λ _. record { sums = bounds .0 t .0; counts = bounds .0 t .1 };
+            mark =
+                λ f. absurd (true≢false (sym e ∙ f));
+          },
           λ c. bounds .1 (c .total e .sums, c .total e .counts),
         )
 
@@ -86,7 +91,9 @@ pair-is h at p = case-is (eqb (h .kind) 1) _ total mark
         )
 
 module _ (half : ℕ) (h : Head) (at : Page-context) (s : List ℕ) where
-  starts-is : (starts-ok at s ≡ true) ↔ ((start-at s 0 ≡ at .lo) × (((i : ℕ) → i < entry-count s - 1 → start-at s i < start-at s (suc i)) × (start-at s (entry-count s - 1) < at .hi)))
+  starts-is : (starts-ok at s ≡ true) ↔
+      ((start-at s 0 ≡ at .lo)
+      × (((i : ℕ) → i < entry-count s - 1 → start-at s i < start-at s (suc i)) × (start-at s (entry-count s - 1) < at .hi)))
   unfolding starts-ok
   starts-is = both _ _ (eq-is _ _) (both _ _ (each-is (entry-count s - 1) _ _ (λ i. lt-is (start-at s i) (start-at s (suc i)))) (lt-is _ _))
 

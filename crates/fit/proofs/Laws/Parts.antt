@@ -31,7 +31,8 @@ fewest-pos half at h = go (at .«is_root») (eqb (at .level) 0)
     go true false = omega arith
     go false u = h
 
-pub entry-count-is : (half : ℕ) (at : Page-context) (s : List ℕ) → (entry-count-ok half at s ≡ true) ↔ ((fewest half at ≤ entry-count s) × (entry-count s ≤ capacity half))
+pub entry-count-is : (half : ℕ) (at : Page-context) (s : List ℕ)
+    → (entry-count-ok half at s ≡ true) ↔ ((fewest half at ≤ entry-count s) × (entry-count s ≤ capacity half))
 unfolding entry-count-ok
 entry-count-is half at s = both _ _ (le-is _ _) (le-is _ _)
 
@@ -67,7 +68,8 @@ module _ (pages level child : ℕ) where
 -- ---- a pair, by the kind
 
 module _ (h : Head) (at : Page-context) (p : Pair) where
-  pub pair-total : eqb (h .kind) 1 ≡ true → pair-ok h at p ≡ leb (at .sums + natAbs (p .sum)) (most-value * h .changes) && leb (at .counts + natAbs (p .count)) (h .changes)
+  pub pair-total : eqb (h .kind) 1 ≡ true
+      → pair-ok h at p ≡ leb (at .sums + natAbs (p .sum)) (most-value * h .changes) && leb (at .counts + natAbs (p .count)) (h .changes)
   unfolding pair-ok
   pair-total e = rw e
 

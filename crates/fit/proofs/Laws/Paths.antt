@@ -29,7 +29,8 @@ pub record Path (h : Head) (n : ℕ) (at : Page-context) : Type 0 where
   pub counts : at .counts ≤ weight h n
 
 -- an entry more: its own size has a bound, or all have one
-heavier : (t : Bool) (c n most x y : ℕ) → x ≤ c * cond t most n → (t ≡ true → x + y ≤ c * most) → (t ≡ false → y ≤ c) → x + y ≤ c * cond t most (n + 1)
+heavier : (t : Bool) (c n most x y : ℕ) → x ≤ c * cond t most n → (t ≡ true → x + y ≤ c * most) → (t ≡ false → y ≤ c)
+    → x + y ≤ c * cond t most (n + 1)
 heavier true c n most x y h total mark = total refl
 heavier false c n most x y h total mark = rw (mul-add c n 1, mul-one c) (omega (arith, mark refl))
 
@@ -37,7 +38,8 @@ light : (t : Bool) (most n : ℕ) → most ≤ most-changes → n ≤ most-heigh
 light true most n a b = a
 light false most n a b = omega arith
 
-bounded : (h : Head) (n : ℕ) (at : Page-context) → h .changes ≤ most-changes → n ≤ most-height → at .sums ≤ most-value * weight h n → at .counts ≤ weight h n → Bounded at
+bounded : (h : Head) (n : ℕ) (at : Page-context) → h .changes ≤ most-changes → n ≤ most-height
+    → at .sums ≤ most-value * weight h n → at .counts ≤ weight h n → Bounded at
 unfolding weight
 bounded h n at c l a b =
     let w = light (eqb (h .kind) 1) (h .changes) n c l in
@@ -46,24 +48,36 @@ bounded h n at c l a b =
 -- the root is under no entry
 pub root-path : (n : ℕ) (h : Head) → Ranges n h → Path h 0 (root-context h)
 unfolding root-context
-root-path n h r = record { level = omega (arith, r .height-most); span = record { before = omega arith; within = omega arith }; sums = omega arith; counts = omega arith }
+root-path n h r = record {
+  level = omega (arith, r .height-most);
+  span = record { before = omega arith; within = omega arith };
+  sums =
+      omega arith;
+  counts = omega arith;
+}
 
 pub path-bounded : {h : Head} {n : ℕ} {at : Page-context} → Path h n at → h .changes ≤ most-changes → Bounded at
 path-bounded {h} {n} {at} w c = bounded h n at c (omega (arith, w .level)) (w .sums) (w .counts)
 
-module _ {half : ℕ} {h : Head} {n : ℕ} {at : Page-context} {s : List ℕ} (way : Path h n at) (fit : PageFit half h at s) (some : 1 ≤ half) (i : ℕ) (l : i < entry-count s) where
+module _ {half : ℕ} {h : Head} {n : ℕ} {at : Page-context} {s : List ℕ} (way : Path h n at) (fit : PageFit half h at s)
+    (some : 1 ≤ half) (i : ℕ) (l : i < entry-count s) where
   sums-below : at .sums + natAbs (pair-at half s i .sum) ≤ most-value * weight h (n + 1)
   unfolding weight
   sums-below =
       let p = fit .pairs i l in
-      heavier (eqb (h .kind) 1) most-value n (h .changes) (at .sums) _ (way .sums) (λ e. p .total e .sums) (λ e. value-or-none-bound _ (p .mark e) .0)
+      heavier (eqb (h .kind) 1) most-value n (h .changes) (at .sums) _ (way .sums) (λ e. p .total e .sums)
+      (λ e. value-or-none-bound _ (p .mark e) .0)
 
   counts-below : at .counts + natAbs (pair-at half s i .count) ≤ weight h (n + 1)
   unfolding weight
   counts-below =
       let p = fit .pairs i l in
       let a : at .counts ≤ 1 * cond (eqb (h .kind) 1) (h .changes) n = omega (arith, way .counts) in
-      omega (arith, heavier (eqb (h .kind) 1) 1 n (h .changes) (at .counts) (natAbs (pair-at half s i .count)) a (λ e. omega (arith, p .total e .counts)) (λ e. value-or-none-bound _ (p .mark e) .1))
+      omega (
+        arith,
+        heavier (eqb (h .kind) 1) 1 n (h .changes) (at .counts) (natAbs (pair-at half s i .count)) a
+            (λ e. omega (arith, p .total e .counts)) (λ e. value-or-none-bound _ (p .mark e) .1),
+      )
 
   -- and under an inner entry is a context of the path
   pub below-path : 1 ≤ at .level → Path h (n + 1) (context-below half s at i)

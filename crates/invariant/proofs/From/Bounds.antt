@@ -27,12 +27,14 @@ record Measured (half : ℕ) (h : Head) (norm : Pair → ℕ) (Each : Pair → T
   here : (at : Page-context) (p : Pair) → Paired h at p → Each p × (acc at + norm p ≤ most)
   deeper : (s : List ℕ) (at : Page-context) (i : ℕ) → acc (context-below half s at i) ≡ acc at + norm (pair-at half s i)
 
-module _ (half : ℕ) (h : Head) (img : List ℕ) (norm : Pair → ℕ) (Each : Pair → Type 0) (most : ℕ) (acc : Page-context → ℕ) (w : Measured half h norm Each most acc) where
+module _ (half : ℕ) (h : Head) (img : List ℕ) (norm : Pair → ℕ) (Each : Pair → Type 0) (most : ℕ) (acc : Page-context → ℕ)
+    (w : Measured half h norm Each most acc) where
   pair-here : (at : Page-context) (s : List ℕ) → PageFit half h at s → (i : ℕ) → i < entry-count s
       → Each (pair-at half s i) × (acc at + norm (pair-at half s i) ≤ most)
   pair-here at s f i m = w .here at (pair-at half s i) (f .pairs i m)
 
-  tree-within : (l : ℕ) (at : Page-context) (p : ℕ) → tree-fit half h img l at p ≡ true → All (Path-bounded norm Each most l (acc at)) (load half img l p)
+  tree-within : (l : ℕ) (at : Page-context) (p : ℕ) → tree-fit half h img l at p ≡ true
+      → All (Path-bounded norm Each most l (acc at)) (load half img l p)
   unfolding Path-bounded entry-at
   tree-within zero at p t =
       let f : PageFit half h at (page-at half img p) = tree-top half h img zero at p t in
@@ -60,7 +62,8 @@ module _ (half : ℕ) (h : Head) where
   values : eqb (h .kind) 1 ≡ false → Measured half h (λ p. 0) Value-or-none 0 (λ at. 0)
   values k = record { here = λ at p e. (e .mark k, omega arith); deeper = λ s at i. refl }
 
-pub tree-bounds : (half : ℕ) (img : List ℕ) → Fit-image half img → Bounds (the-head half img .kind) (the-head half img .changes) (tree-in half img)
+pub tree-bounds : (half : ℕ) (img : List ℕ) → Fit-image half img
+    → Bounds (the-head half img .kind) (the-head half img .changes) (tree-in half img)
 unfolding root-context
 tree-bounds half img f =
     let h : Head = the-head half img in

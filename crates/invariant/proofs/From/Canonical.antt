@@ -14,7 +14,8 @@ use Rattle.fields.proofs.Laws.Parts.{part-whole}
 use Rattle.fields.proofs.Laws.Digits.{bytes-part}
 use Rattle.fields.proofs.Laws.Tests.{length-unused}
 use Rattle.page.specs.declared.Head.{Head}
-use Rattle.page.specs.Layout.{page-size, level-of, entry-count, child-at, entries-of, next-of, free-level, never-used-ok, free-ok, head-bytes}
+use Rattle.page.specs.Layout.{page-size, level-of, entry-count, child-at, entries-of, next-of, free-level, never-used-ok, free-ok}
+use Rattle.page.specs.Layout.{head-bytes}
 use Rattle.lists.specs.Lists.{listed, concat-map}
 use Rattle.page.specs.Fit.{Page-context, root-context, context-below, head-fit}
 use Rattle.page.proofs.Laws.Concat.{joined-parts}
@@ -45,14 +46,16 @@ module _ (half : ℕ) (h : Head) (img : List ℕ) (p : ℕ) where
   here : (at : Page-context) (q : ℕ) → p ≡ q → PageFit half h at (page-at half img q) → Placed half h (page-at half img p)
   here at q e f = rw e (record { context = at; fit = f })
 
-  placed : (l : ℕ) (at : Page-context) (q : ℕ) → tree-fit half h img l at q ≡ true → 1 ≤ times p (tree-pages half img l q) → Placed half h (page-at half img p)
+  placed : (l : ℕ) (at : Page-context) (q : ℕ) → tree-fit half h img l at q ≡ true → 1 ≤ times p (tree-pages half img l q)
+      → Placed half h (page-at half img p)
   unfolding tree-pages
   placed zero at q t n = go (ℕ-discrete p q)
     where
       go : Dec (p ≡ q) → Placed half h (page-at half img p)
       go (yes e) = here at q e (tree-top half h img zero at q t)
       go (no d) = absurd (omega (arith, times-other p q [] d, times-none p))
-  placed (suc l) at q t n = go (ℕ-discrete p q) (λ i m. placed l (context-below half (page-at half img q) at i) (child-at half (page-at half img q) i) (k .1 i m))
+  placed (suc l) at q t n =
+      go (ℕ-discrete p q) (λ i m. placed l (context-below half (page-at half img q) at i) (child-at half (page-at half img q) i) (k .1 i m))
     where
       k : PageFit half h at (page-at half img q)
           × ((i : ℕ) → i < entry-count (page-at half img q)
@@ -60,7 +63,8 @@ module _ (half : ℕ) (h : Head) (img : List ℕ) (p : ℕ) where
       k = tree-parts half h img l at q t
 
       go : Dec (p ≡ q)
-          → ((i : ℕ) → i < entry-count (page-at half img q) → 1 ≤ times p (tree-pages half img l (child-at half (page-at half img q) i)) → Placed half h (page-at half img p))
+          → ((i : ℕ) → i < entry-count (page-at half img q)
+          → 1 ≤ times p (tree-pages half img l (child-at half (page-at half img q) i)) → Placed half h (page-at half img p))
           → Placed half h (page-at half img p)
       go (yes e) deeper = here at q e (k .0)
       go (no d) deeper =
@@ -88,19 +92,22 @@ module _ (half : ℕ) (img : List ℕ) (b : Bytes img) (f : Sound-facts half img
     unfolding cell-bytes
     free-cell e =
         let s : List ℕ = page-at half img p in
-        ap (cell-bytes half) (cell-free half s (free-level-is half s e)) ∙ free-again half s (page-length (sized half img (f .fit .whole)) p r) (bytes-page p) e
+        ap (cell-bytes half) (cell-free half s (free-level-is half s e))
+        ∙ free-again half s (page-length (sized half img (f .fit .whole)) p r) (bytes-page p) e
 
     never-cell : never-used-ok (page-at half img p) ≡ true → cell-bytes half (cell-of half (page-at half img p)) ≡ page-at half img p
     unfolding cell-bytes
     never-cell e =
         let s : List ℕ = page-at half img p in
         let n : length s ≡ page-size half = page-length (sized half img (f .fit .whole)) p r in
-        ap (cell-bytes half) (cell-never half s (never-level (page-size half) s (omega arith) n e)) ∙ sym (unused-again (page-size half) s n e)
+        ap (cell-bytes half) (cell-never half s (never-level (page-size half) s (omega arith) n e))
+        ∙ sym (unused-again (page-size half) s n e)
 
     page-again : cell-bytes half (cell-of half (page-at half img p)) ≡ page-at half img p
     page-again = go (decLe (the-head half img .mark) p) (decLe 1 (times p (the-tree half img)))
       where
-        go : Dec (the-head half img .mark ≤ p) → Dec (1 ≤ times p (the-tree half img)) → cell-bytes half (cell-of half (page-at half img p)) ≡ page-at half img p
+        go : Dec (the-head half img .mark ≤ p) → Dec (1 ≤ times p (the-tree half img))
+            → cell-bytes half (cell-of half (page-at half img p)) ≡ page-at half img p
         go (yes k) t = never-cell (f .fit .never p k r)
         go (no k) (yes t) = tree-cell t
         go (no k) (no t) = free-cell (f .free p (omega (arith, f .once p l (omega arith))))
@@ -112,10 +119,12 @@ length-cell : (half : ℕ) (s : List ℕ) → length (cell-bytes half (cell-of h
 unfolding cell-of cell-bytes
 length-cell half s =
     cond-one (λ c. length (cell-bytes half c) ≡ page-size half) (eqb (level-of s) free-level) (λ e. length-free half (next-of s))
-    (λ e. cond-one (λ c. length (cell-bytes half c) ≡ page-size half) (eqb (level-of s) never-used-level) (λ e. length-unused (page-size half))
+    (λ e.
+    cond-one (λ c. length (cell-bytes half c) ≡ page-size half) (eqb (level-of s) never-used-level) (λ e. length-unused (page-size half))
     (λ e. length-tree half (level-of s) (entries-of half s) (omega (arith, length-entries-of half s))))
 
-head-page : (half : ℕ) (img : List ℕ) → 1 ≤ half → length-ok half img ≡ true → Bytes img → head-fit half (pages-in half img) (page-at half img 0) ≡ true
+head-page : (half : ℕ) (img : List ℕ) → 1 ≤ half → length-ok half img ≡ true → Bytes img
+    → head-fit half (pages-in half img) (page-at half img 0) ≡ true
     → head-bytes half (the-head half img) ≡ part img 0 (page-size half)
 unfolding head-fit page-at
 head-page half img some ok b e =

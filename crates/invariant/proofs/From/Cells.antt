@@ -27,12 +27,16 @@ module _ (half : ℕ) (h : Head) (img : List ℕ) where
       let v : level-of s ≡ l = tree-top half h img l at p t .level ∙ e in
       cell-tree half s (omega arith) ∙ (λ j. tree (v j) (sym (flat-load half img l p) j))
 
-  pub tree-represented : (l : ℕ) (at : Page-context) (e : Entry) → at .level ≡ l → l < free-level → tree-fit half h img l at (e .child) ≡ true
+  pub tree-represented : (l : ℕ) (at : Page-context) (e : Entry) → at .level ≡ l → l < free-level
+      → tree-fit half h img l at (e .child) ≡ true
       → Stores (suc l) (image-of half img .page) (loaded half img (suc l) e)
   unfolding Stores context-below entry-at
   tree-represented zero at e v small t =
-      let f : PageFit half h at (page-at half img (e .child)) = tree-top half h img zero at (e .child) t in
-      (page-represented zero at (e .child) v small t, rw (load-listed half img zero (e .child) (f .most)) (all-listed (loaded half img zero) _ _ (λ i l. tt)))
+      let f : PageFit half h at (page-at half img (e .child)) = tree-top half h img zero at (e .child) t in (
+        page-represented zero at (e .child) v small t,
+        rw (load-listed half img zero (e .child) (f .most))
+            (all-listed (loaded half img zero) _ _ (λ i l. tt)),
+      )
   tree-represented (suc l) at e v small t =
       let k = tree-parts half h img l at (e .child) t in
       let s : List ℕ = page-at half img (e .child) in (

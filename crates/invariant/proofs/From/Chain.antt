@@ -19,7 +19,8 @@ use Rattle.invariant.proofs.From.Load.{state-in}
 
 -- ---- the chain
 
-chain-linked : (half : ℕ) (img : List ℕ) (most k p : ℕ) → k ≤ most → chain-ends half img k p ≡ true → Linked (image-of half img .page) p (chain-pages half img most p)
+chain-linked : (half : ℕ) (img : List ℕ) (most k p : ℕ) → k ≤ most → chain-ends half img k p ≡ true
+    → Linked (image-of half img .page) p (chain-pages half img most p)
 unfolding image-of
 chain-linked half img most zero p l e =
     let z : p ≡ 0 = ended half img p e in
@@ -39,10 +40,13 @@ sound-supplied half img f =
     let c : Counting-facts half img = sound-counted f in
     record {
       length-true = sym (f .chain-length);
-      linked = chain-linked half img (pages-in half img) (the-head half img .chain) (the-head half img .free) (omega (arith, c .count, f .fit .head .mark-most)) (c .ends);
+      linked = chain-linked half img (pages-in half img) (the-head half img .chain) (the-head half img .free)
+          (omega (arith, c .count, f .fit .head .mark-most)) (c .ends);
       mark = refl;
       unused =
           λ p l b.
           let k : p < pages-in half img = omega (arith, f .fit .head .pages-is) in
-          cell-never half (page-at half img p) (never-level (page-size half) (page-at half img p) (omega arith) (page-length (sized half img (f .fit .whole)) p k) (f .fit .never p l k));
+          cell-never half (page-at half img p)
+          (never-level (page-size half) (page-at half img p) (omega arith) (page-length (sized half img (f .fit .whole)) p k)
+          (f .fit .never p l k));
     }

@@ -37,7 +37,8 @@ module _ (half : ℕ) (img : List ℕ) (f : Sound-facts half img) where
         height = omega (arith, f .fit .head .height-least);
         root = refl;
         below =
-            tree-represented half h img (h .height - 1) (root-context h) (entry 0 none (h .root)) refl (omega (arith, f .fit .head .height-most)) (f .fit .tree);
+            tree-represented half h img (h .height - 1) (root-context h) (entry 0 none (h .root)) refl
+            (omega (arith, f .fit .head .height-most)) (f .fit .tree);
         supplied = sound-supplied half img f;
       }
 

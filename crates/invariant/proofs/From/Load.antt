@@ -28,7 +28,12 @@ module _ (half : ℕ) (img : List ℕ) where
   load l p = below (suc l) p
 
   abbrev pub tree-in : Tree
-  tree-in = record { level = the-head half img .height - 1; root = the-head half img .root; nodes = load (the-head half img .height - 1) (the-head half img .root) }
+  tree-in = record {
+    level = the-head half img .height - 1;
+    root = the-head half img .root;
+    nodes =
+        load (the-head half img .height - 1) (the-head half img .root);
+  }
 
   abbrev pub state-in : State
   state-in = record { tree = tree-in; supply = record { chain = the-chain half img; mark = the-head half img .mark } }
@@ -47,7 +52,8 @@ module _ (half : ℕ) (img : List ℕ) where
 
   pub load-length : (l p : ℕ) → entry-count (page-at half img p) ≤ capacity half → length (load l p) ≡ entry-count (page-at half img p)
   load-length l p m =
-      ap length (load-is l p) ∙ length-map (entries-of half (page-at half img p)) (loaded l) ∙ length-entries-of half (page-at half img p) ∙ omega arith
+      ap length (load-is l p) ∙ length-map (entries-of half (page-at half img p)) (loaded l)
+      ∙ length-entries-of half (page-at half img p) ∙ omega arith
 
   flat-all : (l : ℕ) (es : List Entry) → flat (map (loaded l) es) ≡ es
   flat-all l [] = refl

@@ -36,20 +36,21 @@ abbrev pub answer : Pair → ℕ → Lookup
 answer pair pages = record { fit = true; pair = pair; pages = pages }
 
 module _ (half : ℕ) (h : Head) (img : List ℕ) (t : ℕ) where
-  -- the page is fit in its context
-  -- the entry found on a page is the tree's
+  -- the page is fit in its context the entry found on a page is the tree's
   record Step (l : ℕ) (p : ℕ) (es : Nodes l) : Type 0 where
     inside : index-of t (entries-of half (page-at half img p)) < entry-count (page-at half img p)
     same : entry-at half (page-at half img p) (index-of t (entries-of half (page-at half img p))) ≡ node-of l t es .entry
     found : index-of t (flat es) < length es
 
   step : (l : ℕ) (at : Page-context) (x : Node (Subtree (suc l))) → at .level ≡ l → l < free-level → 1 ≤ fewest half at
-      → PageFit half h at (page-at half img (x .entry .child)) → Stores (suc l) (image-of half img .page) x → Step l (x .entry .child) (x .subtree)
+      → PageFit half h at (page-at half img (x .entry .child)) → Stores (suc l) (image-of half img .page) x
+      → Step l (x .entry .child) (x .subtree)
   unfolding Stores image-of entries-in node-of
   step l at x v small some f shown =
       let s : List ℕ = page-at half img (x .entry .child) in
       let i : ℕ = index-of t (entries-of half s) in
-      let es : entries-of half s ≡ flat (x .subtree) = sym (ap entries-in (cell-tree half s (omega (arith, f .level)))) ∙ ap entries-in (shown .0) in
+      let es : entries-of half s ≡ flat (x .subtree) = sym (ap entries-in (cell-tree half s (omega (arith, f .level))))
+      ∙ ap entries-in (shown .0) in
       let n : length (entries-of half s) ≡ entry-count s = length-entries-of half s ∙ omega (arith, f .most) in
       let m : length (flat (x .subtree)) ≡ length (x .subtree) = length-map (x .subtree) (λ y. y .entry) in
       let c : i < length (entries-of half s) = index-in t (entries-of half s) (omega (arith, f .least)) in
@@ -62,7 +63,8 @@ module _ (half : ℕ) (h : Head) (img : List ℕ) (t : ℕ) where
         found = omega (arith, rw es at c);
       }
 
-  deeper : (l : ℕ) (x : Node (Subtree (suc l))) → index-of t (flat (x .subtree)) < length (x .subtree) → Stores (suc l) (image-of half img .page) x
+  deeper : (l : ℕ) (x : Node (Subtree (suc l))) → index-of t (flat (x .subtree)) < length (x .subtree)
+      → Stores (suc l) (image-of half img .page) x
       → Stores l (image-of half img .page) (node-of l t (x .subtree))
   unfolding Stores node-of
   deeper l x m shown = all-at (index-of t (flat (x .subtree))) (no-node l) (shown .1) m
@@ -77,7 +79,8 @@ module _ (half : ℕ) (h : Head) (img : List ℕ) (t : ℕ) where
     look-represented zero at x v small n e shown =
         let s : List ℕ = page-at half img (x .entry .child) in
         let k = step zero at x v small n (tree-top half h img zero at (x .entry .child) e) shown in
-        ap (λ c. cond c (leaf-answer (pair-at half s (index-of t (entries-of half s)))) stopped) (top-fit half h img zero at (x .entry .child) e)
+        ap (λ c. cond c (leaf-answer (pair-at half s (index-of t (entries-of half s)))) stopped)
+        (top-fit half h img zero at (x .entry .child) e)
         ∙ ap (λ (y : Entry). answer (y .pair) 1) (k .same)
     look-represented (suc l) at x v small n e shown =
         let s : List ℕ = page-at half img (x .entry .child) in
@@ -90,18 +93,19 @@ module _ (half : ℕ) (h : Head) (img : List ℕ) (t : ℕ) where
         let rest : look half h img t l d (child-at half s i) ≡ answer (pair-in (combine (h .kind)) l t (y .subtree)) (suc l) =
         ap (look half h img t l d) c
         ∙ look-represented l d y (omega arith) (omega arith) some (rw c at (f .1 i (k .inside))) (deeper (suc l) x (k .found) shown) in
-        ap (λ q. cond q (above (combine (h .kind)) (pair-at half s i) (look half h img t l d (child-at half s i))) stopped) (top-fit half h img (suc l) at (x .entry .child) e)
+        ap (λ q. cond q (above (combine (h .kind)) (pair-at half s i) (look half h img t l d (child-at half s i))) stopped)
+        (top-fit half h img (suc l) at (x .entry .child) e)
         ∙ ap (above (combine (h .kind)) (pair-at half s i)) rest
         ∙ ap (λ (z : Entry). answer (combine (h .kind) (z .pair) (pair-in (combine (h .kind)) l t (y .subtree))) (suc (suc l))) (k .same)
 
 -- ---- from the root
 
 -- What an instant call looks at in a sound image: the head is fit, and so are all pages on the path; the pair is the tree's, and as many
--- pages are read as the
--- tree is high.
+-- pages are read as the tree is high.
 pub record Answered (half : ℕ) (img : List ℕ) (t : ℕ) (Y : State) : Type 0 where
   pub head : head-fit half (pages-in half img) (page-at half img 0) ≡ true
-  pub looked : look-up half img t ≡ answer (pair-in (combine (the-head half img .kind)) (Y .tree .level) t (Y .tree .nodes)) (the-head half img .height)
+  pub looked : look-up half img t ≡
+      answer (pair-in (combine (the-head half img .kind)) (Y .tree .level) t (Y .tree .nodes)) (the-head half img .height)
 
 pub look-invariant : (half : ℕ) (img : List ℕ) → 1 ≤ half → Sound-facts half img → (Y : State) → Represents (image-of half img) Y → (t : ℕ)
     → Answered half img t Y
@@ -111,11 +115,13 @@ look-invariant half img some f Y shown t =
     let l : ℕ = Y .tree .level in
     let v : h .height - 1 ≡ l = omega (arith, shown .height) in
     let low : 1 ≤ fewest half (root-context h) = omega (arith, root-fewest half h l v, least-one l) in
-    let fits : tree-fit half h img l (root-context h) (Y .tree .root) ≡ true = (λ j. tree-fit half h img (sym v j) (root-context h) (sym (shown .root) j)) ∙ f .fit .tree in
+    let fits : tree-fit half h img l (root-context h) (Y .tree .root) ≡ true =
+    (λ j. tree-fit half h img (sym v j) (root-context h) (sym (shown .root) j)) ∙ f .fit .tree in
     record {
       head = f .fit .head-fits;
       looked =
           (λ j. look half h img t (v j) (root-context h) (shown .root j))
-          ∙ look-represented half h img t some l (root-context h) (root-node (Y .tree)) v (omega (arith, f .fit .head .height-most)) low fits (shown .below)
+          ∙ look-represented half h img t some l (root-context h) (root-node (Y .tree)) v
+          (omega (arith, f .fit .head .height-most)) low fits (shown .below)
           ∙ ap (λ n. answer (pair-in (combine (h .kind)) l t (Y .tree .nodes)) n) (sym (shown .height));
     }

@@ -1,4 +1,5 @@
--- Every page of a sound image but the head is held once: by the tree that is loaded, by the chain, or from the high mark on. Assumes nothing.
+-- Every page of a sound image but the head is held once: by the tree that is loaded, by the chain, or from the high mark on. Assumes
+-- nothing.
 use Prim.Native.Nat.{ℕ, zero, suc, _+_, _-_, _≤_, _<_}
 use mathlib.Core.Path.{_≡_, refl, sym, ap, _∙_}
 use mathlib.Core.Bool.{cond}
@@ -26,7 +27,8 @@ unfolding concat-map pages-under
 over-none half img [] = refl
 over-none half img (e ∷ es) = over-none half img es
 
-joined-over : {A : Type 0} (f : Entry → List ℕ) (g : Node A → List ℕ) (k : Entry → Node A) → ((e : Entry) → f e ≡ g (k e)) → (es : List Entry)
+joined-over : {A : Type 0} (f : Entry → List ℕ) (g : Node A → List ℕ) (k : Entry → Node A) → ((e : Entry) → f e ≡ g (k e))
+    → (es : List Entry)
     → concat-map f es ≡ concat-map g (map k es)
 unfolding concat-map
 joined-over f g k h [] = refl
@@ -37,13 +39,15 @@ unfolding tree-pages pages-under below
 pages-are half img zero p = ap (λ (r : List ℕ). p ∷ r) (sym (over-none half img (entries-of half (page-at half img p))))
 pages-are half img (suc l) p =
     ap (λ (r : List ℕ). p ∷ r)
-    (joined-over (λ e. tree-pages half img l (e .child)) (λ x. pages-under (suc l) x) (loaded half img (suc l)) (λ e. pages-are half img l (e .child))
+    (joined-over (λ e. tree-pages half img l (e .child)) (λ x. pages-under (suc l) x) (loaded half img (suc l))
+    (λ e. pages-are half img l (e .child))
     (entries-of half (page-at half img p)))
 
 -- ---- how often a page is held
 
 module _ (half : ℕ) (img : List ℕ) where
-  held-is : (p : ℕ) → held p (state-in half img) ≡ times p (the-tree half img) + times p (the-chain half img) + cond (leb (the-head half img .mark) p) 1 0
+  held-is : (p : ℕ)
+      → held p (state-in half img) ≡ times p (the-tree half img) + times p (the-chain half img) + cond (leb (the-head half img .mark) p) 1 0
   unfolding held times-below times-spare times
   held-is p = omega (arith, ap (times p) (pages-are half img (the-head half img .height - 1) (the-head half img .root)))
 
@@ -65,7 +69,8 @@ module _ (half : ℕ) (img : List ℕ) where
     pub held-once : (p : ℕ) → 1 ≤ p → held p (state-in half img) ≡ 1
     held-once p l = held-is p ∙ go (decLe (the-head half img .mark) p)
       where
-        go : Dec (the-head half img .mark ≤ p) → times p (the-tree half img) + times p (the-chain half img) + cond (leb (the-head half img .mark) p) 1 0 ≡ 1
+        go : Dec (the-head half img .mark ≤ p)
+            → times p (the-tree half img) + times p (the-chain half img) + cond (leb (the-head half img .mark) p) 1 0 ≡ 1
         go (yes k) =
             rw (le-leb (the-head half img .mark) p k)
             (omega (

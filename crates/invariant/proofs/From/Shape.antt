@@ -31,9 +31,11 @@ module _ (half : ℕ) (h : Head) (img : List ℕ) where
   -- ---- one page
 
   -- the entries of a fit page follow each other over its span
-  page-spans : (l : ℕ) (at : Page-context) (p : ℕ) (Q : Asked (Subtree l)) → PageFit half h at (page-at half img p) → 1 ≤ entry-count (page-at half img p)
+  page-spans : (l : ℕ) (at : Page-context) (p : ℕ) (Q : Asked (Subtree l)) → PageFit half h at (page-at half img p)
+      → 1 ≤ entry-count (page-at half img p)
       → ((i : ℕ) → i < entry-count (page-at half img p)
-      → Q (start-at (page-at half img p) i) (end-at (page-at half img p) (at .hi) i) (loaded half img l (entry-at half (page-at half img p) i)))
+      → Q (start-at (page-at half img p) i) (end-at (page-at half img p) (at .hi) i)
+      (loaded half img l (entry-at half (page-at half img p) i)))
       → Seg Q (at .lo) (at .hi) (load half img l p)
   unfolding entry-at
   page-spans l at p Q f some q =
@@ -47,8 +49,10 @@ module _ (half : ℕ) (h : Head) (img : List ℕ) where
       (λ i m. rw (bound-in s (at .hi) i m, ← (bound-next s (at .hi) i)) (q i m))) in
       rw (lo, hi) at all
 
-  filled : (l : ℕ) (at : Page-context) (p : ℕ) → fewest half at ≡ half → PageFit half h at (page-at half img p) → Filled half (load half img l p)
-  filled l at p e f = record { least = omega (arith, load-length half img l p (f .most), f .least); most = omega (arith, load-length half img l p (f .most)) }
+  filled : (l : ℕ) (at : Page-context) (p : ℕ) → fewest half at ≡ half → PageFit half h at (page-at half img p)
+      → Filled half (load half img l p)
+  filled l at p e f = record
+      { least = omega (arith, load-length half img l p (f .most), f .least); most = omega (arith, load-length half img l p (f .most)) }
 
   -- ---- the pages below
 

@@ -28,7 +28,8 @@ module _ (half : ℕ) (h : Head) (pages pages′ : ℕ → Cell) (same : (p : �
   shows-again (suc l) sums counts lo hi x r =
       (same (x .entry .child) (r .2 .least) (r .2 .below) ∙ r .2 .page, seg-all (λ a b y q. shows-again l _ _ a b y q) (r .2 .spans))
 
-  pub all-again : (l sums counts lo hi p : ℕ) (es : Nodes l) → Paged half h pages l (Ready half h pages l sums counts) lo hi p es → All (λ y. Stores l pages′ y) es
+  pub all-again : (l sums counts lo hi p : ℕ) (es : Nodes l) → Paged half h pages l (Ready half h pages l sums counts) lo hi p es
+      → All (λ y. Stores l pages′ y) es
   all-again l sums counts lo hi p es P = seg-all (λ a b y q. shows-again l sums counts a b y q) (P .spans)
 
 -- ---- the chain

@@ -12,8 +12,10 @@ use Rattle.rule.specs.Time.{END}
 use Rattle.fields.proofs.Laws.Tests.{every-of}
 use Rattle.page.specs.declared.Entry.{Entry}
 use Rattle.page.specs.declared.Head.{Head}
-use Rattle.page.specs.Layout.{capacity, level-of, entry-count, start-at, pair-at, child-at, entry-at, entries-of, unused-ok, free-level, tree-bytes}
-use Rattle.page.specs.Fit.{Page-context, context-below, fewest, entry-count-ok, starts-ok, child-ok, children-ok, pair-ok, pairs-ok, page-fit, most-changes}
+use Rattle.page.specs.Layout.{capacity, level-of, entry-count, start-at, pair-at, child-at, entry-at, entries-of, unused-ok, free-level}
+use Rattle.page.specs.Layout.{tree-bytes}
+use Rattle.page.specs.Fit.{Page-context, context-below, fewest, entry-count-ok, starts-ok, child-ok, children-ok, pair-ok, pairs-ok}
+use Rattle.page.specs.Fit.{page-fit, most-changes}
 use Rattle.page.specs.Widths.{Entries-fit}
 use Rattle.page.proofs.Laws.Trees.{level-of-tree, number-of-tree, entry-at-tree, entries-of-tree, unused-ok-tree}
 use Rattle.image.specs.Images.{Cell, page-at, cell-bytes}
@@ -68,7 +70,8 @@ pub record Stands (at : Page-context) (l a b m n : ℕ) : Type 0 where
   pub hi : at .hi ≡ n
 
 module _ (half : ℕ) (h : Head) (pages : ℕ → Cell) where
-  module _ (l sums counts lo hi : ℕ) (at : Page-context) (s : List ℕ) (es : Nodes l) (r : Read half s l es) (st : Stands at l sums counts lo hi)
+  module _ (l sums counts lo hi : ℕ) (at : Page-context) (s : List ℕ) (es : Nodes l) (r : Read half s l es)
+      (st : Stands at l sums counts lo hi)
       (spans : Seg (Ready half h pages l sums counts) lo hi es) where
     start-is : (i : ℕ) → i < length es → bound s (at .hi) i ≡ getD es i (no-node l) .entry .start
     unfolding entry-at
@@ -89,7 +92,8 @@ module _ (half : ℕ) (h : Head) (pages : ℕ → Cell) where
         let b : ℕ → ℕ = bound s (at .hi) in
         let least : fewest half at ≤ entry-count s = omega arith in
         let within : entry-count s ≤ capacity half = omega arith in
-        let first : start-at s 0 ≡ at .lo = sym (bound-in s (at .hi) 0 (omega arith)) ∙ seg-first (no-node l) b start-is end-is spans ∙ sym (st .lo) in
+        let first : start-at s 0 ≡ at .lo = sym (bound-in s (at .hi) 0 (omega arith)) ∙ seg-first (no-node l) b start-is end-is spans
+        ∙ sym (st .lo) in
         let rising : (i : ℕ) → i < entry-count s - 1 → start-at s i < start-at s (suc i) =
         λ i m. omega (arith, spanned i (omega arith) .0, bound-in s (at .hi) i (omega arith), bound-in s (at .hi) (suc i) (omega arith)) in
         let last : start-at s (entry-count s - 1) < at .hi =
@@ -122,7 +126,8 @@ module _ (half : ℕ) (h : Head) (pages : ℕ → Cell) where
 
     -- the context of the page below an entry
     stands-below : (i : ℕ) → i < entry-count s → (k : ℕ) → l ≡ suc k
-        → Stands (context-below half s at i) k (sums + natAbs (getD es i (no-node l) .entry .pair .sum)) (counts + natAbs (getD es i (no-node l) .entry .pair .count))
+        → Stands (context-below half s at i) k (sums + natAbs (getD es i (no-node l) .entry .pair .sum))
+        (counts + natAbs (getD es i (no-node l) .entry .pair .count))
         (bound s (at .hi) i) (bound s (at .hi) (suc i))
     unfolding context-below entry-at
     stands-below i m k e =
@@ -139,7 +144,8 @@ module _ (half : ℕ) (h : Head) (pages : ℕ → Cell) where
 
   module _ (img : List ℕ) (ranges : Ranges h) (slow : h .changes ≤ most-changes) (some : 1 ≤ half)
       (written : (p : ℕ) → 1 ≤ p → p < h .pages → page-at half img p ≡ cell-bytes half (pages p)) where
-    page-read : (l sums counts lo hi p : ℕ) (es : Nodes l) → hi ≤ END → l < free-level → Paged half h pages l (Ready half h pages l sums counts) lo hi p es
+    page-read : (l sums counts lo hi p : ℕ) (es : Nodes l) → hi ≤ END → l < free-level
+        → Paged half h pages l (Ready half h pages l sums counts) lo hi p es
         → Read half (page-at half img p) l es
     unfolding cell-bytes
     page-read l sums counts lo hi p es m low P =
@@ -147,11 +153,14 @@ module _ (half : ℕ) (h : Head) (pages : ℕ → Cell) where
         (entries-fit half h pages ranges slow l sums counts (P .spans) m) (page-at half img p)
         (written p (P .least) (P .below) ∙ ap (cell-bytes half) (P .page))
 
-    pub fit-tree : (l sums counts lo hi p : ℕ) (at : Page-context) (es : Nodes l) → Stands at l sums counts lo hi → hi ≤ END → l < free-level
-        → 1 ≤ fewest half at → fewest half at ≤ length es → Paged half h pages l (Ready half h pages l sums counts) lo hi p es → tree-fit half h img l at p ≡ true
+    pub fit-tree : (l sums counts lo hi p : ℕ) (at : Page-context) (es : Nodes l) → Stands at l sums counts lo hi → hi ≤ END
+        → l < free-level
+        → 1 ≤ fewest half at → fewest half at ≤ length es → Paged half h pages l (Ready half h pages l sums counts) lo hi p es
+        → tree-fit half h img l at p ≡ true
     unfolding tree-fit fewest context-below Ready entry-at
     fit-tree zero sums counts lo hi p at es st m low one few P =
-        page-passes zero sums counts lo hi at (page-at half img p) es (page-read zero sums counts lo hi p es m low P) st (P .spans) few (omega arith) (P .most)
+        page-passes zero sums counts lo hi at (page-at half img p) es (page-read zero sums counts lo hi p es m low P) st
+        (P .spans) few (omega arith) (P .most)
     fit-tree (suc l) sums counts lo hi p at es st m low one few P =
         let s : List ℕ = page-at half img p in
         let r : Read half s (suc l) es = page-read (suc l) sums counts lo hi p es m low P in
@@ -162,14 +171,17 @@ module _ (half : ℕ) (h : Head) (pages : ℕ → Cell) where
               let x : Node (Subtree (suc l)) = getD es i (no-node (suc l)) in
               let q = spanned (suc l) sums counts lo hi at s es r st (P .spans) i k in
               ap (λ (e : Entry). tree-fit half h img l (context-below half s at i) (e .child)) (r .entry i (omega (arith, r .len)))
-              ∙ fit-tree l (sums + natAbs (x .entry .pair .sum)) (counts + natAbs (x .entry .pair .count)) (bound s (at .hi) i) (bound s (at .hi) (suc i)) (x .entry .child)
-              (context-below half s at i) (x .subtree) (stands-below (suc l) sums counts lo hi at s es r st (P .spans) i k l refl) (omega arith) (omega arith) some (q .2 .1)
+              ∙ fit-tree l (sums + natAbs (x .entry .pair .sum)) (counts + natAbs (x .entry .pair .count)) (bound s (at .hi) i)
+              (bound s (at .hi) (suc i)) (x .entry .child)
+              (context-below half s at i) (x .subtree) (stands-below (suc l) sums counts lo hi at s es r st (P .spans) i k l refl)
+              (omega arith) (omega arith) some (q .2 .1)
               (q .2 .2)),
         )
 
     -- ---- which pages they are
 
-    pub pages-are : (l sums counts lo hi p : ℕ) (es : Nodes l) → hi ≤ END → l < free-level → Paged half h pages l (Ready half h pages l sums counts) lo hi p es
+    pub pages-are : (l sums counts lo hi p : ℕ) (es : Nodes l) → hi ≤ END → l < free-level
+        → Paged half h pages l (Ready half h pages l sums counts) lo hi p es
         → tree-pages half img l p ≡ p ∷ concat-map (λ x. pages-under l x) es
     unfolding tree-pages pages-under Ready
     pages-are zero sums counts lo hi p es m low P = ap (λ (r : List ℕ). p ∷ r) (sym (over-none es))
@@ -178,5 +190,6 @@ module _ (half : ℕ) (h : Head) (pages : ℕ → Cell) where
         (ap (concat-map (λ e. tree-pages half img l (e .child))) (page-read (suc l) sums counts lo hi p es m low P .entries)
         ∙ seg-over (λ e. tree-pages half img l (e .child)) (λ x. pages-under (suc l) x)
         (λ a b x k r.
-        pages-are l (sums + natAbs (x .entry .pair .sum)) (counts + natAbs (x .entry .pair .count)) a b (x .entry .child) (x .subtree) (omega arith) (omega arith) (r .2))
+        pages-are l (sums + natAbs (x .entry .pair .sum)) (counts + natAbs (x .entry .pair .count)) a b (x .entry .child)
+        (x .subtree) (omega arith) (omega arith) (r .2))
         (P .spans))

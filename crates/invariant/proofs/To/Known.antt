@@ -41,7 +41,8 @@ module _ {pages : ℕ → Cell} (n : ℕ) (some : 1 ≤ n) where
   linked-first inside ends = omega arith
   linked-first inside (leads {p = q} {ps = ps} e r) = inside q (omega (arith, times-same q q ps refl))
 
-  pub linked-free : {q : ℕ} {ps : List ℕ} (p : ℕ) → ((r : ℕ) → 1 ≤ times r ps → r < n) → Linked pages q ps → 1 ≤ times p ps → Freed pages n p
+  pub linked-free : {q : ℕ} {ps : List ℕ} (p : ℕ) → ((r : ℕ) → 1 ≤ times r ps → r < n) → Linked pages q ps → 1 ≤ times p ps
+      → Freed pages n p
   linked-free p inside ends m = absurd (omega (arith, times-none p))
   linked-free p inside (leads {p = q} {next} {ps} e r) m =
       go (ℕ-discrete p q) (linked-first later r) (linked-free p later r)
@@ -89,14 +90,16 @@ module _ {half kind changes : ℕ} {X : Image} {Y : State} (g : Structure half k
 
   pub free-inside : X .head .free < X .head .pages
   free-inside =
-      linked-first (X .head .pages) (omega (arith, g .ranges .pages-least)) (λ r m. omega (arith, chain-inside r m, g .ranges .mark-most)) (g .shown .supplied .linked)
+      linked-first (X .head .pages) (omega (arith, g .ranges .pages-least))
+      (λ r m. omega (arith, chain-inside r m, g .ranges .mark-most)) (g .shown .supplied .linked)
 
   used-once : (p : ℕ) → in-tree p + times p (Y .supply .chain) ≤ 1
   used-once zero = omega (arith, held-is zero, g .head-apart)
   used-once (suc p) = omega (arith, held-is (suc p), g .once (suc p) (omega arith))
 
   pub chain-short : length (Y .supply .chain) ≤ X .head .mark - 1
-  chain-short = short-of-once (X .head .mark - 1) (Y .supply .chain) (λ p m. omega (arith, chain-inside p m)) (λ p. omega (arith, used-once p))
+  chain-short =
+      short-of-once (X .head .mark - 1) (Y .supply .chain) (λ p m. omega (arith, chain-inside p m)) (λ p. omega (arith, used-once p))
 
   -- the pages of the tree
   abbrev pub tree-list : List ℕ
@@ -114,7 +117,8 @@ module _ {half kind changes : ℕ} {X : Image} {Y : State} (g : Structure half k
 -- ---- the cells, for the changes that the head counts
 
 module _ {half : ℕ} {X : Image} {Y : State} (g : Structure half (X .head .kind) (X .head .changes) X Y) where
-  pub tree-ready : Paged half (X .head) (X .page) (Y .tree .level) (Ready half (X .head) (X .page) (Y .tree .level) 0 0) 0 END (Y .tree .root) (Y .tree .nodes)
+  pub tree-ready : Paged half (X .head) (X .page) (Y .tree .level) (Ready half (X .head) (X .page) (Y .tree .level) 0 0) 0 END
+      (Y .tree .root) (Y .tree .nodes)
   unfolding Stores root-node
   tree-ready =
       let h : Head = X .head in

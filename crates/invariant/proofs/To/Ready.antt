@@ -46,12 +46,14 @@ module _ (half : ℕ) (h : Head) (pages : ℕ → Cell) where
   Ready (suc l) sums counts lo hi x =
       Weighed (h .kind) (h .changes) (suc l) sums counts x
       × (half ≤ length (x .subtree))
-      × Paged l (Ready l (sums + natAbs (x .entry .pair .sum)) (counts + natAbs (x .entry .pair .count))) lo hi (x .entry .child) (x .subtree)
+      × Paged l (Ready l (sums + natAbs (x .entry .pair .sum)) (counts + natAbs (x .entry .pair .count))) lo hi (x .entry .child)
+      (x .subtree)
 
   -- ---- every entry of a good tree is ready
 
   pub seg-ready : (l : ℕ) (R : Asked (Subtree l)) (W : Node (Subtree l) → Type 0)
-      → ((lo hi : ℕ) (x : Node (Subtree l)) → Shaped half Leaf l lo hi x → W x → Stores l pages x → ((p : ℕ) → 1 ≤ times p (pages-under l x) → (1 ≤ p) × (p < h .pages)) → R lo hi x)
+      → ((lo hi : ℕ) (x : Node (Subtree l)) → Shaped half Leaf l lo hi x → W x → Stores l pages x
+      → ((p : ℕ) → 1 ≤ times p (pages-under l x) → (1 ≤ p) × (p < h .pages)) → R lo hi x)
       → {lo hi : ℕ} {es : Nodes l} → Seg (λ a b y. Shaped half Leaf l a b y) lo hi es → All W es → All (λ y. Stores l pages y) es
       → ((p : ℕ) → 1 ≤ times-below l p es → (1 ≤ p) × (p < h .pages)) → Seg R lo hi es
   seg-ready l R W f done w v i = done
@@ -65,7 +67,9 @@ module _ (half : ℕ) (h : Head) (pages : ℕ → Cell) where
   unfolding Ready Shaped Stores
   ready zero sums counts lo hi x s w v i = (w, s)
   ready (suc l) sums counts lo hi x s w v i =
-      let c : (1 ≤ x .entry .child) × (x .entry .child < h .pages) = i (x .entry .child) (omega (arith, under-suc l (x .entry .child) x, hit-self (x .entry .child))) in (
+      let c : (1 ≤ x .entry .child)
+      × (x .entry .child < h .pages) =
+      i (x .entry .child) (omega (arith, under-suc l (x .entry .child) x, hit-self (x .entry .child))) in (
         w,
         s .0 .least,
         record {
@@ -89,7 +93,8 @@ module _ (half : ℕ) (h : Head) (pages : ℕ → Cell) where
   ready-weighed zero sums counts lo hi x r = r .0
   ready-weighed (suc l) sums counts lo hi x r = r .0
 
-  pub ready-child : (l sums counts lo hi : ℕ) (x : Node (Subtree l)) → Ready l sums counts lo hi x → child-ok (h .pages) l (x .entry .child) ≡ true
+  pub ready-child : (l sums counts lo hi : ℕ) (x : Node (Subtree l)) → Ready l sums counts lo hi x
+      → child-ok (h .pages) l (x .entry .child) ≡ true
   unfolding Ready child-ok
   ready-child zero sums counts lo hi x r = eq-eqb (x .entry .child) 0 (r .1)
   ready-child (suc l) sums counts lo hi x r =

@@ -16,7 +16,8 @@ use Rattle.page.proofs.Laws.Frees.{free-ok-free, never-used-ok-unused}
 use Rattle.image.specs.Images.{Image, page-at, pages-in, length-ok, cell-bytes, image-of, image-bytes, Canonical}
 use Rattle.image.specs.Sound.{tree-fit, tree-pages, chain-pages, sound}
 use Rattle.lists.specs.Lists.{times}
-use Rattle.image.proofs.Written.{length-of-written, pages-of-written, length-of-fits, head-written, page-of-written, page-of-read, head-of-read}
+use Rattle.image.proofs.Written.{length-of-written, pages-of-written, length-of-fits, head-written, page-of-written, page-of-read}
+use Rattle.image.proofs.Written.{head-of-read}
 use Rattle.tree.specs.Shape.{root-least}
 use Rattle.tree.specs.Cut.{State, root-node}
 use Rattle.refinement.specs.Represents.{Stores, Represents}
@@ -26,7 +27,8 @@ use Rattle.invariant.proofs.From.Shape.{root-fewest}
 use Rattle.tree.proofs.Seg.{least-one}
 use Rattle.fit.proofs.Laws.Heads.{fit-ranges}
 use Rattle.invariant.proofs.From.Look.{Answered, look-invariant}
-use Rattle.invariant.proofs.To.Known.{Freed, held-is, chain-inside, root-inside, free-inside, chain-short, tree-list, times-tree, tree-ready, page-free, head-fits, page-kept}
+use Rattle.invariant.proofs.To.Known.{Freed, held-is, chain-inside, root-inside, free-inside, chain-short, tree-list, times-tree}
+use Rattle.invariant.proofs.To.Known.{tree-ready, page-free, head-fits, page-kept}
 use Rattle.invariant.proofs.To.Fit.{Stands, fit-tree, pages-are}
 use Rattle.invariant.proofs.To.Again.{all-again, linked-again, chain-is}
 
@@ -82,7 +84,8 @@ module _ (half : ℕ) (X : Image) (Y : State) (some : 1 ≤ half)
             record {
               length-true = ap (λ (h : Head). h .chain) head-read-back ∙ g .shown .supplied .length-true;
               linked =
-                  rw (ap (λ (h : Head). h .free) head-read-back) (linked-again (X .head .pages) read-back inside (g .shown .supplied .linked));
+                  rw (ap (λ (h : Head). h .free) head-read-back)
+                  (linked-again (X .head .pages) read-back inside (g .shown .supplied .linked));
               mark = ap (λ (h : Head). h .mark) head-read-back ∙ g .shown .supplied .mark;
               unused =
                   λ p l b.
@@ -166,7 +169,8 @@ module _ (half : ℕ) (X : Image) (Y : State) (some : 1 ≤ half)
   chain-found =
       let img : List ℕ = image-bytes half X in
       ap (λ (h : Head). chain-pages half img (pages-in half img) (h .free)) head-is
-      ∙ chain-is (X .head .pages) half img one (omega (arith, g .ranges .pages-most)) page-written (pages-in half img) inside (g .shown .supplied .linked)
+      ∙ chain-is (X .head .pages) half img one (omega (arith, g .ranges .pages-most)) page-written (pages-in half img) inside
+      (g .shown .supplied .linked)
       (omega (arith, chain-short g, pages-written, g .ranges .mark-most))
 
   free-passes : (p : ℕ) → 1 ≤ times p (Y .supply .chain) → free-ok half (page-at half (image-bytes half X) p) ≡ true
@@ -178,7 +182,8 @@ module _ (half : ℕ) (X : Image) (Y : State) (some : 1 ≤ half)
   never-passes : (p : ℕ) → X .head .mark ≤ p → p < X .head .pages → never-used-ok (page-at half (image-bytes half X) p) ≡ true
   unfolding cell-bytes
   never-passes p m b =
-      ap never-used-ok (page-written p (omega (arith, root-inside g)) b ∙ ap (cell-bytes half) (g .shown .supplied .unused p m b)) ∙ never-used-ok-unused (page-size half)
+      ap never-used-ok (page-written p (omega (arith, root-inside g)) b ∙ ap (cell-bytes half) (g .shown .supplied .unused p m b))
+      ∙ never-used-ok-unused (page-size half)
 
   -- ---- soundness, test by test
 

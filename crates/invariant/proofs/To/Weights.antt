@@ -1,4 +1,5 @@
--- What is asked of the pairs of an entry and of all below it, for all kinds at once: each passes the test of its page, and has its widths. Assumes nothing.
+-- What is asked of the pairs of an entry and of all below it, for all kinds at once: each passes the test of its page, and has its widths.
+-- Assumes nothing.
 use Prim.Native.Nat.{ℕ, zero, suc, _+_, _*_, _≤_}
 use mathlib.Core.Path.{_≡_, refl}
 use mathlib.Core.Bool.{Bool, true, false, and-eq-true-iff}
@@ -75,7 +76,8 @@ module _ (kind changes l sums counts : ℕ) (x : Node (Subtree l)) (w : Weighed 
       go : (t : Bool) → eqb kind 1 ≡ t → SFits w64 (x .entry .pair .sum) × SFits w32 (x .entry .pair .count)
       go true e = (sfits-natAbs w64 (omega (arith, sum-here e)), sfits-natAbs w32 (omega (arith, count-here e)))
       go false e =
-          let v : (natAbs (x .entry .pair .sum) ≤ most-value) × (natAbs (x .entry .pair .count) ≤ 1) = value-or-none-bound (x .entry .pair) (value-here e) in
+          let v : (natAbs (x .entry .pair .sum) ≤ most-value)
+          × (natAbs (x .entry .pair .count) ≤ 1) = value-or-none-bound (x .entry .pair) (value-here e) in
           (sfits-natAbs w64 (omega arith), sfits-natAbs w32 (omega arith))
 
 -- it passes the test of a page under the head that has kind and changes

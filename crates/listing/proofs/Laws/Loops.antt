@@ -74,7 +74,8 @@ module _ (img : List ℕ) (q : SpanQuery) (on : Cursor) where
       → Room (q .writing) run (page-walk img q on) out → Turning run out n 0 run out
   turning-none {n} {run} {out} e room =
       let f = opened-fit e in
-      let w : page-walk img q on ≡ in-turn n (entry-walk img q on) = page-in-turn img q on (f .0) ∙ ap (λ k. in-turn k (entry-walk img q on)) (sym (f .1)) in
+      let w : page-walk img q on ≡ in-turn n (entry-walk img q on) = page-in-turn img q on (f .0)
+      ∙ ap (λ k. in-turn k (entry-walk img q on)) (sym (f .1)) in
       record {
         fit = f .0;
         len = f .1;

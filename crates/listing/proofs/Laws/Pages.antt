@@ -25,7 +25,8 @@ module _ (kind : ℕ) where
   under-under p q w = ap (λ l. record { fit = w .fit; runs = l }) (go (w .runs))
     where
       go : (rs : List image.Run)
-          → under (combine kind) p (under (combine kind) q (record { fit = true; runs = rs })) .runs ≡ under (combine kind) (combine kind p q) (record { fit = true; runs = rs }) .runs
+          → under (combine kind) p (under (combine kind) q (record { fit = true; runs = rs })) .runs ≡
+          under (combine kind) (combine kind p q) (record { fit = true; runs = rs }) .runs
       go [] = refl
       go (r ∷ rs) = ap₂ _∷_ (ap (λ x. record { start = r .start; pair = x }) (sym (lawful kind .assoc p q (r .pair)))) (go rs)
 
@@ -101,7 +102,8 @@ module _ (img : List ℕ) (q : SpanQuery) (on : Cursor) where
         down = omega arith
 
         go : (t : Bool)
-            → total (cond t (under (combine (q .head .kind)) (pair-at 12 s i) (deeper i l)) nothing) ≡ cond t (page-walk img q below) nothing
+            → total (cond t (under (combine (q .head .kind)) (pair-at 12 s i) (deeper i l)) nothing) ≡
+            cond t (page-walk img q below) nothing
         go true =
             under-under (q .head .kind) (on .above) (pair-at 12 s i) (deeper i l)
             ∙ ap (λ k. under (combine (q .head .kind)) (below .above) (deeper i k)) down

@@ -73,7 +73,8 @@ most-few (suc (suc (suc (suc l)))) h = absurd (omega arith)
 
 -- ---- from the root is from the root's cursor, with no pair above
 
-pub root-walk : {img : List ℕ} (q : SpanQuery) → Open-image img (q .head) → page-walk img q (root-cursor (q .head)) ≡ walk-over 12 img (q .a) (q .b)
+pub root-walk : {img : List ℕ} (q : SpanQuery) → Open-image img (q .head)
+    → page-walk img q (root-cursor (q .head)) ≡ walk-over 12 img (q .a) (q .b)
 unfolding page-walk walk-over root-context
 root-walk {img} q h =
     under-none (q .head .kind) _

@@ -34,14 +34,16 @@ pub above-root : (h : Head) → Above h (root-context h) none
 unfolding root-context
 above-root h = record { sum = λ _. omega arith; count = λ _. omega arith; mark = λ _. value-or-none-is none .1 (inl refl) }
 
-module _ {h : Head} {at : Page-context} {p : Pair} {s : List ℕ} (above : Above h at p) (fit : PageFit 12 h at s) (i : ℕ) (l : i < entry-count s) where
+module _ {h : Head} {at : Page-context} {p : Pair} {s : List ℕ} (above : Above h at p) (fit : PageFit 12 h at s) (i : ℕ)
+    (l : i < entry-count s) where
   pub above-below : Above h (context-below 12 s at i) (combine (h .kind) p (pair-at 12 s i))
   unfolding context-below
   above-below =
       let q = fit .pairs i l in
       record {
         sum = λ e. omega (arith, above .sum e, combine-sum-bound (h .kind) p (pair-at 12 s i));
-        count = λ e. subst⁻¹ (λ (k : ℕ). natAbs (combine k p (pair-at 12 s i) .count) ≤ at .counts + natAbs (pair-at 12 s i .count)) (eqb-true (h .kind) 1 e)
+        count = λ e. subst⁻¹ (λ (k : ℕ). natAbs (combine k p (pair-at 12 s i) .count) ≤ at .counts + natAbs (pair-at 12 s i .count))
+            (eqb-true (h .kind) 1 e)
             (omega (arith, above .count e, total-count-bound p (pair-at 12 s i)));
         mark = λ e. combine-value-or-none (h .kind) p (pair-at 12 s i) e (above .mark e) (q .mark e);
       }

@@ -42,7 +42,8 @@ module _ {h : Head} {at below : Page-context} {p : Pair} (u : Under at p below) 
       }
 
 -- what was combined so far can be combined with the next pair of the way
-pub carried-combinable : {h : Head} {at : Page-context} {acc p : Pair} → Carried h at acc → Paired h at p → h .changes ≤ most-changes → Combinable acc p
+pub carried-combinable : {h : Head} {at : Page-context} {acc p : Pair} → Carried h at acc → Paired h at p
+    → h .changes ≤ most-changes → Combinable acc p
 carried-combinable {h} {at} {acc} {p} c q l = case (eqb (h .kind) 1) refl
   where
     case : (b : Bool) → eqb (h .kind) 1 ≡ b → Combinable acc p

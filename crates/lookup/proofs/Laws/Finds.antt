@@ -10,7 +10,8 @@ use Rattle.page.proofs.Laws.Indices.{index-is}
 use Rattle.lookup.specs.Levels.{Page-searchable}
 
 -- from either end: it stands between an entry that starts at t or before and one that doesn't, and the starts rise
-pub searched-index : {s : List ℕ} {n t : ℕ} → Page-searchable s n t → (k : ℕ) → k < n → start-at s k ≤ t → (k + 1 < n → t < start-at s (k + 1)) → k ≡ index-of t (entries-of 12 s)
+pub searched-index : {s : List ℕ} {n t : ℕ} → Page-searchable s n t → (k : ℕ) → k < n → start-at s k ≤ t
+    → (k + 1 < n → t < start-at s (k + 1)) → k ≡ index-of t (entries-of 12 s)
 searched-index {s} {n} {t} ok k l h next =
     let e = ok .compared .len in
     sym (index-is 12 s t (omega (arith, ok .compared .most)) k (omega arith) h

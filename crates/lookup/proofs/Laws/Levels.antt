@@ -23,7 +23,8 @@ pub record Found (half : ℕ) (h : Head) (at : Page-context) (t : ℕ) (s : List
   pub pairs : pair ≡ pair-at half s i
   pub children : child ≡ child-at half s i
 
-module _ {half : ℕ} {h : Head} {at : Page-context} {t : ℕ} {s : List ℕ} {pair : Pair} {child i : ℕ} (f : Found half h at t s pair child i) where
+module _ {half : ℕ} {h : Head} {at : Page-context} {t : ℕ} {s : List ℕ} {pair : Pair} {child i : ℕ}
+    (f : Found half h at t s pair child i) where
   pub level-found : Entry pair child i ≡ level-answer half h at t s
   unfolding level-answer
   level-found = rw (f .fit, f .pairs, f .children, f .here)
@@ -68,7 +69,8 @@ module _ (half : ℕ) (h : Head) (at : Page-context) (t : ℕ) (s : List ℕ) wh
           absurd (omega arith)
 
 -- a fit page can be searched for an instant that isn't before it
-pub fit-searched : {h : Head} {at : Page-context} {s : List ℕ} {n t : ℕ} → PageFit 12 h at s → length s ≡ 512 → n ≡ entry-count s → at .lo ≤ t → Page-searchable s n t
+pub fit-searched : {h : Head} {at : Page-context} {s : List ℕ} {n t : ℕ} → PageFit 12 h at s → length s ≡ 512 → n ≡ entry-count s
+    → at .lo ≤ t → Page-searchable s n t
 fit-searched {n} fit size e l =
     record {
       compared = record { size = size; len = e; some = omega (arith, entry-first fit (omega arith)); most = omega (arith, fit .most) };

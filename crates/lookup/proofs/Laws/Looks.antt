@@ -27,7 +27,9 @@ module _ (half : ℕ) (h : Head) (img : List ℕ) (t : ℕ) (at : Page-context) 
     unfolding look
     look-leaf = rw (f .fit, f .pairs, f .here)
 
-    pub look-inner : (l : ℕ) → look half h img t (suc l) at p ≡ above (combine (h .kind)) pair (look half h img t l (context-below half (page-at half img p) at i) child)
+    pub look-inner : (l : ℕ)
+        → look half h img t (suc l) at p ≡
+        above (combine (h .kind)) pair (look half h img t l (context-below half (page-at half img p) at i) child)
     unfolding look
     look-inner l = rw (f .fit, f .pairs, f .children, f .here)
 

@@ -1,4 +1,5 @@
--- A walk down combines the pairs as it goes, and its answer is that of the definition, which combines them on the way back. Assumes nothing.
+-- A walk down combines the pairs as it goes, and its answer is that of the definition, which combines them on the way back. Assumes
+-- nothing.
 use mathlib.Core.Path.{_≡_, refl, sym, ap, _∙_}
 use mathlib.Core.Bool.{Bool, true, false, cond}
 use mathlib.Core.List.{List}
@@ -83,7 +84,8 @@ module _ {img : List ℕ} {h : Head} (o : Open-image img h) where
         here = omega (arith, r .root-below, r .pages-is);
         begun = omega arith;
         carried = carried-none h (root-context h);
-        answer = gone-none (lawful (h .kind)) _ (look-none 12 h img t _ _ _) ∙ ap (λ k. look 12 k img t (k .height - 1) (root-context k) (k .root)) (o .shown);
+        answer = gone-none (lawful (h .kind)) _ (look-none 12 h img t _ _ _)
+            ∙ ap (λ k. look 12 k img t (k .height - 1) (root-context k) (k .root)) (o .shown);
       }
 
   module _ {t : ℕ} {at : Page-context} {p : ℕ} {acc : Pair} {n : ℕ} (w : Walk img h t at p acc n) where
@@ -94,19 +96,23 @@ module _ {img : List ℕ} {h : Head} (o : Open-image img h) where
     walk-met = record { begun = w .begun; bounded = path-bounded (w .path) (opened-ranges o .changes-most) }
 
     pub walk-unfit : page-fit 12 h at (page-at 12 img p) ≡ false → lookup-of (Unfit (n + 1)) ≡ look-up 12 img t
-    walk-unfit e = sym (gone-stopped (combine (h .kind)) acc n) ∙ ap (gone (combine (h .kind)) acc n) (sym (look-unfit 12 h img t at p (at .level) e)) ∙ w .answer
+    walk-unfit e =
+        sym (gone-stopped (combine (h .kind)) acc n)
+        ∙ ap (gone (combine (h .kind)) acc n) (sym (look-unfit 12 h img t at p (at .level) e)) ∙ w .answer
 
     module _ {pair : Pair} {child i : ℕ} (f : Found 12 h at t (page-at 12 img p) pair child i) where
       pub walk-number : (i < 24) × (entry-count (page-at 12 img p) ≤ 24)
       walk-number = omega (arith, found-in f (omega arith), found-fit f .most)
 
       pub walk-combinable : Combinable acc pair
-      walk-combinable = rw (f .pairs) (carried-combinable (w .carried) (found-fit f .pairs i (found-in f (omega arith))) (opened-ranges o .changes-most))
+      walk-combinable =
+          rw (f .pairs) (carried-combinable (w .carried) (found-fit f .pairs i (found-in f (omega arith))) (opened-ranges o .changes-most))
 
       pub walk-leaf : at .level ≡ 0 → lookup-of (Answered (combine (h .kind) acc pair) (n + 1)) ≡ look-up 12 img t
       walk-leaf e =
           let c = combine (h .kind) in
-          sym (gone-leaf c acc pair n) ∙ ap (gone c acc n) (sym (ap (λ l. look 12 h img t l at p) e ∙ look-leaf 12 h img t at p f)) ∙ w .answer
+          sym (gone-leaf c acc pair n)
+          ∙ ap (gone c acc n) (sym (ap (λ l. look 12 h img t l at p) e ∙ look-leaf 12 h img t at p f)) ∙ w .answer
 
       pub walk-below : 1 ≤ at .level → Walk img h t (context-below 12 (page-at 12 img p) at i) child (combine (h .kind) acc pair) (n + 1)
       unfolding context-below
@@ -121,5 +127,6 @@ module _ {img : List ℕ} {h : Head} (o : Open-image img h) where
             here = rw (f .children) (fit .children i m .inner v .1);
             begun = rw (f .here) (index-started 12 s t (fit .most) (omega (arith, fit .first, w .begun)));
             carried = rw (f .pairs) (carried-below (under-below 12 s at i) (w .carried) (fit .pairs i m));
-            answer = sym (gone-above (lawful (h .kind)) acc pair n _) ∙ ap (gone c acc n) (sym (ap (λ k. look 12 h img t k at p) l ∙ look-inner 12 h img t at p f (at .level - 1))) ∙ w .answer;
+            answer = sym (gone-above (lawful (h .kind)) acc pair n _)
+                ∙ ap (gone c acc n) (sym (ap (λ k. look 12 h img t k at p) l ∙ look-inner 12 h img t at p f (at .level - 1))) ∙ w .answer;
           }

@@ -97,6 +97,7 @@ module _ (a b : ℕ) (img out : List ℕ) where
         listing-15 k = by-tests true true true true true d span-fits f g (lt-ltb _ _ k)
 
         pub listing-0 : 16 * length (runs-over 12 a b img) ≤ length out
-            → record { status = 0; runs = length (runs-over 12 a b img); output = written out (runs-over 12 a b img) } ≡ listing 12 a b img out
+            → record { status = 0; runs = length (runs-over 12 a b img); output = written out (runs-over 12 a b img) } ≡
+            listing 12 a b img out
         unfolding made first too-short
         listing-0 k = by-tests true true true true false d span-fits f g (le-ltb _ _ k)

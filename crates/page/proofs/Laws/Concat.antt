@@ -12,7 +12,8 @@ use Rattle.lists.specs.Lists.{listed, concat-map}
 use Rattle.lists.proofs.Listed.{length-listed}
 use Rattle.lists.proofs.Concat.{concat-map-append, concat-map-one, concat-map-more}
 use Rattle.fields.specs.Bytes.{Bytes, part, patch, unused}
-use Rattle.fields.proofs.Laws.Parts.{part-none, part-add, part-append-right, part-middle, patch-append-left, patch-append-right, patch-whole}
+use Rattle.fields.proofs.Laws.Parts.{part-none, part-add, part-append-right, part-middle, patch-append-left, patch-append-right}
+use Rattle.fields.proofs.Laws.Parts.{patch-whole}
 use Rattle.fields.proofs.Laws.Digits.{bytes-append, bytes-unused}
 use Rattle.fields.proofs.Laws.Tests.{length-unused, unused-add}
 use Rattle.page.proofs.Laws.Pieces.{part-last}
@@ -38,7 +39,8 @@ module _ {A : Type 0} (f : A → List ℕ) (k : ℕ) (each : (x : A) → length 
   unfolding concat-map
   part-joined [] ys d i h = absurd (omega arith)
   part-joined (x ∷ xs) ys d zero h =
-      ap (λ l. part l (k * 0) k) (append-assoc (f x) (concat-map f xs) ys) ∙ part-middle [] (f x) (concat-map f xs ++ ys) (k * 0) k (sym (mul-zero k)) (each x)
+      ap (λ l. part l (k * 0) k) (append-assoc (f x) (concat-map f xs) ys)
+      ∙ part-middle [] (f x) (concat-map f xs ++ ys) (k * 0) k (sym (mul-zero k)) (each x)
   part-joined (x ∷ xs) ys d (suc i) h =
       let e : k * suc i ≡ length (f x) + k * i = rw (mul-suc, each x) (add-comm (k * i) k) in
       ap (λ l. part l (k * suc i) k) (append-assoc (f x) (concat-map f xs) ys)
@@ -47,7 +49,8 @@ module _ {A : Type 0} (f : A → List ℕ) (k : ℕ) (each : (x : A) → length 
       ∙ part-joined xs ys d i (omega arith)
 
   -- the bytes of what stands at n slots, one after the other, are the bytes of those slots
-  pub joined-parts : (s : List ℕ) (o n : ℕ) (x : ℕ → A) → ((i : ℕ) → i < n → f (x i) ≡ part s (o + k * i) k) → concat-map f (listed n x) ≡ part s o (k * n)
+  pub joined-parts : (s : List ℕ) (o n : ℕ) (x : ℕ → A) → ((i : ℕ) → i < n → f (x i) ≡ part s (o + k * i) k)
+      → concat-map f (listed n x) ≡ part s o (k * n)
   unfolding concat-map listed
   joined-parts s o zero x h = sym (rw mul-zero (part-none s o))
   joined-parts s o (suc n) x h =
@@ -63,7 +66,8 @@ module _ {A : Type 0} (f : A → List ℕ) (k : ℕ) (each : (x : A) → length 
 
     pub bytes-run : ((x : A) → Bytes (f x)) → (xs : List A) → Bytes (run f k room xs)
     unfolding run
-    bytes-run h xs = bytes-append (concat-map f xs) (unused (k * (room - length xs))) (bytes-joined f h xs) (bytes-unused (k * (room - length xs)))
+    bytes-run h xs =
+        bytes-append (concat-map f xs) (unused (k * (room - length xs))) (bytes-joined f h xs) (bytes-unused (k * (room - length xs)))
 
     pub length-run : (xs : List A) → length xs ≤ room → length (run f k room xs) ≡ k * room
     unfolding run
@@ -80,7 +84,8 @@ module _ {A : Type 0} (f : A → List ℕ) (k : ℕ) (each : (x : A) → length 
     pub part-run-past : (xs : List A) → part (run f k room xs) (k * length xs) (k * (room - length xs)) ≡ unused (k * (room - length xs))
     unfolding run
     part-run-past xs =
-        part-last (concat-map f xs) (unused (k * (room - length xs))) (k * length xs) (k * (room - length xs)) (length-joined xs) (length-unused (k * (room - length xs)))
+        part-last (concat-map f xs) (unused (k * (room - length xs))) (k * length xs) (k * (room - length xs)) (length-joined xs)
+        (length-unused (k * (room - length xs)))
 
     -- a run of what stands at n slots, those behind them unused, is the bytes of all its slots
     pub run-parts : (s : List ℕ) (o n : ℕ) (x : ℕ → A) → n ≤ room → ((i : ℕ) → i < n → f (x i) ≡ part s (o + k * i) k)
@@ -100,11 +105,16 @@ module _ {A : Type 0} (f : A → List ℕ) (k : ℕ) (each : (x : A) → length 
         let n : length (xs ++ (x ∷ [])) ≡ suc (length xs) = length-append xs (x ∷ []) ∙ add-one (length xs) in
         let r : room - length xs ≡ suc (room - suc (length xs)) = omega arith in
         let e : k * (room - length xs) ≡ k + m = ap (λ i. k * i) r ∙ mul-suc k (room - suc (length xs)) ∙ add-comm m k in
-        (λ j. patch (concat-map f xs ++ (ap unused e ∙ unused-add k m) j) ((sym (length-joined xs) ∙ sym (add-zero (length (concat-map f xs)))) j) (f x))
+        (λ j.
+        patch (concat-map f xs ++ (ap unused e ∙ unused-add k m) j)
+        ((sym (length-joined xs) ∙ sym (add-zero (length (concat-map f xs)))) j) (f x))
         ∙ patch-append-right (concat-map f xs) (unused k ++ unused m) 0 (f x)
-        ∙ ap (λ l. concat-map f xs ++ l) (patch-append-left (unused k) (unused m) 0 (f x) (fits x) ∙ ap (λ l. l ++ unused m) (patch-whole (unused k) (f x) (each x ∙ sym (length-unused k))))
+        ∙ ap (λ l. concat-map f xs ++ l)
+        (patch-append-left (unused k) (unused m) 0 (f x) (fits x)
+        ∙ ap (λ l. l ++ unused m) (patch-whole (unused k) (f x) (each x ∙ sym (length-unused k))))
         ∙ sym (append-assoc (concat-map f xs) (f x) (unused m))
-        ∙ (λ j. (ap (λ l. concat-map f xs ++ l) (sym (concat-map-one f x)) ∙ sym (concat-map-append f xs (x ∷ []))) j ++ unused (k * (room - sym n j)))
+        ∙ (λ j. (ap (λ l. concat-map f xs ++ l) (sym (concat-map-one f x)) ∙ sym (concat-map-append f xs (x ∷ []))) j
+        ++ unused (k * (room - sym n j)))
       where
         fits : (x : A) → 0 + length (f x) ≤ length (unused k)
         fits x =

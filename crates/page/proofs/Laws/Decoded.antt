@@ -22,7 +22,8 @@ module _ (p : Page) where
   at-shown i h = getD-listed (p .len) (λ j. slot-at p j) no-entry i h
 
   -- a page whose arrays have what stands in s shows the entries of s
-  pub shown-entries : (s : List ℕ) → p .len ≡ entry-count s → ((i : ℕ) → i < capacity 12 → slot-at p i ≡ entry-at 12 s i) → entry-count s ≤ capacity 12 → entry-list p ≡ entries-of 12 s
+  pub shown-entries : (s : List ℕ) → p .len ≡ entry-count s → ((i : ℕ) → i < capacity 12 → slot-at p i ≡ entry-at 12 s i)
+      → entry-count s ≤ capacity 12 → entry-list p ≡ entries-of 12 s
   unfolding entry-list entries-of
   shown-entries s e f h =
       let n : ℕ = entry-count s in

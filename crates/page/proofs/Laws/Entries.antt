@@ -42,7 +42,8 @@ no-entry-fits = record { start = lit< tt; sum = record { sfits = lit< tt }; coun
 
 module _ (half : ℕ) (s : List ℕ) (i : ℕ) where
   -- where an entry's bytes stand, it is read
-  pub entry-at-bytes : (e : Entry) → part s (start-offset i) 4 ≡ start-bytes e → part s (entry-offset half i) 16 ≡ entry-bytes e → Entry-fits e → entry-at half s i ≡ e
+  pub entry-at-bytes : (e : Entry) → part s (start-offset i) 4 ≡ start-bytes e → part s (entry-offset half i) 16 ≡ entry-bytes e
+      → Entry-fits e → entry-at half s i ≡ e
   unfolding entry-at start-at pair-at child-at entry-bytes
   entry-at-bytes e f g w =
       let o : ℕ = entry-offset half i in
@@ -58,7 +59,11 @@ module _ (half : ℕ) (s : List ℕ) (i : ℕ) where
       let child : part s (o + 12) 4 ≡ c = part-inside s o 16 (a ++ b) c [] 12 4 k lab (u32 .length-bytes (e .child)) (omega arith) in
       λ j. record {
         start = u32 .at-bytes s (start-offset i) (e .start) f (w .start) j;
-        pair = record { sum = i64 .at-bytes s o (e .pair .sum) sum (w .sum) j; count = i32 .at-bytes s (o + 8) (e .pair .count) count (w .count) j };
+        pair = record {
+          sum = i64 .at-bytes s o (e .pair .sum) sum (w .sum) j;
+          count =
+              i32 .at-bytes s (o + 8) (e .pair .count) count (w .count) j;
+        };
         child = u32 .at-bytes s (o + 12) (e .child) child (w .child) j;
       }
 
@@ -72,11 +77,13 @@ module _ (half : ℕ) (s : List ℕ) (i : ℕ) where
   entry-bytes-at b h =
       let o : ℕ = entry-offset half i in
       part-pieces s o 8 (o + 8) 8 refl (i64 .bytes-at s o b (omega arith))
-      (part-pieces s (o + 8) 4 (o + 12) 4 (omega arith) (i32 .bytes-at s (o + 8) b (omega arith)) (u32 .bytes-at s (o + 12) b (omega arith)))
+      (part-pieces s (o + 8) 4 (o + 12) 4 (omega arith) (i32 .bytes-at s (o + 8) b (omega arith))
+      (u32 .bytes-at s (o + 12) b (omega arith)))
 
 -- an entry's three numbers in its place of the array, written one after the other
 pub patch-entry : (s : List ℕ) (o : ℕ) (e : Entry) → o + 16 ≤ length s
-    → patch (patch (patch s o (i64-bytes (e .pair .sum))) (o + 8) (i32-bytes (e .pair .count))) (o + 12) (u32-bytes (e .child)) ≡ patch s o (entry-bytes e)
+    → patch (patch (patch s o (i64-bytes (e .pair .sum))) (o + 8) (i32-bytes (e .pair .count))) (o + 12) (u32-bytes (e .child)) ≡
+    patch s o (entry-bytes e)
 unfolding entry-bytes
 patch-entry s o e h =
     let a : List ℕ = i64-bytes (e .pair .sum) in

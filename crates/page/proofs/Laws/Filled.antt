@@ -21,5 +21,6 @@ module _ {A : Type 0} (room : ℕ) (d : A) (f : ℕ → A) where
       let n : length xs ≡ room = g .slots in
       record {
         slots = length-set xs i v ∙ n;
-        holds = below-more (λ j. getD (set xs i v) j d ≡ f j) i (λ j l. getD-set-other xs i j v d (λ q. omega arith) ∙ g .holds j l) (getD-set-same xs i v d (omega arith) ∙ e);
+        holds = below-more (λ j. getD (set xs i v) j d ≡ f j) i (λ j l. getD-set-other xs i j v d (λ q. omega arith) ∙ g .holds j l)
+            (getD-set-same xs i v d (omega arith) ∙ e);
       }

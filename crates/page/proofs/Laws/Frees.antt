@@ -31,18 +31,22 @@ module _ (half next : ℕ) where
 
   pub level-of-free : level-of (free-bytes half next) ≡ free-level
   unfolding level-of
-  level-of-free = u32 .at-bytes (free-bytes half next) 0 free-level (ap (λ s. part s 0 4) free-page ∙ page-level half free-level next [] (omega arith)) (lit< tt)
+  level-of-free =
+      u32 .at-bytes (free-bytes half next) 0 free-level
+      (ap (λ s. part s 0 4) free-page ∙ page-level half free-level next [] (omega arith)) (lit< tt)
 
   pub next-of-free : next < 2 ^ 32 → next-of (free-bytes half next) ≡ next
   unfolding next-of
-  next-of-free w = u32 .at-bytes (free-bytes half next) 4 next (ap (λ s. part s 4 4) free-page ∙ page-number half free-level next [] (omega arith)) w
+  next-of-free w =
+      u32 .at-bytes (free-bytes half next) 4 next (ap (λ s. part s 4 4) free-page ∙ page-number half free-level next [] (omega arith)) w
 
   pub free-ok-free : free-ok half (free-bytes half next) ≡ true
   unfolding free-ok free-bytes
   free-ok-free =
       let m : ℕ = page-size half - 8 in
       let e : part (free-bytes half next) 8 m ≡ unused m
-      = part-third (u32-bytes free-level) (u32-bytes next) (unused m) 8 0 m (λ j. u32 .length-bytes free-level j + u32 .length-bytes next j) ∙ part-whole (unused m) m (length-unused m) in
+      = part-third (u32-bytes free-level) (u32-bytes next) (unused m) 8 0 m
+      (λ j. u32 .length-bytes free-level j + u32 .length-bytes next j) ∙ part-whole (unused m) m (length-unused m) in
       λ j. eq-eqb (level-of (free-bytes half next)) free-level level-of-free j && (ap (all-are 255) e ∙ all-are-unused m) j
 
 -- a free page is its next page's number
@@ -50,7 +54,8 @@ pub free-again : (half : ℕ) (s : List ℕ) → length s ≡ page-size half →
 unfolding free-ok free-bytes level-of next-of
 free-again half s l b ok =
     let m : ℕ = page-size half - 8 in
-    let k : (eqb (level-of s) free-level ≡ true) × (all-are 255 (part s 8 m) ≡ true) = and-eq-true-iff (eqb (level-of s) free-level) (all-are 255 (part s 8 m)) .0 ok in
+    let k : (eqb (level-of s) free-level ≡ true)
+    × (all-are 255 (part s 8 m) ≡ true) = and-eq-true-iff (eqb (level-of s) free-level) (all-are 255 (part s 8 m)) .0 ok in
     let e : part s 8 m ≡ unused m = unused-all-are m (part s 8 m) (length-part s 8 m (omega arith)) (k .1) in
     part-pieces s 0 4 4 (4 + m) refl (ap u32-bytes (sym (eqb-true (level-of s) free-level (k .0))) ∙ u32 .bytes-at s 0 b (omega arith))
     (part-pieces s 4 4 8 m refl (u32 .bytes-at s 4 b (omega arith)) (sym e))

@@ -26,7 +26,8 @@ module _ (half : ℕ) (h : Head) where
   pub bytes-head : Bytes (head-bytes half h)
   unfolding head-bytes
   bytes-head =
-      bytes-append (concat-map u32-bytes (numbers h)) (unused (page-size half - 36)) (bytes-joined u32-bytes (u32 .bytes-bytes) (numbers h)) (bytes-unused (page-size half - 36))
+      bytes-append (concat-map u32-bytes (numbers h)) (unused (page-size half - 36))
+      (bytes-joined u32-bytes (u32 .bytes-bytes) (numbers h)) (bytes-unused (page-size half - 36))
 
   pub length-head : 0 < half → length (head-bytes half h) ≡ page-size half
   unfolding head-bytes
@@ -58,7 +59,9 @@ module _ (half : ℕ) (h : Head) where
   unfolding head-bytes
   head-rest =
       let m : ℕ = page-size half - 36 in
-      ap (all-are 255) (part-last (concat-map u32-bytes (numbers h)) (unused m) 36 m (length-joined u32-bytes 4 (u32 .length-bytes) (numbers h)) (length-unused m)) ∙ all-are-unused m
+      ap (all-are 255)
+      (part-last (concat-map u32-bytes (numbers h)) (unused m) 36 m (length-joined u32-bytes 4 (u32 .length-bytes) (numbers h))
+      (length-unused m)) ∙ all-are-unused m
 
 pub head-of-fits : (s : List ℕ) → Bytes s → Head-fits (head-of s)
 unfolding head-of
@@ -75,7 +78,8 @@ head-of-fits s b = record {
 }
 
 -- a head that is read and written again is as it was
-pub head-again : (half : ℕ) (s : List ℕ) → 0 < half → length s ≡ page-size half → Bytes s → all-are 255 (part s 36 (page-size half - 36)) ≡ true → head-bytes half (head-of s) ≡ s
+pub head-again : (half : ℕ) (s : List ℕ) → 0 < half → length s ≡ page-size half → Bytes s
+    → all-are 255 (part s 36 (page-size half - 36)) ≡ true → head-bytes half (head-of s) ≡ s
 unfolding head-bytes head-of listed
 head-again half s g l b ok =
     let m : ℕ = page-size half - 36 in

@@ -81,6 +81,7 @@ module _ (half : ℕ) (s : List ℕ) (t : ℕ) (most : entry-count s ≤ capacit
   index-started first = rw index-found (found-started t (entry-at half s) first (entry-count s))
 
   -- the one of which this holds is the one found
-  pub index-is : (k : ℕ) → k < entry-count s → start-at s k ≤ t → ((i : ℕ) → k < i → i < entry-count s → t < start-at s i) → index-of t (entries-of half s) ≡ k
+  pub index-is : (k : ℕ) → k < entry-count s → start-at s k ≤ t → ((i : ℕ) → k < i → i < entry-count s → t < start-at s i)
+      → index-of t (entries-of half s) ≡ k
   unfolding entry-at
   index-is k l h later = index-found ∙ found-is t (entry-at half s) (entry-count s) k l h later

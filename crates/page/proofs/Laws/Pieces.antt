@@ -4,7 +4,8 @@ use mathlib.Core.List.{List, [], _++_, append-assoc, append-nil}
 use Prim.Native.Nat.{ℕ, _+_, _≤_}
 use lib.ListN.{length, length-append}
 use Rattle.fields.specs.Bytes.{part, patch}
-use Rattle.fields.proofs.Laws.Parts.{part-add, part-part, part-middle, part-append-left, part-append-right, patch-append-left, patch-append-right}
+use Rattle.fields.proofs.Laws.Parts.{part-add, part-part, part-middle, part-append-left, part-append-right, patch-append-left}
+use Rattle.fields.proofs.Laws.Parts.{patch-append-right}
 
 -- two parts, one after the other
 pub part-pieces : (s : List ℕ) (o n p m : ℕ) {xs ys : List ℕ} → o + n ≡ p → xs ≡ part s o n → ys ≡ part s p m → xs ++ ys ≡ part s o (n + m)
@@ -15,7 +16,8 @@ pub part-last : (xs ys : List ℕ) (o n : ℕ) → length xs ≡ o → length ys
 part-last xs ys o n e f = ap (λ l. part (xs ++ l) o n) (sym (append-nil ys)) ∙ part-middle xs ys [] o n e f
 
 -- a piece of what a part shows
-pub part-inside : (s : List ℕ) (o k : ℕ) (xs ys zs : List ℕ) (m n : ℕ) → part s o k ≡ xs ++ (ys ++ zs) → length xs ≡ m → length ys ≡ n → m + n ≤ k → part s (o + m) n ≡ ys
+pub part-inside : (s : List ℕ) (o k : ℕ) (xs ys zs : List ℕ) (m n : ℕ) → part s o k ≡ xs ++ (ys ++ zs) → length xs ≡ m
+    → length ys ≡ n → m + n ≤ k → part s (o + m) n ≡ ys
 part-inside s o k xs ys zs m n q e f h = sym (part-part s o k m n h) ∙ ap (λ l. part l m n) q ∙ part-middle xs ys zs m n e f
 
 module _ (a b c : List ℕ) (o p : ℕ) where
@@ -28,7 +30,8 @@ module _ (a b c : List ℕ) (o p : ℕ) where
 
   pub patch-second : (bs : List ℕ) → length a ≡ o → p + length bs ≤ length b → patch (a ++ (b ++ c)) (o + p) bs ≡ a ++ (patch b p bs ++ c)
   patch-second bs e h =
-      ap (λ k. patch (a ++ (b ++ c)) (k + p) bs) (sym e) ∙ patch-append-right a (b ++ c) p bs ∙ ap (λ l. a ++ l) (patch-append-left b c p bs h)
+      ap (λ k. patch (a ++ (b ++ c)) (k + p) bs) (sym e) ∙ patch-append-right a (b ++ c) p bs
+      ∙ ap (λ l. a ++ l) (patch-append-left b c p bs h)
 
   pub patch-third : (bs : List ℕ) → length a + length b ≡ o → patch (a ++ (b ++ c)) (o + p) bs ≡ a ++ (b ++ patch c p bs)
   patch-third bs e =

@@ -24,7 +24,8 @@ module _ (s : List ℕ) (o : ℕ) where
   put-more xs ys p q h e f =
       f
       ∙ ap (λ l. patch l p (concat-map u32-bytes ys)) e
-      ∙ patch-patch-next s o (concat-map u32-bytes xs) (concat-map u32-bytes ys) p (ap (λ k. o + k) (length-joined u32-bytes 4 (u32 .length-bytes) xs) ∙ q) h
+      ∙ patch-patch-next s o (concat-map u32-bytes xs) (concat-map u32-bytes ys) p
+      (ap (λ k. o + k) (length-joined u32-bytes 4 (u32 .length-bytes) xs) ∙ q) h
       ∙ ap (patch s o) (sym (concat-map-append u32-bytes xs ys))
 
   pub put-next : (xs : List ℕ) (v : ℕ) {t u : List ℕ} (p : ℕ) → o + 4 * length xs ≡ p → o ≤ length s

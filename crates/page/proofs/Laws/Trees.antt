@@ -15,13 +15,15 @@ use Rattle.fields.proofs.Laws.Offsets.{u32}
 use Rattle.fields.proofs.Laws.Tests.{length-unused, unused-add, all-are-unused, unused-all-are}
 use Rattle.page.specs.declared.Entry.{Entry}
 use Rattle.page.specs.Entries.{at, no-entry}
-use Rattle.page.specs.Layout.{capacity, start-offset, entry-offset, page-size, level-of, entry-count, entry-at, entries-of, unused-ok, entry-bytes, with-entry, tree-bytes}
+use Rattle.page.specs.Layout.{capacity, start-offset, entry-offset, page-size, level-of, entry-count, entry-at, entries-of, unused-ok}
+use Rattle.page.specs.Layout.{entry-bytes, with-entry, tree-bytes}
 use Rattle.lists.specs.Lists.{listed}
 use Rattle.page.specs.Widths.{Entry-fits, Entries-fit}
 use Rattle.lists.proofs.Listed.{length-listed, getD-listed, listed-more, listed-same, listed-getD}
 use Rattle.page.proofs.Laws.Concat.{run, run-none, bytes-run, length-run, part-run, part-run-past, run-parts, patch-run}
 use Rattle.page.proofs.Laws.Pieces.{part-pieces, part-second, part-third, patch-second, patch-third}
-use Rattle.page.proofs.Laws.Entries.{start-bytes, length-start-bytes, bytes-start-bytes, length-entry-bytes, bytes-entry-bytes, entry-at-bytes, start-bytes-at, entry-bytes-at}
+use Rattle.page.proofs.Laws.Entries.{start-bytes, length-start-bytes, bytes-start-bytes, length-entry-bytes, bytes-entry-bytes}
+use Rattle.page.proofs.Laws.Entries.{entry-at-bytes, start-bytes-at, entry-bytes-at}
 
 -- ---- the three pieces
 
@@ -46,14 +48,18 @@ unfolding tree-bytes page-bytes run starts entries
 tree-page half level es = simp append-assoc
 
 -- with no entry yet, all is unused behind the two numbers
-pub page-none : (half level number : ℕ) → page-bytes half level number [] ≡ u32-bytes level ++ (u32-bytes number ++ unused (page-size half - 8))
+pub page-none : (half level number : ℕ)
+    → page-bytes half level number [] ≡ u32-bytes level ++ (u32-bytes number ++ unused (page-size half - 8))
 unfolding page-bytes starts entries
 page-none half level number =
     let e : 24 + (4 * capacity half + 16 * capacity half) ≡ page-size half - 8 = omega arith in
-    (λ j. top level number ++ (run-none start-bytes 4 length-start-bytes (capacity half) j ++ run-none entry-bytes 16 length-entry-bytes (capacity half) j))
+    (λ j.
+    top level number ++
+    (run-none start-bytes 4 length-start-bytes (capacity half) j ++ run-none entry-bytes 16 length-entry-bytes (capacity half) j))
     ∙ simp append-assoc
     (ap (λ l. u32-bytes level ++ (u32-bytes number ++ l))
-    (ap (λ l. unused 24 ++ l) (sym (unused-add (4 * capacity half) (16 * capacity half))) ∙ sym (unused-add 24 (4 * capacity half + 16 * capacity half)) ∙ ap unused e))
+    (ap (λ l. unused 24 ++ l) (sym (unused-add (4 * capacity half) (16 * capacity half)))
+    ∙ sym (unused-add 24 (4 * capacity half + 16 * capacity half)) ∙ ap unused e))
 
 module _ (half level number : ℕ) (es : List Entry) where
   length-starts : length es ≤ capacity half → length (starts half es) ≡ 4 * capacity half
@@ -64,7 +70,8 @@ module _ (half level number : ℕ) (es : List Entry) where
   unfolding page-bytes starts entries
   bytes-page =
       bytes-append (top level number) (starts half es ++ entries half es)
-      (bytes-append (u32-bytes level) (u32-bytes number ++ unused 24) (u32 .bytes-bytes level) (bytes-append (u32-bytes number) (unused 24) (u32 .bytes-bytes number) (bytes-unused 24)))
+      (bytes-append (u32-bytes level) (u32-bytes number ++ unused 24) (u32 .bytes-bytes level)
+      (bytes-append (u32-bytes number) (unused 24) (u32 .bytes-bytes number) (bytes-unused 24)))
       (bytes-append (starts half es) (entries half es)
       (bytes-run start-bytes 4 length-start-bytes (capacity half) bytes-start-bytes es)
       (bytes-run entry-bytes 16 length-entry-bytes (capacity half) bytes-entry-bytes es))
@@ -93,15 +100,19 @@ module _ (half level number : ℕ) (es : List Entry) where
     part-entries : (p m : ℕ) → part (page-bytes half level number es) (32 + 4 * capacity half + p) m ≡ part (entries half es) p m
     unfolding page-bytes
     part-entries p m =
-        part-third (top level number) (starts half es) (entries half es) (32 + 4 * capacity half) p m (λ j. length-top level number j + length-starts within j)
+        part-third (top level number) (starts half es) (entries half es) (32 + 4 * capacity half) p m
+        (λ j. length-top level number j + length-starts within j)
 
     -- ---- what stands where
 
     pub page-level : part (page-bytes half level number es) 0 4 ≡ u32-bytes level
-    page-level = part-top 0 4 (omega arith) ∙ part-middle [] (u32-bytes level) (u32-bytes number ++ unused 24) 0 4 refl (u32 .length-bytes level)
+    page-level =
+        part-top 0 4 (omega arith) ∙ part-middle [] (u32-bytes level) (u32-bytes number ++ unused 24) 0 4 refl (u32 .length-bytes level)
 
     pub page-number : part (page-bytes half level number es) 4 4 ≡ u32-bytes number
-    page-number = part-top 4 4 (omega arith) ∙ part-middle (u32-bytes level) (u32-bytes number) (unused 24) 4 4 (u32 .length-bytes level) (u32 .length-bytes number)
+    page-number =
+        part-top 4 4 (omega arith)
+        ∙ part-middle (u32-bytes level) (u32-bytes number) (unused 24) 4 4 (u32 .length-bytes level) (u32 .length-bytes number)
 
     page-gap : part (page-bytes half level number es) 8 24 ≡ unused 24
     page-gap =
@@ -117,15 +128,19 @@ module _ (half level number : ℕ) (es : List Entry) where
         (part-entries (16 * i) 16 ∙ part-run entry-bytes 16 length-entry-bytes (capacity half) es no-entry i h)
         w
 
-    page-starts-past : part (page-bytes half level number es) (start-offset (length es)) (4 * (capacity half - length es)) ≡ unused (4 * (capacity half - length es))
+    page-starts-past : part (page-bytes half level number es) (start-offset (length es)) (4 * (capacity half - length es)) ≡
+        unused (4 * (capacity half - length es))
     unfolding starts
     page-starts-past =
-        part-starts (4 * length es) (4 * (capacity half - length es)) (omega arith) ∙ part-run-past start-bytes 4 length-start-bytes (capacity half) es
+        part-starts (4 * length es) (4 * (capacity half - length es)) (omega arith)
+        ∙ part-run-past start-bytes 4 length-start-bytes (capacity half) es
 
-    page-entries-past : part (page-bytes half level number es) (entry-offset half (length es)) (16 * (capacity half - length es)) ≡ unused (16 * (capacity half - length es))
+    page-entries-past : part (page-bytes half level number es) (entry-offset half (length es)) (16 * (capacity half - length es)) ≡
+        unused (16 * (capacity half - length es))
     unfolding entries
     page-entries-past =
-        part-entries (16 * length es) (16 * (capacity half - length es)) ∙ part-run-past entry-bytes 16 length-entry-bytes (capacity half) es
+        part-entries (16 * length es) (16 * (capacity half - length es))
+        ∙ part-run-past entry-bytes 16 length-entry-bytes (capacity half) es
 
   -- the next entry is written
   pub page-more : (e : Entry) → length es < capacity half
@@ -137,10 +152,13 @@ module _ (half level number : ℕ) (es : List Entry) where
       let la : length a ≡ 32 = length-top level number in
       let lb : length (starts half es) ≡ 4 * capacity half = length-starts (omega arith) in
       let ls : length (start-bytes e) ≡ 4 = length-start-bytes e in
-      let f : patch (starts half es) (4 * n) (start-bytes e) ≡ starts half (es ++ (e ∷ [])) = patch-run start-bytes 4 length-start-bytes (capacity half) es e h in
-      let lf : length (starts half (es ++ (e ∷ []))) ≡ 4 * capacity half = length-run start-bytes 4 length-start-bytes (capacity half) (es ++ (e ∷ [])) (one-more e h) in
+      let f : patch (starts half es) (4 * n) (start-bytes e) ≡ starts half (es ++ (e ∷ [])) =
+      patch-run start-bytes 4 length-start-bytes (capacity half) es e h in
+      let lf : length (starts half (es ++ (e ∷ []))) ≡ 4 * capacity half =
+      length-run start-bytes 4 length-start-bytes (capacity half) (es ++ (e ∷ [])) (one-more e h) in
       ap (λ l. patch l (entry-offset half n) (entry-bytes e))
-      (patch-second a (starts half es) (entries half es) 32 (4 * n) (start-bytes e) la (omega arith) ∙ ap (λ l. a ++ (l ++ entries half es)) f)
+      (patch-second a (starts half es) (entries half es) 32 (4 * n) (start-bytes e) la (omega arith)
+      ∙ ap (λ l. a ++ (l ++ entries half es)) f)
       ∙ patch-third a (starts half (es ++ (e ∷ []))) (entries half es) (32 + 4 * capacity half) (16 * n) (entry-bytes e) (λ j. la j + lf j)
       ∙ ap (λ l. a ++ (starts half (es ++ (e ∷ [])) ++ l)) (patch-run entry-bytes 16 length-entry-bytes (capacity half) es e h)
     where
@@ -148,7 +166,8 @@ module _ (half level number : ℕ) (es : List Entry) where
       one-more e h = simp length-append (omega arith)
 
 -- a page whose entries are listed: a loop's step writes one more of them, and with all of them it is the tree page
-pub page-listed-more : (half level number i : ℕ) (f : ℕ → Entry) {s t : List ℕ} {e : Entry} → i < capacity half → t ≡ with-entry half i e s → e ≡ f i
+pub page-listed-more : (half level number i : ℕ) (f : ℕ → Entry) {s t : List ℕ} {e : Entry} → i < capacity half
+    → t ≡ with-entry half i e s → e ≡ f i
     → s ≡ page-bytes half level number (listed i f) → t ≡ page-bytes half level number (listed (i + 1) f)
 page-listed-more half level number i f h step same before =
     let n : length (listed i f) ≡ i = length-listed i f in
@@ -157,7 +176,8 @@ page-listed-more half level number i f h step same before =
     ∙ page-more half level number (listed i f) (f i) (omega arith)
     ∙ ap (page-bytes half level number) (sym (listed-more i f))
 
-pub page-listed : (half level number : ℕ) (f : ℕ → Entry) → page-bytes half level number (listed number f) ≡ tree-bytes half level (listed number f)
+pub page-listed : (half level number : ℕ) (f : ℕ → Entry)
+    → page-bytes half level number (listed number f) ≡ tree-bytes half level (listed number f)
 page-listed half level number f =
     ap (λ k. page-bytes half level k (listed number f)) (sym (length-listed number f)) ∙ sym (tree-page half level (listed number f))
 
@@ -166,7 +186,9 @@ page-listed half level number f =
 -- what `unused-ok` tests of a page with n entries
 abbrev unused-from : ℕ → List ℕ → ℕ → Bool
 unused-from half s n =
-    all-are 255 (part s 8 24) && (all-are 255 (part s (start-offset n) (4 * (capacity half - n))) && all-are 255 (part s (entry-offset half n) (16 * (capacity half - n))))
+    all-are 255 (part s 8 24) &&
+    (all-are 255 (part s (start-offset n) (4 * (capacity half - n)))
+    && all-are 255 (part s (entry-offset half n) (16 * (capacity half - n))))
 
 module _ (half level : ℕ) (es : List Entry) where
   pub bytes-tree : Bytes (tree-bytes half level es)
@@ -178,12 +200,16 @@ module _ (half level : ℕ) (es : List Entry) where
 
     pub level-of-tree : level < 2 ^ 32 → level-of (tree-bytes half level es) ≡ level
     unfolding level-of
-    level-of-tree w = u32 .at-bytes (tree-bytes half level es) 0 level (ap (λ s. part s 0 4) (tree-page half level es) ∙ page-level half level (length es) es within) w
+    level-of-tree w =
+        u32 .at-bytes (tree-bytes half level es) 0 level
+        (ap (λ s. part s 0 4) (tree-page half level es) ∙ page-level half level (length es) es within) w
 
     module _ (w : length es < 2 ^ 32) where
       pub number-of-tree : entry-count (tree-bytes half level es) ≡ length es
       unfolding entry-count
-      number-of-tree = u32 .at-bytes (tree-bytes half level es) 4 (length es) (ap (λ s. part s 4 4) (tree-page half level es) ∙ page-number half level (length es) es within) w
+      number-of-tree =
+          u32 .at-bytes (tree-bytes half level es) 4 (length es)
+          (ap (λ s. part s 4 4) (tree-page half level es) ∙ page-number half level (length es) es within) w
 
       pub entry-at-tree : (i : ℕ) → i < length es → Entry-fits (at es i) → entry-at half (tree-bytes half level es) i ≡ at es i
       entry-at-tree i h f = ap (λ s. entry-at half s i) (tree-page half level es) ∙ page-entry half level (length es) es within i h f
@@ -204,7 +230,8 @@ module _ (half level : ℕ) (es : List Entry) where
           let past : ℕ = capacity half - n in
           ap (unused-from half (tree-bytes half level es)) number-of-tree
           ∙ ap (λ s. unused-from half s n) (tree-page half level es)
-          ∙ (λ j. all-are 255 (page-gap half level n es within j) && (all-are 255 (page-starts-past half level n es within j) && all-are 255 (page-entries-past half level n es within j)))
+          ∙ (λ j. all-are 255 (page-gap half level n es within j)
+          && (all-are 255 (page-starts-past half level n es within j) && all-are 255 (page-entries-past half level n es within j)))
           ∙ (λ j. all-are-unused 24 j && (all-are-unused (4 * past) j && all-are-unused (16 * past) j))
 
 -- ---- a page's bytes
@@ -223,7 +250,8 @@ pub record Unused (half : ℕ) (s : List ℕ) (n : ℕ) : Type 0 where
   pub starts-past : part s (start-offset n) (4 * (capacity half - n)) ≡ unused (4 * (capacity half - n))
   pub entries-past : part s (entry-offset half n) (16 * (capacity half - n)) ≡ unused (16 * (capacity half - n))
 
-pub unused-ok-parts : (half : ℕ) (s : List ℕ) → length s ≡ page-size half → entry-count s ≤ capacity half → unused-ok half s ≡ true → Unused half s (entry-count s)
+pub unused-ok-parts : (half : ℕ) (s : List ℕ) → length s ≡ page-size half → entry-count s ≤ capacity half
+    → unused-ok half s ≡ true → Unused half s (entry-count s)
 unfolding unused-ok
 unused-ok-parts half s l within ok =
     let n : ℕ = entry-count s in
@@ -236,7 +264,8 @@ unused-ok-parts half s l within ok =
     record {
       gap = unused-all-are 24 (part s 8 24) (length-part s 8 24 (omega arith)) (x .0);
       starts-past = unused-all-are (4 * m) (part s (start-offset n) (4 * m)) (length-part s (start-offset n) (4 * m) (omega arith)) (y .0);
-      entries-past = unused-all-are (16 * m) (part s (entry-offset half n) (16 * m)) (length-part s (entry-offset half n) (16 * m) (omega arith)) (y .1);
+      entries-past = unused-all-are (16 * m) (part s (entry-offset half n) (16 * m))
+          (length-part s (entry-offset half n) (16 * m) (omega arith)) (y .1);
     }
 
 -- a page that is read and written again is as it was
@@ -249,11 +278,13 @@ tree-again half s l b within ok =
     let x : ℕ → Entry = λ i. entry-at half s i in
     let u : Unused half s n = unused-ok-parts half s l within ok in
     let t : top (level-of s) n ≡ part s 0 32
-    = part-pieces s 0 4 4 28 refl (u32 .bytes-at s 0 b (omega arith)) (part-pieces s 4 4 8 24 refl (u32 .bytes-at s 4 b (omega arith)) (sym (u .gap))) in
+    = part-pieces s 0 4 4 28 refl (u32 .bytes-at s 0 b (omega arith))
+    (part-pieces s 4 4 8 24 refl (u32 .bytes-at s 4 b (omega arith)) (sym (u .gap))) in
     let f : run start-bytes 4 room (listed n x) ≡ part s 32 (4 * room)
     = run-parts start-bytes 4 length-start-bytes room s 32 n x within (λ i h. start-bytes-at half s i b (omega arith)) (u .starts-past) in
     let e : run entry-bytes 16 room (listed n x) ≡ part s (32 + 4 * room) (16 * room)
-    = run-parts entry-bytes 16 length-entry-bytes room s (32 + 4 * room) n x within (λ i h. entry-bytes-at half s i b (omega arith)) (u .entries-past) in
+    = run-parts entry-bytes 16 length-entry-bytes room s (32 + 4 * room) n x within (λ i h. entry-bytes-at half s i b (omega arith))
+    (u .entries-past) in
     ap (λ k. tree-bytes half (level-of s) (listed k x)) (min-eq-left within)
     ∙ tree-page half (level-of s) (listed n x)
     ∙ ap (λ k. page-bytes half (level-of s) k (listed n x)) (length-listed n x)

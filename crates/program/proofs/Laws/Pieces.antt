@@ -121,7 +121,8 @@ module _ {piece : List ℕ} {r : Reading} {img out : List ℕ} {i : ℕ} {q : Re
   whole = omega (arith, so .within)
 
   pub come-all : Simulates-step (after-bytes 12 64 piece) r img out q left after
-  come-all had from g s = shows-as (ap (λ t. after-bytes 12 64 t g) (ap (λ k. take k piece) whole ∙ take-length piece)) (so .gone had from g s)
+  come-all had from g s =
+      shows-as (ap (λ t. after-bytes 12 64 t g) (ap (λ k. take k piece) whole ∙ take-length piece)) (so .gone had from g s)
 
   pub come-within : Advances (length piece) r q
   come-within = record { number = omega (arith, whole, so .bounds .number); at = omega (arith, whole, so .bounds .at) }
@@ -140,7 +141,8 @@ module _ (half pages : ℕ) (g : Program-state) where
 pub goes-empty : {r : Reading} {img out : List ℕ} → r .fed .length ≡ 0 → Simulates-step (ended 12 64) r img out r img out
 goes-empty e had from g s = shows-as (ended-empty 12 64 g (omega (arith, s .fed .count))) s
 
-pub goes-last : {r q : Reading} {img out left after : List ℕ} → (r .fed .length ≡ 0 → ⊥) → Simulates-step (line-run 12 64) r img out q left after
+pub goes-last : {r q : Reading} {img out left after : List ℕ} → (r .fed .length ≡ 0 → ⊥)
+    → Simulates-step (line-run 12 64) r img out q left after
     → Simulates-step (ended 12 64) r img out q left after
 goes-last {r} n f had from g s = shows-as (ended-line 12 64 g (λ e. n (omega (arith, s .fed .count)))) (f had from g s)
 

@@ -1,4 +1,5 @@
--- `promises::average_at` meets its contract: `luw_average` promises the answer, and an image that is lent for reading is kept. Assumes nothing.
+-- `promises::average_at` meets its contract: `luw_average` promises the answer, and an image that is lent for reading is kept. Assumes
+-- nothing.
 use borrow.Author.Needs.{needs}
 use Rattle.calls.specs.Trace.{kept}
 use Rattle.luwhenoka.specs.Answers.{averaged-answer}

@@ -1,4 +1,5 @@
--- `promises::instant` meets its contract: `luw_instant` promises the answer, and an image that is lent for reading is kept. Assumes nothing.
+-- `promises::instant` meets its contract: `luw_instant` promises the answer, and an image that is lent for reading is kept. Assumes
+-- nothing.
 use mathlib.Core.Path.{ap}
 use borrow.Author.Needs.{needs}
 use Rattle.calls.specs.Calls.{Instant}
@@ -12,7 +13,8 @@ use Rattle.promises.proofs.instant.Tie as tie
 returns : tie.Need-returns
 unfolding instant-answer
 returns c =
-    let p = ap {B = Instant} (λ (r : InstantAnswer). record { status = r .status; pair = pair-of r; pages = r .pages }) (c .luw-instant .ensures) in
+    let p = ap {B = Instant} (λ (r : InstantAnswer). record { status = r .status; pair = pair-of r; pages = r .pages })
+    (c .luw-instant .ensures) in
     (p, (kept, instant-as _ _ _ p))
 
 pub instant-spec : {M : Type 1} → statement M

@@ -1,4 +1,5 @@
--- `promises::listing` meets its contract: `luw_listing` promises the answer, and an image that is lent for reading is kept. Assumes nothing.
+-- `promises::listing` meets its contract: `luw_listing` promises the answer, and an image that is lent for reading is kept. Assumes
+-- nothing.
 use borrow.Author.Needs.{needs}
 use Rattle.calls.specs.Trace.{kept}
 use Rattle.luwhenoka.specs.Answers.{listed}

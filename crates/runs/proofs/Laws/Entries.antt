@@ -54,7 +54,8 @@ written-step r x =
     (λ e. rw (e, stepped-on r x e) (omega arith))
     (λ e. rw (e, stepped-new r x e) (omega arith))
 
-output-step : (r : Run) (x : image.Run) (out : List ℕ) → output-after r x out ≡ patch out (16 * r .written) (concat-map run-bytes (begun-at r x))
+output-step : (r : Run) (x : image.Run) (out : List ℕ)
+    → output-after r x out ≡ patch out (16 * r .written) (concat-map run-bytes (begun-at r x))
 unfolding begun-at concat-map
 output-step r x out =
     test (goes-on r x)
@@ -87,7 +88,8 @@ output-begun r (x ∷ xs) out h =
     let k : length (output-after r x out) ≡ length out = ap length e ∙ length-patch out (16 * n) (concat-map run-bytes one) (omega arith) in
     output-begun (stepped r x) xs (output-after r x out) (omega arith)
     ∙ ap (λ s. patch s (16 * stepped r x .written) (concat-map run-bytes rest)) e
-    ∙ patch-patch-next out (16 * n) (concat-map run-bytes one) (concat-map run-bytes rest) (16 * stepped r x .written) (omega arith) (omega arith)
+    ∙ patch-patch-next out (16 * n) (concat-map run-bytes one) (concat-map run-bytes rest) (16 * stepped r x .written)
+    (omega arith) (omega arith)
     ∙ ap (patch out (16 * n)) (sym (concat-map-append run-bytes one rest))
 
 -- ---- those runs are the joined ones
@@ -104,7 +106,9 @@ begun-open r (x ∷ xs) h =
     let g = goes-on-open r x h in
     test (same-pair (r .pair) (x .pair))
     (λ e. rw (g ∙ e, stepped-on r x (g ∙ e), e) (begun-open r xs h))
-    (λ e. rw (g ∙ e, stepped-new r x (g ∙ e), e) (ap (λ l. x ∷ l) (begun-open (record { start = x .start; pair = x .pair; written = r .written + 1 }) xs (omega arith))))
+    (λ e.
+    rw (g ∙ e, stepped-new r x (g ∙ e), e)
+    (ap (λ l. x ∷ l) (begun-open (record { start = x .start; pair = x .pair; written = r .written + 1 }) xs (omega arith))))
 
 -- from the first entry on
 pub begun-first : (xs : List image.Run) → begun no-run xs ≡ join xs
@@ -117,7 +121,8 @@ begun-first (x ∷ xs) = ap (λ l. x ∷ l) (begun-open (record { start = x .sta
 pub written-join : (xs : List image.Run) → stepped-all no-run xs .written ≡ length (join xs)
 written-join xs = omega (arith, written-begun no-run xs, ap length (begun-first xs))
 
-pub output-join : (xs : List image.Run) (out : List ℕ) → 16 * length (join xs) ≤ length out → output-after-all no-run xs out ≡ patch out 0 (concat-map run-bytes (join xs))
+pub output-join : (xs : List image.Run) (out : List ℕ) → 16 * length (join xs) ≤ length out
+    → output-after-all no-run xs out ≡ patch out 0 (concat-map run-bytes (join xs))
 output-join xs out room =
     let e : begun no-run xs ≡ join xs = begun-first xs in
     output-begun no-run xs out (omega (arith, ap length e)) ∙ ap (λ l. patch out 0 (concat-map run-bytes l)) e
@@ -145,7 +150,8 @@ pub room-for-new : (r : Run) (x : image.Run) (xs : List image.Run) (out : List �
 unfolding stepped-all
 room-for-new r x xs out h e = omega (arith, written-grows (stepped r x) xs, ap (λ (s : Run). s .written) (stepped-new r x e))
 
-pub length-output : (r : Run) (xs : List image.Run) (out : List ℕ) → 16 * stepped-all r xs .written ≤ length out → length (output-after-all r xs out) ≡ length out
+pub length-output : (r : Run) (xs : List image.Run) (out : List ℕ) → 16 * stepped-all r xs .written ≤ length out
+    → length (output-after-all r xs out) ≡ length out
 length-output r xs out h =
     let w = written-begun r xs in
     let b = length-runs-bytes (begun r xs) in

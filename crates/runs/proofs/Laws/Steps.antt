@@ -40,7 +40,8 @@ length-run-bytes x = simp (length-append, u32 .length-bytes, i32 .length-bytes, 
 
 -- start, count and sum written one after the other are the run
 pub patch-run : (out : List ℕ) (o : ℕ) (x : image.Run) → o + 16 ≤ length out
-    → patch (patch (patch out o (u32-bytes (x .start))) (o + 4) (i32-bytes (x .pair .count))) (o + 8) (i64-bytes (x .pair .sum)) ≡ patch out o (run-bytes x)
+    → patch (patch (patch out o (u32-bytes (x .start))) (o + 4) (i32-bytes (x .pair .count))) (o + 8) (i64-bytes (x .pair .sum)) ≡
+    patch out o (run-bytes x)
 unfolding run-bytes
 patch-run out o x h =
     let a = u32-bytes (x .start) in

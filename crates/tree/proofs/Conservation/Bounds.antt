@@ -20,7 +20,8 @@ use Rattle.tree.specs.Tree.{Node, Subtree, Nodes, no-node, flat, Tree}
 use Rattle.tree.specs.Supply.{Supply}
 use Rattle.tree.specs.Cut.{cut-leaf, not-split, split, cut-node, State, root-node, grow-if-split, cut}
 use Rattle.tree.specs.Combine.{with-ends, combine-node, combine-nodes, combine-span}
-use Rattle.tree.specs.Heal.{Healing, push-nodes, pushed, joint, emptied, redistribute, merge, rebalance, heal-nodes, collapse-if-single, heal}
+use Rattle.tree.specs.Heal.{Healing, push-nodes, pushed, joint, emptied, redistribute, merge, rebalance, heal-nodes}
+use Rattle.tree.specs.Heal.{collapse-if-single, heal}
 use Rattle.tree.specs.Conserved.{Norm-laws, Path-bounded}
 use Rattle.tree.proofs.Conservation.Cut.{inner-nodes, cut-case}
 
@@ -33,7 +34,8 @@ module _ (norm : Pair → ℕ) (Each : Pair → Type 0) where
   Within-tree most T = Ways most (T .level) 0 (T .nodes)
 
   -- what is above may grow as the bound does
-  slack : (l most more above over : ℕ) (x : Node (Subtree l)) → over + most ≤ above + more → Path-bounded norm Each most l above x → Path-bounded norm Each more l over x
+  slack : (l most more above over : ℕ) (x : Node (Subtree l)) → over + most ≤ above + more → Path-bounded norm Each most l above x
+      → Path-bounded norm Each more l over x
   unfolding Path-bounded
   slack zero most more above over x h q = (q .0, omega arith)
   slack (suc l) most more above over x h q =
@@ -55,9 +57,11 @@ module _ {_⊕_ : Pair → Pair → Pair} {norm : Pair → ℕ} {Each : Pair →
 
   -- ---- the cut
   module _ (half t : ℕ) where
-    node-within : (l above : ℕ) (x : Node (Subtree l)) (S : Supply) → Path-bounded norm Each most l above x → Ways norm Each most l above (cut-node half t l x S .became)
+    node-within : (l above : ℕ) (x : Node (Subtree l)) (S : Supply) → Path-bounded norm Each most l above x
+        → Ways norm Each most l above (cut-node half t l x S .became)
     unfolding cut-node cut-leaf not-split split Path-bounded
-    node-within zero above x S q = either (Ways norm Each most 0 above) (all-more q all-none) (all-more q (all-more q all-none)) (eqb (x .entry .start) t)
+    node-within zero above x S q =
+        either (Ways norm Each most 0 above) (all-more q all-none) (all-more q (all-more q all-none)) (eqb (x .entry .start) t)
     node-within (suc l) above x S q =
         let i = index-of t (flat (x .subtree)) in
         let y = getD (x .subtree) i (no-node l) in
@@ -68,7 +72,8 @@ module _ {_⊕_ : Pair → Pair → Pair} {norm : Pair → ℕ} {Each : Pair →
         (all-more (q .0, q .1, a) all-none)
         (all-more (q .0, q .1, all-take half a) (all-more (q .0, q .1, all-drop half a) all-none))
 
-    grown-within : (l : ℕ) (zs : Nodes (suc l)) (S : Supply) → Ways norm Each most (suc l) 0 zs → Within-tree norm Each most (grow-if-split l zs S .tree)
+    grown-within : (l : ℕ) (zs : Nodes (suc l)) (S : Supply) → Ways norm Each most (suc l) 0 zs
+        → Within-tree norm Each most (grow-if-split l zs S .tree)
     unfolding grow-if-split Path-bounded
     grown-within l [] S a = all-none
     grown-within l (x ∷ []) S (all-more q r) = slacks norm Each l most most (0 + norm (x .entry .pair)) 0 (omega arith) (q .2)
@@ -80,8 +85,12 @@ module _ {_⊕_ : Pair → Pair → Pair} {norm : Pair → ℕ} {Each : Pair →
         let l = Y .tree .level in
         either (λ (Z : State). Within-tree norm Each most (Z .tree)) a
         (grown-within l _ _
-        (node-within (suc l) 0 (root-node (Y .tree)) (Y .supply)
-        (bounded .each-none, omega (arith, bounded .norm-none), slacks norm Each l most most 0 (0 + norm none) (omega (arith, bounded .norm-none)) a)))
+        (node-within (suc l) 0 (root-node (Y .tree)) (Y .supply) (
+          bounded .each-none,
+          omega (arith, bounded .norm-none),
+          slacks norm Each l most most 0 (0 + norm none)
+              (omega (arith, bounded .norm-none)) a,
+        )))
         (leb END t)
 
   -- ---- combining
@@ -90,7 +99,8 @@ module _ {_⊕_ : Pair → Pair → Pair} {norm : Pair → ℕ} {Each : Pair →
     abbrev grow-root : ℕ
     grow-root = most + norm effect
 
-    ends-all : {A : Type 0} {Q R : Node A → Type 0} {es : List (Node A)} (f : ℕ → Node A → Node A) (hi : ℕ) → ((h : ℕ) (x : Node A) → Q x → R (f h x)) → All Q es → All R (with-ends f hi es)
+    ends-all : {A : Type 0} {Q R : Node A → Type 0} {es : List (Node A)} (f : ℕ → Node A → Node A) (hi : ℕ)
+        → ((h : ℕ) (x : Node A) → Q x → R (f h x)) → All Q es → All R (with-ends f hi es)
     unfolding with-ends
     ends-all f hi h all-none = all-none
     ends-all f hi h (all-more {x} {xs} q r) = all-more (h (next-start hi (flat xs)) x q) (ends-all f hi h r)
@@ -99,18 +109,27 @@ module _ {_⊕_ : Pair → Pair → Pair} {norm : Pair → ℕ} {Each : Pair →
     took-within : (l above : ℕ) (x : Node (Subtree (suc l))) (below : Nodes l) → Path-bounded norm Each most (suc l) above x
         → Ways norm Each grow-root l (above + norm (x .entry .pair)) below → (a b : Bool)
         → Path-bounded norm Each grow-root (suc l) above
-        (record { entry = cond a (entry (x .entry .start) (_⊕_ (x .entry .pair) effect) (x .entry .child)) (x .entry); subtree = cond a (x .subtree) (cond b below (x .subtree)) })
+        (record {
+          entry = cond a (entry (x .entry .start) (_⊕_ (x .entry .pair) effect) (x .entry .child)) (x .entry);
+          subtree =
+              cond a (x .subtree) (cond b below (x .subtree));
+        })
     unfolding Path-bounded
     took-within l above x below q r true b =
         let p = x .entry .pair in
-        let h = bounded .norm-sum p effect in
-        (bounded .each-sum p effect (q .0) fits, omega arith, slacks norm Each l most grow-root (above + norm p) (above + norm (_⊕_ p effect)) (omega arith) (q .2))
+        let h = bounded .norm-sum p effect in (
+          bounded .each-sum p effect (q .0) fits,
+          omega arith,
+          slacks norm Each l most grow-root (above + norm p)
+              (above + norm (_⊕_ p effect)) (omega arith) (q .2),
+        )
     took-within l above x below q r false true = (q .0, omega arith, r)
     took-within l above x below q r false false =
         let n = norm (x .entry .pair) in
         (q .0, omega arith, slacks norm Each l most grow-root (above + n) (above + n) (omega arith) (q .2))
 
-    combine-within-node : (l above hi : ℕ) (x : Node (Subtree l)) → Path-bounded norm Each most l above x → Path-bounded norm Each grow-root l above (combine-node _⊕_ s e effect l hi x)
+    combine-within-node : (l above hi : ℕ) (x : Node (Subtree l)) → Path-bounded norm Each most l above x
+        → Path-bounded norm Each grow-root l above (combine-node _⊕_ s e effect l hi x)
     unfolding combine-node took Path-bounded
     combine-within-node zero above hi x q =
         either (λ (y : Entry). Each (y .pair) × (above + norm (y .pair) ≤ grow-root))
@@ -123,22 +142,29 @@ module _ {_⊕_ : Pair → Pair → Pair} {norm : Pair → ℕ} {Each : Pair →
         (inside s e (x .entry .start) hi)
         (overlaps s e (x .entry .start) hi)
 
-    pub combine-within : (Y : State) → Within-tree norm Each most (Y .tree) → Within-tree norm Each grow-root (combine-span _⊕_ s e effect Y .tree)
+    pub combine-within : (Y : State) → Within-tree norm Each most (Y .tree)
+        → Within-tree norm Each grow-root (combine-span _⊕_ s e effect Y .tree)
     unfolding combine-span combine-nodes
     combine-within Y a = ends-all _ END (λ h x. combine-within-node (Y .tree .level) 0 h x) a
 
   -- ---- the heal
   module _ (half : ℕ) where
     push-within : (l above : ℕ) (p : Pair) (x : Node (Subtree l)) → Each p → Path-bounded norm Each most l (above + norm p) x
-        → Path-bounded norm Each most l above (record { entry = entry (x .entry .start) (_⊕_ p (x .entry .pair)) (x .entry .child); subtree = x .subtree })
+        → Path-bounded norm Each most l above
+        (record { entry = entry (x .entry .start) (_⊕_ p (x .entry .pair)) (x .entry .child); subtree = x .subtree })
     unfolding Path-bounded
     push-within zero above p x f q = (bounded .each-sum p (x .entry .pair) f (q .0), omega (arith, bounded .norm-sum p (x .entry .pair)))
     push-within (suc l) above p x f q =
         let r = x .entry .pair in
-        let h = bounded .norm-sum p r in
-        (bounded .each-sum p r f (q .0), omega arith, slacks norm Each l most most (above + norm p + norm r) (above + norm (_⊕_ p r)) (omega arith) (q .2))
+        let h = bounded .norm-sum p r in (
+          bounded .each-sum p r f (q .0),
+          omega arith,
+          slacks norm Each l most most (above + norm p + norm r) (above + norm (_⊕_ p r))
+              (omega arith) (q .2),
+        )
 
-    pushed-within : (l above : ℕ) (x : Node (Subtree (suc l))) → Path-bounded norm Each most (suc l) above x → Ways norm Each most l above (pushed _⊕_ x)
+    pushed-within : (l above : ℕ) (x : Node (Subtree (suc l))) → Path-bounded norm Each most (suc l) above x
+        → Ways norm Each most l above (pushed _⊕_ x)
     unfolding pushed push-nodes Path-bounded
     pushed-within l above x q = all-map _ (λ y. push-within l above (x .entry .pair) y (q .0)) (q .2)
 
@@ -164,7 +190,8 @@ module _ {_⊕_ : Pair → Pair → Pair} {norm : Pair → ℕ} {Each : Pair →
         let k = cond (eqb i 0) half (n - 1) in
         either (λ (H : Healing (Subtree (suc l))). Ways norm Each most (suc l) above (H .nodes))
         (all-splice j (all-more (emptied-within l above (x .entry .start) x h (all-take k all)) all-none)
-        (all-splice (suc j) (all-more (emptied-within l above (at (flat (drop k (joint _⊕_ x y))) 0 .start) y h (all-drop k all)) all-none) a))
+        (all-splice (suc j) (all-more (emptied-within l above (at (flat (drop k (joint _⊕_ x y))) 0 .start) y h (all-drop k all))
+        all-none) a))
         (all-splice j (all-more (emptied-within l above (x .entry .start) x h all) all-none) (all-splice (suc j) all-none a))
         (ltb half n)
 
@@ -179,13 +206,15 @@ module _ {_⊕_ : Pair → Pair → Pair} {norm : Pair → ℕ} {Each : Pair →
         let x = getD es i (no-node (suc l)) in
         let q = all-getD i a (none-within (suc l) above h) in
         let r = heal-nodes half _⊕_ t l (x .subtree) S in
-        let b = all-splice i (all-more (q .0, q .1, nodes-within t l (above + norm (x .entry .pair)) (x .subtree) S (q .1) (q .2)) all-none) a in
+        let b = all-splice i
+        (all-more (q .0, q .1, nodes-within t l (above + norm (x .entry .pair)) (x .subtree) S (q .1) (q .2)) all-none) a in
         either (λ (H : Healing (Subtree (suc l))). Ways norm Each most (suc l) above (H .nodes))
         (rebalance-within l above i _ (r .supply) h b)
         b
         (ltb (length (r .nodes)) half)
 
-    collapsed-within : (l root : ℕ) (es : Nodes l) (S : Supply) → Ways norm Each most l 0 es → Within-tree norm Each most (collapse-if-single half _⊕_ l root es S .tree)
+    collapsed-within : (l root : ℕ) (es : Nodes l) (S : Supply) → Ways norm Each most l 0 es
+        → Within-tree norm Each most (collapse-if-single half _⊕_ l root es S .tree)
     unfolding collapse-if-single
     collapsed-within zero root es S a = a
     collapsed-within (suc l) root es S a =
@@ -196,4 +225,6 @@ module _ {_⊕_ : Pair → Pair → Pair} {norm : Pair → ℕ} {Each : Pair →
 
     pub heal-within : (t : ℕ) (Y : State) → Within-tree norm Each most (Y .tree) → Within-tree norm Each most (heal half _⊕_ t Y .tree)
     unfolding heal
-    heal-within t Y a = collapsed-within (Y .tree .level) (Y .tree .root) _ _ (nodes-within t (Y .tree .level) 0 (Y .tree .nodes) (Y .supply) (omega arith) a)
+    heal-within t Y a =
+        collapsed-within (Y .tree .level) (Y .tree .root) _ _
+        (nodes-within t (Y .tree .level) 0 (Y .tree .nodes) (Y .supply) (omega arith) a)

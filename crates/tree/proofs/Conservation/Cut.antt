@@ -24,7 +24,8 @@ module _ (half t l : ℕ) (x : Node (Subtree (suc l))) (S : Supply) where
   inner-nodes = splice (index-of t (flat (x .subtree))) (inner .became) (x .subtree)
 
   -- their page is kept or split
-  pub cut-case : (Q : Cutting (Subtree (suc l)) → Type 0) → Q (not-split x inner-nodes (inner .supply)) → Q (split half x inner-nodes (inner .supply))
+  pub cut-case : (Q : Cutting (Subtree (suc l)) → Type 0) → Q (not-split x inner-nodes (inner .supply))
+      → Q (split half x inner-nodes (inner .supply))
       → Q (cut-node half t (suc l) x S)
   unfolding cut-node split-if-full
   cut-case Q k s = either Q k (either Q k s (leb (length inner-nodes) (capacity half))) (eqb (length (inner .became)) 1)

@@ -27,7 +27,8 @@ module _ (half : ℕ) (_⊕_ : Pair → Pair → Pair) where
   rebalance-gave : {R : Supply} (l i : ℕ) (es : Nodes (suc l)) (S : Supply) → Gave R S → Gave R (rebalance half _⊕_ l i es S .supply)
   unfolding rebalance
   rebalance-gave {R} l i es S g =
-      either (λ (H : Healing (Subtree (suc l))). Gave R (H .supply)) g (gave-page _ g) (ltb half (length (getD es (sibling i) (no-node (suc l)) .subtree)))
+      either (λ (H : Healing (Subtree (suc l))). Gave R (H .supply)) g (gave-page _ g)
+      (ltb half (length (getD es (sibling i) (no-node (suc l)) .subtree)))
 
   nodes-gave : (t l : ℕ) (es : Nodes l) (S : Supply) → Gave S (heal-nodes half _⊕_ t l es S .supply)
   unfolding heal-nodes
@@ -35,9 +36,11 @@ module _ (half : ℕ) (_⊕_ : Pair → Pair → Pair) where
   nodes-gave t (suc l) es S =
       let x = getD es (index-of t (flat es)) (no-node (suc l)) in
       let g = nodes-gave t l (x .subtree) S in
-      either (λ (H : Healing (Subtree (suc l))). Gave S (H .supply)) (rebalance-gave l (index-of t (flat es)) _ _ g) g (ltb (length (heal-nodes half _⊕_ t l (x .subtree) S .nodes)) half)
+      either (λ (H : Healing (Subtree (suc l))). Gave S (H .supply)) (rebalance-gave l (index-of t (flat es)) _ _ g) g
+      (ltb (length (heal-nodes half _⊕_ t l (x .subtree) S .nodes)) half)
 
-  collapsed-gave : {R : Supply} (l root : ℕ) (es : Nodes l) (S : Supply) → Gave R S → Gave R (collapse-if-single half _⊕_ l root es S .supply)
+  collapsed-gave : {R : Supply} (l root : ℕ) (es : Nodes l) (S : Supply) → Gave R S
+      → Gave R (collapse-if-single half _⊕_ l root es S .supply)
   unfolding collapse-if-single
   collapsed-gave zero root es S g = g
   collapsed-gave {R} (suc l) root es S g = either (λ (Z : State). Gave R (Z .supply)) (gave-page root g) g (eqb (length es) 1)

@@ -23,9 +23,11 @@ seg-long : {A : Type 0} {Q : Asked A} {lo hi : ℕ} {es : List (Node A)} (m : �
     → length es * m ≤ length (concat-map f es)
 unfolding concat-map
 seg-long m f h done = omega arith
-seg-long m f h (more {lo} {mid} {x = x} {es = es} e lt q r) = omega (arith, length-append (f x) (concat-map f es), h lo mid x q, seg-long m f h r)
+seg-long m f h (more {lo} {mid} {x = x} {es = es} e lt q r) =
+    omega (arith, length-append (f x) (concat-map f es), h lo mid x q, seg-long m f h r)
 
-under-least : (half : ℕ) (B : Asked (Subtree 0)) (l a b : ℕ) (x : Node (Subtree l)) → Shaped half B l a b x → least-under half l ≤ length (pages-under l x)
+under-least : (half : ℕ) (B : Asked (Subtree 0)) (l a b : ℕ) (x : Node (Subtree l)) → Shaped half B l a b x
+    → least-under half l ≤ length (pages-under l x)
 unfolding least-under pages-under Shaped
 under-least half B zero a b x q = omega arith
 under-least half B (suc l) a b x q =
@@ -35,7 +37,8 @@ under-least half B (suc l) a b x q =
       seg-long (least-under half l) (λ y. pages-under l y) (λ c d y. under-least half B l c d y) (q .1),
     )
 
-pages-least : {half : ℕ} {B : Asked (Subtree 0)} (T : Tree) → Formed half B T → suc (root-least (T .level) * least-under half (T .level)) ≤ length (pages-of T)
+pages-least : {half : ℕ} {B : Asked (Subtree 0)} (T : Tree) → Formed half B T
+    → suc (root-least (T .level) * least-under half (T .level)) ≤ length (pages-of T)
 unfolding pages-of
 pages-least {half} {B} T F =
     let l = T .level in
@@ -58,7 +61,8 @@ inner-least half zero h = absurd (omega arith)
 inner-least half (suc l) h = refl
 
 -- the pages of two entries of a root above level m
-level-most : {half : ℕ} {B : Asked (Subtree 0)} (m : ℕ) (T : Tree) → Formed half B T → length (pages-of T) ≤ 2 * least-under half (suc m) → T .level ≤ m
+level-most : {half : ℕ} {B : Asked (Subtree 0)} (m : ℕ) (T : Tree) → Formed half B T
+    → length (pages-of T) ≤ 2 * least-under half (suc m) → T .level ≤ m
 level-most {half} m T F h = go (leb (T .level) m) refl
   where
     go : (b : Bool) → leb (T .level) m ≡ b → T .level ≤ m

@@ -15,7 +15,8 @@ use Rattle.rule.proofs.Laws.{combine-sum-bound, total-count-bound, value-or-non
 use Rattle.tree.specs.Conserved.{Norm-laws}
 
 -- a measure with nothing asked of each pair
-measured : {_⊕_ : Pair → Pair → Pair} {norm : Pair → ℕ} → norm none ≡ 0 → ((p q : Pair) → norm (_⊕_ p q) ≤ norm p + norm q) → Norm-laws _⊕_ norm (λ p. Unit {0})
+measured : {_⊕_ : Pair → Pair → Pair} {norm : Pair → ℕ} → norm none ≡ 0 → ((p q : Pair) → norm (_⊕_ p q) ≤ norm p + norm q)
+    → Norm-laws _⊕_ norm (λ p. Unit {0})
 measured z s = record { norm-none = z; norm-sum = s; each-none = tt; each-sum = λ p q a b. tt }
 
 pub sums-bounded : (kind : ℕ) → Norm-laws (combine kind) (λ p. natAbs (p .sum)) (λ p. Unit {0})

@@ -35,5 +35,4 @@ write-fresh-spec =
     (λ c κs. omega (arith, size (c .before .before .before .before .before)))
     (λ c. omega (arith, size (c .before .before .before .before .before .before .before .before .before)))
     (λ c κs. omega (arith, size (c .before .before .before .before .before .before .before .before .before)))
-    (λ c. omega arith)
-    returns)
+    (λ c. omega arith) returns)

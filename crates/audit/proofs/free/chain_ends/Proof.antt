@@ -21,10 +21,13 @@ Inv-loop img n k first left₀ p₀ left p = chain-ends 12 img k first ≡ chain
 abbrev μ-loop : tie.MeasureT-loop
 μ-loop img n k first left₀ p₀ left p = left
 
-leads : (c : tie.Else1 Inv-loop μ-loop) → leads-to-free 12 (c .before .before .before .before .before .args .img .now) (c .before .before .before .before .before .args .n) (c .before .before .before .loop .p) ≡ true
+leads : (c : tie.Else1 Inv-loop μ-loop)
+    → leads-to-free 12 (c .before .before .before .before .before .args .img .now)
+    (c .before .before .before .before .before .args .n) (c .before .before .before .loop .p) ≡ true
 leads c = sym (c .before .leads-to-free .ensures) ∙ not-false _ (c .if1 .left)
 
-within : (c : tie.Else1 Inv-loop μ-loop) → Page-in (c .before .before .before .before .before .args .img .now) (c .before .before .before .loop .p)
+within : (c : tie.Else1 Inv-loop μ-loop)
+    → Page-in (c .before .before .before .before .before .args .img .now) (c .before .before .before .loop .p)
 within c = free-within _ _ _ (c .before .before .before .before .before .pre) (leads c)
 
 returns : tie.Need-returns Inv-loop μ-loop
@@ -32,7 +35,8 @@ returns c =
     let at = c .before .before .before in
     let start = at .before .before in
     let stop = sym (c .before .leads-to-free .ensures) ∙ not-true _ (c .if1 .taken) in
-    chain-stops 12 (start .args .img .now) (start .args .n) (at .loop .left) (at .loop .p) (pages-are _ _ (start .pre)) (c .before .before .loop-test .taken) stop
+    chain-stops 12 (start .args .img .now) (start .args .n) (at .loop .left) (at .loop .p) (pages-are _ _ (start .pre))
+    (c .before .before .loop-test .taken) stop
     ∙ sym (at .loop .inv)
 
 loop-again : tie.Need-loop-again Inv-loop μ-loop
@@ -41,7 +45,8 @@ loop-again c =
     let at = test .before .before .before in
     let start = at .before .before in
     at .loop .inv
-    ∙ chain-on 12 (start .args .img .now) (start .args .n) (at .loop .left) (at .loop .p) (pages-are _ _ (start .pre)) (test .before .before .loop-test .taken) (leads test)
+    ∙ chain-on 12 (start .args .img .now) (start .args .n) (at .loop .left) (at .loop .p) (pages-are _ _ (start .pre))
+    (test .before .before .loop-test .taken) (leads test)
     ∙ ap (chain-ends 12 (start .args .img .now) (at .loop .left - 1)) (sym (c .next-of .ensures ∙ ap next-of (c .before .page-at .ensures)))
 
 returns-2 : tie.Need-returns-2 Inv-loop μ-loop
@@ -52,13 +57,9 @@ returns-2 c =
 pub chain-ends-spec : {M : Type 1} → statement M
 chain-ends-spec =
     tie.close
-    (tie.spec Inv-loop μ-loop
-    (λ c. refl)
+    (tie.spec Inv-loop μ-loop (λ c. refl)
     (λ c κs. c .before .before .before .pre)
     returns
     (λ c κs. within c)
     (λ c κs. ap length (c .page-at .ensures) ∙ page-length _ _ (within (c .before)))
-    (λ c. omega arith)
-    (λ c. omega arith)
-    loop-again
-    returns-2)
+    (λ c. omega arith) (λ c. omega arith) loop-again returns-2)

@@ -26,8 +26,11 @@ returns-3 : tie.Need-returns-3
 unfolding leads-to-free
 returns-3 c =
     let at = c .before .before in
-    passes (le-leb _ _ (at .before .if1 .left)) (passes (lt-ltb _ _ (at .if2 .left)) (c .free-ok .ensures ∙ ap (free-ok 12) (c .before .page-at .ensures)))
+    passes (le-leb _ _ (at .before .if1 .left))
+    (passes (lt-ltb _ _ (at .if2 .left)) (c .free-ok .ensures ∙ ap (free-ok 12) (c .before .page-at .ensures)))
 
 pub leads-to-free-spec : {M : Type 1} → statement M
 leads-to-free-spec =
-    tie.close (tie.spec returns returns-2 (λ c κs. within c) (λ c κs. ap length (c .page-at .ensures) ∙ page-length _ _ (within (c .before))) returns-3)
+    tie.close
+    (tie.spec returns returns-2 (λ c κs. within c)
+    (λ c κs. ap length (c .page-at .ensures) ∙ page-length _ _ (within (c .before))) returns-3)

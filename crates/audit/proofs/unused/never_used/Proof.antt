@@ -12,4 +12,6 @@ returns c =
     c .all-ff .ensures ∙ sym (never-parts 12 (args .img .now) (args .mark) (args .n - args .mark))
 
 pub never-used-spec : {M : Type 1} → statement M
-never-used-spec = tie.close (tie.spec (λ c. omega arith) (λ c. omega arith) (λ c. omega arith) (λ c. omega arith) (λ c κs. omega arith) returns)
+never-used-spec =
+    tie.close
+    (tie.spec (λ c. omega arith) (λ c. omega arith) (λ c. omega arith) (λ c. omega arith) (λ c κs. omega arith) returns)

@@ -1,4 +1,5 @@
--- `audit::verdict::sound` meets its contract: at each exit a part of soundness by counting fails, and those before it passed. Assumes nothing.
+-- `audit::verdict::sound` meets its contract: at each exit a part of soundness by counting fails, and those before it passed. Assumes
+-- nothing.
 use mathlib.Core.Path.{sym, _∙_}
 use native.Mathlib.Omega.{arith}
 use borrow.Author.Needs.{needs}
@@ -15,7 +16,9 @@ headed c =
     let read = c .before .before in
     opened _ (read .before .before .pre) (sym (c .h .given .1) ∙ read .open-head .ensures)
 
-walked : (c : tie.After-audit-page) → Walked (c .before .before .before .before .before .before .before .args .img .now) (c .before .before .before .h .given .0 .0) (c .audit-page .result)
+walked : (c : tie.After-audit-page)
+    → Walked (c .before .before .before .before .before .before .before .args .img .now) (c .before .before .before .h .given .0 .0)
+    (c .audit-page .result)
 walked c = root-walked (headed (c .before .before .before)) (c .before .root-context .ensures) (c .audit-page .ensures)
 
 returns : tie.Need-returns
@@ -26,27 +29,24 @@ returns c =
 returns-3 : tie.Need-returns-3
 returns-3 c =
     let tree = c .before .before .before in
-    unsound-count (walked (tree .before .before)) (tree .tree .given .0 .0) (tree .tree .given .1) (sym (c .before .adds-up .ensures) ∙ not-true _ (c .if1 .taken))
+    unsound-count (walked (tree .before .before)) (tree .tree .given .0 .0) (tree .tree .given .1)
+    (sym (c .before .adds-up .ensures) ∙ not-true _ (c .if1 .taken))
 
 returns-4 : tie.Need-returns-4
 returns-4 c =
     let sum = c .before .before in
     let tree = sum .before .before .before in
-    sound-rest (walked (tree .before .before)) (tree .tree .given .0 .0) (tree .tree .given .1) (sym (sum .before .adds-up .ensures) ∙ not-false _ (sum .if1 .left))
+    sound-rest (walked (tree .before .before)) (tree .tree .given .0 .0) (tree .tree .given .1)
+    (sym (sum .before .adds-up .ensures) ∙ not-false _ (sum .if1 .left))
     (c .before .chain-ends .ensures) (c .never-used .ensures)
 
 pub sound-spec : {M : Type 1} → statement M
 sound-spec =
     tie.close
-    (tie.spec
-    (λ c κs. search needs)
-    (λ c. search needs)
-    (λ c. search needs)
-    returns
+    (tie.spec (λ c κs. search needs) (λ c. search needs) (λ c. search needs) returns
     (λ c κs. opened-ranges (headed (c .before)) .height-least)
     (λ c κs. rw (c .root-context .ensures) (root-standing (headed (c .before .before))))
-    (λ c. search needs)
-    (λ c. search needs)
+    (λ c. search needs) (λ c. search needs)
     (λ c. unsound-tree (walked (c .before .before)) (c .enum-told2 .given .1))
     (λ c κs. omega (arith, opened-ranges (walked (c .before .before .before) .opened) .mark-least))
     returns-3

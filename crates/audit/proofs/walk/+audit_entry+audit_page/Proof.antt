@@ -9,7 +9,9 @@ use borrow.Fn.Kinds.{In}
 use borrow.Fn.PlainCycle.{Measures, is, falls, and}
 use Rattle.page.specs.Layout.{entry-count}
 use Rattle.page.specs.Fit.{page-fit}
-use Rattle.audit.proofs.Walks.{standing-within, standing-size, standing-bounded, entry-reads, below-level, below-counted, below-standing, page-unfit, leaf-counted, tested, Passing, passing-none, passing-inner, passing-more, passing-stops, passing-most, passing-all}
+use Rattle.audit.proofs.Walks.{standing-within, standing-size, standing-bounded, entry-reads, below-level, below-counted}
+use Rattle.audit.proofs.Walks.{below-standing, page-unfit, leaf-counted, tested, Passing, passing-none, passing-inner, passing-more}
+use Rattle.audit.proofs.Walks.{passing-stops, passing-most, passing-all}
 use Rattle.audit.proofs.walk.audit_entry.Reads as audit-entry
 use Rattle.audit.proofs.walk.audit_entry.Kinds as audit-entry-kinds
 use Rattle.audit.proofs.walk.+audit_entry+audit_page.Lts-audit_entry as audit-entry-lts
@@ -81,8 +83,10 @@ pub +audit-entry+audit-page-spec : {M : Type 1} → statement M
     ) (audit-entry-at t) audit-entry.Post
     (λ c κs. standing-within (c .before .pre .1 .0))
     (λ c κs.
-    let w = c .before .before .pre .1 in
-    (standing-size (w .0) (c .page-at .ensures), (omega (arith, entry-reads (w .0) (w .1) (c .page-at .ensures)), (w .1 .level, standing-bounded (w .0)))))
+    let w = c .before .before .pre .1 in (
+      standing-size (w .0) (c .page-at .ensures),
+      (omega (arith, entry-reads (w .0) (w .1) (c .page-at .ensures)), (w .1 .level, standing-bounded (w .0))),
+    ))
     (λ c κs.
     let w = c .before .before .before .pre .1 in
     (standing-size (w .0) (c .before .page-at .ensures), omega (arith, entry-reads (w .0) (w .1) (c .before .page-at .ensures))))
@@ -97,7 +101,8 @@ pub +audit-entry+audit-page-spec : {M : Type 1} → statement M
     (λ c.
     let b = c .before .before in
     let w = b .before .before .before .pre .1 in
-    c .audit-page .ensures ∙ below-counted (w .0) (w .1) (b .before .page-at .ensures) (b .context-below .ensures) (c .before .child-at .ensures)))
+    c .audit-page .ensures
+    ∙ below-counted (w .0) (w .1) (b .before .page-at .ensures) (b .context-below .ensures) (c .before .child-at .ensures)))
     (λ t.
     audit-page-lts.spec (
       page-at-reads.Asked,
@@ -116,13 +121,15 @@ pub +audit-entry+audit-page-spec : {M : Type 1} → statement M
     (λ c.
     let fit = c .before in
     let args = fit .before .before .before .args in
-    page-unfit 12 (args .h) (args .img .now) (args .at) (args .p) (tested 12 _ _ _ _ (fit .before .page-at .ensures) (fit .page-fit .ensures) (not-true _ (c .if1 .taken))))
+    page-unfit 12 (args .h) (args .img .now) (args .at) (args .p)
+    (tested 12 _ _ _ _ (fit .before .page-at .ensures) (fit .page-fit .ensures) (not-true _ (c .if1 .taken))))
     (λ c.
     let fit = c .before .before .before in
     let args = fit .before .before .before .args in
     leaf-counted 12 (args .h) (args .img .now) (args .at) (args .p) (c .if2 .taken)
     (tested 12 _ _ _ _ (fit .before .page-at .ensures) (fit .page-fit .ensures) (not-false _ (c .before .before .if1 .left))))
-    (λ c κs. standing-size (c .before .before .before .before .before .before .pre .1) (c .before .before .before .before .page-at .ensures))
+    (λ c κs.
+    standing-size (c .before .before .before .before .before .before .pre .1) (c .before .before .before .before .page-at .ensures))
     (λ c. search needs)
     (λ c.
     let inner = c .before in
@@ -135,13 +142,12 @@ pub +audit-entry+audit-page-spec : {M : Type 1} → statement M
     let inv = c .before .loop .inv in
     let start = c .before .before .before .before .before .before .before .before .before in
     (omega (arith, start .pre .0), (inv .standing, passing-inner inv (c .loop-test .taken))))
-    (λ c. search needs)
-    (λ c. search needs)
+    (λ c. search needs) (λ c. search needs)
     (λ c.
     let called = c .before .before in
-    passing-stops (called .before .before .loop .inv) (called .before .loop-test .taken) (called .audit-entry .ensures) (c .enum-told .given .1))
+    passing-stops (called .before .before .loop .inv) (called .before .loop-test .taken) (called .audit-entry .ensures)
+    (c .enum-told .given .1))
     (λ c. omega (arith, more t c .most, more t c .within, passing-most (more t c)))
-    (λ c. omega arith)
-    (λ c. omega arith)
+    (λ c. omega arith) (λ c. omega arith)
     (more t)
     (λ c. passing-all (c .before .loop .inv) (c .loop-test .left)))

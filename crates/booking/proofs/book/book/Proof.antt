@@ -13,12 +13,18 @@ use Rattle.booking.proofs.book.book.Statement.{statement}
 use Rattle.booking.proofs.book.book.Tie as tie
 
 number : (c : tie.After-check-input)
-    → c .check-input .result ≡ first (book-input-rows 12 (c .before .before .before .before .before .args .v) (c .before .before .before .before .before .args .s) (c .before .before .before .before .before .args .e) (c .before .before .before .before .before .args .img .now) (c .before .before .before .before .before .args .scratch .now))
+    → c .check-input .result ≡
+    first (book-input-rows 12 (c .before .before .before .before .before .args .v)
+    (c .before .before .before .before .before .args .s) (c .before .before .before .before .before .args .e)
+    (c .before .before .before .before .before .args .img .now) (c .before .before .before .before .before .args .scratch .now))
 number c = rw (toZ-ofZ (c .before .before .before .before .before .fits .v)) at (c .check-input .ensures)
 
 -- no early row turns it back
 passed : (c : tie.Else1)
-    → first (book-input-rows 12 (c .before .before .before .before .before .before .args .v) (c .before .before .before .before .before .before .args .s) (c .before .before .before .before .before .before .args .e) (c .before .before .before .before .before .before .args .img .now) (c .before .before .before .before .before .before .args .scratch .now)) ≡ 0
+    → first (book-input-rows 12 (c .before .before .before .before .before .before .args .v)
+    (c .before .before .before .before .before .before .args .s) (c .before .before .before .before .before .before .args .e)
+    (c .before .before .before .before .before .before .args .img .now)
+    (c .before .before .before .before .before .before .args .scratch .now)) ≡ 0
 passed c = sym (number (c .before)) ∙ c .if1 .left
 
 returns : tie.Need-returns
@@ -51,7 +57,8 @@ returns-2 c =
     let told = c .before in
     let check-state = told .before .before in
     let filled = check-state .before .before .before .before in
-    book-late-out _ _ _ _ _ _ (passed (filled .before .before)) (sym (told .row .given .1) ∙ check-state .check-state .ensures) (filled .fill .ensures)
+    book-late-out _ _ _ _ _ _ (passed (filled .before .before)) (sym (told .row .given .1) ∙ check-state .check-state .ensures)
+    (filled .fill .ensures)
 
 returns-3 : tie.Need-returns-3
 unfolding pages-in cleared borrowed
@@ -62,24 +69,12 @@ returns-3 c =
     let filled = check-state .before .before .before .before in
     let check-input = filled .before .before in
     book-done _ _ _ _ _ _ (passed check-input) (sym (told .h .given .1) ∙ check-state .check-state .ensures)
-    (rw (toZ-ofZ (check-input .before .before .before .before .before .before .fits .v)) at (did .make-change .ensures)) (filled .fill .ensures)
+    (rw (toZ-ofZ (check-input .before .before .before .before .before .before .fits .v)) at (did .make-change .ensures))
+    (filled .fill .ensures)
 
 pub book-spec : {M : Type 1} → statement M
 book-spec =
     tie.close
-    (tie.spec
-    (λ c κs. search needs)
-    (λ c. search needs)
-    (λ c. search needs)
-    returns
-    fill-requires
-    check-state-requires
-    (λ c. search needs)
-    (λ c. search needs)
-    make-change-requires
-    (λ c. search needs)
-    (λ c. search needs)
-    returns-2
-    (λ c. search needs)
-    (λ c. search needs)
-    returns-3)
+    (tie.spec (λ c κs. search needs) (λ c. search needs) (λ c. search needs) returns fill-requires check-state-requires
+    (λ c. search needs) (λ c. search needs) make-change-requires (λ c. search needs) (λ c. search needs) returns-2
+    (λ c. search needs) (λ c. search needs) returns-3)

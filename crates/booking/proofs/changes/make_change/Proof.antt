@@ -16,7 +16,8 @@ apply-requires c κs =
     let start = known .before in
     let h = accepted-head (start .pre) in
     accepted-some (start .pre) (bytes-of (start .args .img .now) (known .slice-known .given)) (ap (λ (g : Head). g .kind) h)
-    (far .effect-end .ensures ∙ ap (λ (g : Head). effect-end (start .args .e) (g .window)) h) (rw (toZ-ofZ (start .fits .v)) at (c .effect .ensures))
+    (far .effect-end .ensures ∙ ap (λ (g : Head). effect-end (start .args .e) (g .window)) h)
+    (rw (toZ-ofZ (start .fits .v)) at (c .effect .ensures))
 
 returns : tie.Need-returns
 returns c =
@@ -27,8 +28,12 @@ returns c =
     let start = known .before in
     let h = accepted-head (start .pre) in
     accepted-changed (start .pre) (bytes-of (start .args .img .now) (known .slice-known .given)) (ap (λ (g : Head). g .kind) h)
-    (far .effect-end .ensures ∙ ap (λ (g : Head). effect-end (start .args .e) (g .window)) h) (rw (toZ-ofZ (start .fits .v)) at (effect .effect .ensures)) (did .apply .ensures)
+    (far .effect-end .ensures ∙ ap (λ (g : Head). effect-end (start .args .e) (g .window)) h)
+    (rw (toZ-ofZ (start .fits .v)) at (effect .effect .ensures)) (did .apply .ensures)
 
 pub make-change-spec : {M : Type 1} → statement M
 make-change-spec =
-    tie.close (tie.spec (λ c κs. search needs) (λ c κs. rw (toZ-ofZ (c .before .before .before .fits .v)) (c .before .before .before .pre .fits)) apply-requires (λ c. search needs) returns)
+    tie.close
+    (tie.spec (λ c κs. search needs)
+    (λ c κs. rw (toZ-ofZ (c .before .before .before .fits .v)) (c .before .before .before .pre .fits)) apply-requires
+    (λ c. search needs) returns)

@@ -21,7 +21,8 @@ returns : tie.Need-returns
 unfolding effect side-of
 returns c =
     let s = c .before in
-    rw (toZ-ofZ (s .fits .v), toZ-ofZ (opposite-fits c), c .if1 .taken) (λ j. record { sum = +ℤ-idl (negℤ (s .args .v)) j; count = negsuc 0 })
+    rw (toZ-ofZ (s .fits .v), toZ-ofZ (opposite-fits c), c .if1 .taken)
+    (λ j. record { sum = +ℤ-idl (negℤ (s .args .v)) j; count = negsuc 0 })
 
 returns-2 : tie.Need-returns-2
 unfolding effect side-of

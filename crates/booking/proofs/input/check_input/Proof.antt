@@ -14,10 +14,13 @@ use Rattle.booking.proofs.input.check_input.Statement.{statement}
 use Rattle.booking.proofs.input.check_input.Tie as tie
 
 tests : (c : tie.After-value-ok) {whole room span fits : Bool} → c .before .length-fits .result ≡ whole
-    → leb (pages-in 12 (c .before .before .before .before .args .img .now)) (length (c .before .before .before .before .args .scratch .now)) ≡ room
+    → leb (pages-in 12 (c .before .before .before .before .args .img .now))
+    (length (c .before .before .before .before .args .scratch .now)) ≡ room
     → ltb (c .before .before .before .before .args .s) (c .before .before .before .before .args .e) ≡ span
     → c .value-ok .result ≡ fits
-    → Tests (c .before .before .before .before .args .v) (c .before .before .before .before .args .s) (c .before .before .before .before .args .e) (c .before .before .before .before .args .img .now) (c .before .before .before .before .args .scratch .now) whole room span fits
+    → Tests (c .before .before .before .before .args .v) (c .before .before .before .before .args .s)
+    (c .before .before .before .before .args .e) (c .before .before .before .before .args .img .now)
+    (c .before .before .before .before .args .scratch .now) whole room span fits
 tests c a b d f =
     let start = c .before .before .before .before in
     record {
@@ -49,7 +52,8 @@ returns-4 c =
     let span = c .before in
     let room = span .before in
     rows-are _ _ _ _ _
-    (tests (room .before .before) (not-false _ (room .before .if1 .left)) (not-false _ (room .if2 .left)) (not-false _ (span .if3 .left)) (not-true _ (c .if4 .taken)))
+    (tests (room .before .before) (not-false _ (room .before .if1 .left)) (not-false _ (room .if2 .left))
+    (not-false _ (span .if3 .left)) (not-true _ (c .if4 .taken)))
 
 returns-5 : tie.Need-returns-5
 unfolding first pages-in
@@ -57,7 +61,8 @@ returns-5 c =
     let span = c .before in
     let room = span .before in
     rows-are _ _ _ _ _
-    (tests (room .before .before) (not-false _ (room .before .if1 .left)) (not-false _ (room .if2 .left)) (not-false _ (span .if3 .left)) (not-false _ (c .if4 .left)))
+    (tests (room .before .before) (not-false _ (room .before .if1 .left)) (not-false _ (room .if2 .left))
+    (not-false _ (span .if3 .left)) (not-false _ (c .if4 .left)))
 
 pub check-input-spec : {M : Type 1} → statement M
 check-input-spec = tie.close (tie.spec (λ c κs. search needs) (λ c κs. search needs) returns returns-2 returns-3 returns-4 returns-5)

@@ -45,7 +45,8 @@ returns-3 c =
     late-23 _ _ _ _ (passed (head .before .before)) (read head) (side .if2 .left) (eq-eqb _ _ (c .if3 .taken))
 
 -- where the effect ends, which is behind its start
-later : (c : tie.After-effect-end) → c .before .before .before .before .before .before .before .before .before .before .args .s < c .effect-end .result
+later : (c : tie.After-effect-end)
+    → c .before .before .before .before .before .before .before .before .before .before .args .s < c .effect-end .result
 unfolding effect-end
 later c =
     let start = c .before .before .before .before .before .before .before .before .before .before in
@@ -83,9 +84,4 @@ check-state-spec =
     returns
     (λ c κs. within (c .before .before))
     (λ c κs. omega (arith, ap length (c .page-at .ensures) ∙ page-length _ 0 (within (c .before .before .before))))
-    returns-2
-    returns-3
-    (λ c κs. search needs)
-    lacks-pages-requires
-    returns-4
-    returns-5)
+    returns-2 returns-3 (λ c κs. search needs) lacks-pages-requires returns-4 returns-5)

@@ -49,12 +49,6 @@ returns c =
 pub apply-spec : {M : Type 1} → statement M
 apply-spec =
     tie.close
-    (tie.spec
-    (λ c κs. search needs)
+    (tie.spec (λ c κs. search needs)
     (λ c κs. let a = c .before .before .before in some-B _ _ _ _ (a .cut .ensures) (a .before .before .before .pre))
-    combine-span-requires
-    heal-requires
-    heal-requires-2
-    count-change-requires
-    (λ c. search needs)
-    returns)
+    combine-span-requires heal-requires heal-requires-2 count-change-requires (λ c. search needs) returns)

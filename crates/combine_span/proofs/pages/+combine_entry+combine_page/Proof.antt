@@ -108,7 +108,8 @@ pub +combine-entry+combine-page-spec : {M : Type 1} → statement M
     let some = out .before .before .if1 .left in
     let apart = sym (out .before .inside .ensures) ∙ out .if2 .left in
     let meets = sym (met .before .overlaps .ensures) ∙ not-false _ (met .if3 .left) in
-    subst (Encodes _) (sent-below _ _ _ _ X some apart meets) (call .combine-page .ensures X h (combinable-below _ _ _ _ X some apart meets r))))
+    subst (Encodes _) (sent-below _ _ _ _ X some apart meets)
+    (call .combine-page .ensures X h (combinable-below _ _ _ _ X some apart meets r))))
     λ t. combine-page-lts.spec (
       load-reads.Asked,
       load-reads.Learnt,

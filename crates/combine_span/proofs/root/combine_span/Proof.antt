@@ -28,7 +28,8 @@ returns c X h r =
     let call = c .before .before in
     let read = call .before .before .before in
     let args = start read .args in
-    by-head (λ Y. Encodes (args .img .now) Y → Span-combinable (args .q) Y → Encodes (call .combine-page .last .0) (combine-span-by (args .q) Y))
+    by-head (λ Y. Encodes (args .img .now) Y → Span-combinable (args .q) Y
+    → Encodes (call .combine-page .last .0) (combine-span-by (args .q) Y))
     (read .head-of .ensures X h tt) (λ k t. call .combine-page .ensures _ k (t .root)) h r
 
 pub combine-span-spec : {M : Type 1} → statement M

@@ -76,15 +76,5 @@ returns-3 c X h r =
 pub cut-spec : {M : Type 1} → statement M
 cut-spec =
     tie.close
-    (tie.spec
-    returns
-    (λ c κs. search needs)
-    (λ c κs. search needs)
-    cut-entry-requires
-    (λ c. search needs)
-    (λ c. search needs)
-    (λ c. search needs)
-    returns-2
-    grow-root-requires
-    (λ c. search needs)
-    returns-3)
+    (tie.spec returns (λ c κs. search needs) (λ c κs. search needs) cut-entry-requires (λ c. search needs)
+    (λ c. search needs) (λ c. search needs) returns-2 grow-root-requires (λ c. search needs) returns-3)

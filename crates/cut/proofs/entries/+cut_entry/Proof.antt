@@ -78,12 +78,8 @@ pub +cut-entry-spec : {M : Type 1} → statement M
       omega (arith, start .pre .0, d),
       record { image = _; holds = s .holds; ready = read-cuttable (start .args .e) d k (s .ready) },
     ))
-    -- enum-known-start
-    (λ c. search needs)
-    -- enum-told
-    (λ c. search needs)
-    -- same-length-2
-    (λ c. search needs)
+    -- enum-known-start, enum-told, same-length-2
+    (λ c. search needs) (λ c. search needs) (λ c. search needs)
     -- returns-2
     (λ c X h r.
     let call = c .before .before .before .before in

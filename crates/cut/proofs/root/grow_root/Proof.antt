@@ -46,7 +46,8 @@ returns c X h r =
     let read = taking .before .before in
     let args = read .before .before .before .args in
     let es = entry 0 none (args .root) ∷ entry (args .start) none (args .q) ∷ [] in
-    by-head (λ Y. Encodes (args .img .now) Y → Root-growable Y → Encodes (saved .save .last .0) (grow-root es Y)) (read .head-of .ensures X h tt)
+    by-head (λ Y. Encodes (args .img .now) Y → Root-growable Y → Encodes (saved .save .last .0) (grow-root es Y))
+    (read .head-of .ensures X h tt)
     (λ k ready.
     let q = taking .take .ensures _ k (ready .takable) in
     grow-root-holds _ _ (q .0) (made .new-root .ensures)
@@ -56,12 +57,6 @@ returns c X h r =
 pub grow-root-spec : {M : Type 1} → statement M
 grow-root-spec =
     tie.close
-    (tie.spec
-    (λ c κs. search needs)
-    (λ c κs. search needs)
+    (tie.spec (λ c κs. search needs) (λ c κs. search needs)
     (λ c. omega (arith, headed (c .before .before .before .before .before .before) .ready .low))
-    set-root-requires
-    (λ c κs. search needs)
-    save-requires
-    (λ c. search needs)
-    returns)
+    set-root-requires (λ c κs. search needs) save-requires (λ c. search needs) returns)

@@ -71,12 +71,5 @@ returns c X h r =
 pub split-spec : {M : Type 1} → statement M
 split-spec =
     tie.close
-    (tie.spec
-    take-requires
-    (λ c κs. search needs)
-    save-requires
-    (λ c κs. search needs)
-    save-requires-2
-    entry-at-requires
-    (λ c. search needs)
-    returns)
+    (tie.spec take-requires (λ c κs. search needs) save-requires (λ c κs. search needs) save-requires-2
+    entry-at-requires (λ c. search needs) returns)

@@ -36,8 +36,11 @@ loop-again c =
     let at = c .before .before in
     let args = at .before .args in
     let i = at .loop .i in
-    let h : args .a + i < length (args .s .now) = omega arith in
-    (omega arith, ap (λ t. t && eqb (getD (args .s .now) (args .a + i) 0) 255) (at .loop .inv .1) ∙ sym (all-are-more 255 (args .s .now) (args .a) i h))
+    let h : args .a + i < length (args .s .now) = omega arith in (
+      omega arith,
+      ap (λ t. t && eqb (getD (args .s .now) (args .a + i) 0) 255) (at .loop .inv .1)
+          ∙ sym (all-are-more 255 (args .s .now) (args .a) i h),
+    )
 
 returns : tie.Need-returns Inv-loop μ-loop
 returns c =

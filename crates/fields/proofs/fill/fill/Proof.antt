@@ -34,8 +34,12 @@ loop-again c =
     let at = c .before in
     let args = at .before .args in
     let k = at .loop .k in
-    let h : args .a + k < length (args .s .now) = omega arith in
-    (omega arith, simp length-set (at .loop .inv .1), ap (λ l. set l (args .a + k) (args .b)) (at .loop .inv .2) ∙ fill-more (args .s .now) (args .a) k (args .b) h)
+    let h : args .a + k < length (args .s .now) = omega arith in (
+      omega arith,
+      simp length-set (at .loop .inv .1),
+      ap (λ l. set l (args .a + k) (args .b)) (at .loop .inv .2)
+          ∙ fill-more (args .s .now) (args .a) k (args .b) h,
+    )
 
 same-length : tie.Need-same-length Inv-loop μ-loop
 same-length c = c .before .loop .inv .1

@@ -15,7 +15,8 @@ returns c =
     let start = c .before .before .before .before .before .before in
     let put = c .before .before in
     put .put-u32 .ensures
-    ∙ ap (λ v. patch (start .args .s .now) (start .args .o) (digits 4 v)) (put .before .bits32 .ensures ∙ ap (ofZ w32) (toZ-ofZ w32 (start .args .z) (start .fits .z)))
+    ∙ ap (λ v. patch (start .args .s .now) (start .args .o) (digits 4 v))
+    (put .before .bits32 .ensures ∙ ap (ofZ w32) (toZ-ofZ w32 (start .args .z) (start .fits .z)))
 
 pub put-i32-spec : {M : Type 1} → statement M
 put-i32-spec = tie.close (tie.spec (λ c κs. search needs) (λ c κs. search needs) (λ c. search needs) returns)

@@ -15,7 +15,8 @@ returns c =
     let start = c .before .before .before .before .before .before in
     let put = c .before .before in
     put .put-u64 .ensures
-    ∙ ap (λ v. patch (start .args .s .now) (start .args .o) (digits 8 v)) (put .before .bits64 .ensures ∙ ap (ofZ w64) (toZ-ofZ w64 (start .args .z) (start .fits .z)))
+    ∙ ap (λ v. patch (start .args .s .now) (start .args .o) (digits 8 v))
+    (put .before .bits64 .ensures ∙ ap (ofZ w64) (toZ-ofZ w64 (start .args .z) (start .fits .z)))
 
 pub put-i64-spec : {M : Type 1} → statement M
 put-i64-spec = tie.close (tie.spec (λ c κs. search needs) (λ c κs. search needs) (λ c. search needs) returns)

@@ -20,13 +20,13 @@ returns c =
     let v = args .v in
     c .before .before .put-u322 .ensures
     ∙ ap (λ l. patch l (o + 4) (digits 4 (v / 4294967296))) (c .before .before .before .before .before .before .put-u32 .ensures)
-    ∙ patch-patch-next s o (digits 4 (v % 4294967296)) (digits 4 (v / 4294967296)) (o + 4) (ap (λ k. o + k) (length-digits 4 (v % 4294967296))) (omega arith)
+    ∙ patch-patch-next s o (digits 4 (v % 4294967296)) (digits 4 (v / 4294967296)) (o + 4)
+    (ap (λ k. o + k) (length-digits 4 (v % 4294967296))) (omega arith)
     ∙ ap (λ l. patch s o (l ++ digits 4 (v / 4294967296))) (digits-mod 4 v)
     ∙ ap (patch s o) (sym (digits-add 4 4 v))
 
 pub put-u64-spec : {M : Type 1} → statement M
 put-u64-spec =
     tie.close
-    (tie.spec (λ c. search needs) (λ c κs. search needs)
-    (λ c. search needs) (λ c. search needs) (λ c κs. search needs)
+    (tie.spec (λ c. search needs) (λ c κs. search needs) (λ c. search needs) (λ c. search needs) (λ c κs. search needs)
     (λ c. search needs) returns)

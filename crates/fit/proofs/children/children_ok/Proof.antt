@@ -18,13 +18,16 @@ abbrev μ-loop : tie.MeasureT-loop
 loop-again : tie.Need-loop-again Inv-loop μ-loop
 loop-again c =
     let args = c .before .before .before .before .before .args in
-    passed-more (c .before .before .before .loop .inv) (omega arith) (c .child-ok .ensures ∙ ap (child-ok (args .pages) (args .at .level)) (c .before .child-at .ensures))
+    passed-more (c .before .before .before .loop .inv) (omega arith)
+    (c .child-ok .ensures ∙ ap (child-ok (args .pages) (args .at .level)) (c .before .child-at .ensures))
 
 returns : tie.Need-returns Inv-loop μ-loop
 unfolding children-ok
 returns c =
     let start = c .before .before .before in
-    passed-all (c .before .loop .inv) (c .loop-test .left) ∙ ap (λ n. every n (λ i. child-ok (start .args .pages) (start .args .at .level) (child-at 12 (start .args .s .now) i))) (start .pre .len)
+    passed-all (c .before .loop .inv) (c .loop-test .left)
+    ∙ ap (λ n. every n (λ i. child-ok (start .args .pages) (start .args .at .level) (child-at 12 (start .args .s .now) i)))
+    (start .pre .len)
 
 pub children-ok-spec : {M : Type 1} → statement M
 children-ok-spec =
@@ -32,8 +35,4 @@ children-ok-spec =
     (tie.spec Inv-loop μ-loop
     (λ c. passed-none _ _)
     (λ c κs. (omega arith, omega arith))
-    (λ c κs. tt)
-    (λ c. omega arith)
-    (λ c. omega arith)
-    loop-again
-    returns)
+    (λ c κs. tt) (λ c. omega arith) (λ c. omega arith) loop-again returns)

@@ -34,14 +34,5 @@ returns c =
 pub context-below-spec : {M : Type 1} → statement M
 context-below-spec =
     tie.close
-    (tie.spec
-    (λ c κs. search needs)
-    (λ c. search needs)
-    (λ c κs. search needs)
-    (λ c κs. search needs)
-    (λ c κs. search needs)
-    (λ c. omega arith)
-    cast-magnitude
-    (λ c κs. search needs)
-    (λ c. omega arith)
-    returns)
+    (tie.spec (λ c κs. search needs) (λ c. search needs) (λ c κs. search needs) (λ c κs. search needs)
+    (λ c κs. search needs) (λ c. omega arith) cast-magnitude (λ c κs. search needs) (λ c. omega arith) returns)

@@ -49,14 +49,5 @@ returns-2 c =
 pub pair-ok-spec : {M : Type 1} → statement M
 pair-ok-spec =
     tie.close
-    (tie.spec
-    (λ c. search needs)
-    (λ c κs. search needs)
-    (λ c. omega arith)
-    cast-magnitude
-    (λ c κs. search needs)
-    (λ c. omega arith)
-    mul-result
-    returns
-    (λ c κs. search needs)
-    returns-2)
+    (tie.spec (λ c. search needs) (λ c κs. search needs) (λ c. omega arith) cast-magnitude (λ c κs. search needs)
+    (λ c. omega arith) mul-result returns (λ c κs. search needs) returns-2)

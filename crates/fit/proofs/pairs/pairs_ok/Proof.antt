@@ -21,13 +21,15 @@ pair-ok-requires c κs = c .before .before .before .before .pre .1
 loop-again : tie.Need-loop-again Inv-loop μ-loop
 loop-again c =
     let args = c .before .before .before .before .before .args in
-    passed-more (c .before .before .before .loop .inv) (omega arith) (c .pair-ok .ensures ∙ ap (pair-ok (args .h) (args .at)) (c .before .pair-at .ensures))
+    passed-more (c .before .before .before .loop .inv) (omega arith)
+    (c .pair-ok .ensures ∙ ap (pair-ok (args .h) (args .at)) (c .before .pair-at .ensures))
 
 returns : tie.Need-returns Inv-loop μ-loop
 unfolding pairs-ok
 returns c =
     let start = c .before .before .before in
-    passed-all (c .before .loop .inv) (c .loop-test .left) ∙ ap (λ n. every n (λ i. pair-ok (start .args .h) (start .args .at) (pair-at 12 (start .args .s .now) i))) (start .pre .0 .len)
+    passed-all (c .before .loop .inv) (c .loop-test .left)
+    ∙ ap (λ n. every n (λ i. pair-ok (start .args .h) (start .args .at) (pair-at 12 (start .args .s .now) i))) (start .pre .0 .len)
 
 pub pairs-ok-spec : {M : Type 1} → statement M
 pairs-ok-spec =
@@ -35,8 +37,4 @@ pairs-ok-spec =
     (tie.spec Inv-loop μ-loop
     (λ c. passed-none _ _)
     (λ c κs. (omega arith, omega arith))
-    pair-ok-requires
-    (λ c. omega arith)
-    (λ c. omega arith)
-    loop-again
-    returns)
+    pair-ok-requires (λ c. omega arith) (λ c. omega arith) loop-again returns)

@@ -19,7 +19,8 @@ loop-again : tie.Need-loop-again Inv-loop μ-loop
 loop-again c =
     let s = c .before .before .before .before .before .args .s .now in
     let i = c .before .before .before .loop .i in
-    passed-more (c .before .before .before .loop .inv) (omega arith) (ap₂ ltb (c .before .start-at .ensures) (c .start-at2 .ensures ∙ ap (start-at s) (add-one i)))
+    passed-more (c .before .before .before .loop .inv) (omega arith)
+    (ap₂ ltb (c .before .start-at .ensures) (c .start-at2 .ensures ∙ ap (start-at s) (add-one i)))
 
 returns : tie.Need-returns Inv-loop μ-loop
 returns c = passed-all (c .before .loop .inv) (c .loop-test .left)
@@ -33,7 +34,4 @@ rising-spec =
     (λ c κs. (omega arith, omega arith))
     (λ c. omega arith)
     (λ c κs. (omega arith, omega arith))
-    (λ c. omega arith)
-    (λ c. omega arith)
-    loop-again
-    returns)
+    (λ c. omega arith) (λ c. omega arith) loop-again returns)

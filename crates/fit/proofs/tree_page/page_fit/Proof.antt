@@ -13,19 +13,26 @@ use Rattle.fit.proofs.tree_page.page_fit.Statement.{statement}
 use Rattle.fit.proofs.tree_page.page_fit.Tie as tie
 
 -- what the code has tested so far, in the definition's words
-level : (c : tie.Else1) → eqb (level-of (c .before .before .before .before .args .s .now)) (c .before .before .before .before .args .at .level) ≡ true
+level : (c : tie.Else1)
+    → eqb (level-of (c .before .before .before .before .args .s .now)) (c .before .before .before .before .args .at .level) ≡ true
 level c = eq-eqb _ _ (sym (c .before .before .level-of .ensures) ∙ c .if1 .left)
 
-number : (c : tie.Else2) → entry-count-ok 12 (c .before .before .before .before .before .before .args .at) (c .before .before .before .before .before .before .args .s .now) ≡ true
+number : (c : tie.Else2)
+    → entry-count-ok 12 (c .before .before .before .before .before .before .args .at)
+    (c .before .before .before .before .before .before .args .s .now) ≡ true
 number c = sym (c .before .entry-count-ok .ensures) ∙ not-false _ (c .if2 .left)
 
-starts : (c : tie.Else3) → starts-ok (c .before .before .before .before .before .before .before .before .before .args .at) (c .before .before .before .before .before .before .before .before .before .args .s .now) ≡ true
+starts : (c : tie.Else3)
+    → starts-ok (c .before .before .before .before .before .before .before .before .before .args .at)
+    (c .before .before .before .before .before .before .before .before .before .args .s .now) ≡ true
 starts c = sym (c .before .starts-ok .ensures) ∙ not-false _ (c .if3 .left)
 
-unused : (c : tie.Else4) → unused-ok 12 (c .before .before .before .before .before .before .before .before .before .before .before .args .s .now) ≡ true
+unused : (c : tie.Else4)
+    → unused-ok 12 (c .before .before .before .before .before .before .before .before .before .before .before .args .s .now) ≡ true
 unused c = sym (c .before .unused-ok .ensures) ∙ not-false _ (c .if4 .left)
 
-entries : (c : tie.After-entry-count) → Compared (c .before .before .before .before .before .before .before .args .s .now) (c .entry-count .result)
+entries : (c : tie.After-entry-count)
+    → Compared (c .before .before .before .before .before .before .before .args .s .now) (c .entry-count .result)
 entries c =
     let start = c .before .before .before .before .before .before .before in
     compared (start .args .at) (start .args .s .now) (start .pre .0) (c .entry-count .ensures) (number (c .before))
@@ -49,7 +56,8 @@ unfolding page-fit
 returns-4 c =
     let t = c .before .before in
     let n = t .before .before .before in
-    passes (level (n .before .before)) (passes (number n) (passes (starts t) (fails _ (sym (c .before .unused-ok .ensures) ∙ not-true _ (c .if4 .taken)))))
+    passes (level (n .before .before))
+    (passes (number n) (passes (starts t) (fails _ (sym (c .before .unused-ok .ensures) ∙ not-true _ (c .if4 .taken)))))
 
 returns-5 : tie.Need-returns-5
 unfolding page-fit
@@ -57,22 +65,20 @@ returns-5 c =
     let u = c .before .before in
     let t = u .before .before in
     let n = t .before .before .before in
-    passes (level (n .before .before)) (passes (number n) (passes (starts t) (passes (unused u) (ap₂ _&&_ (c .before .children-ok .ensures) (c .pairs-ok .ensures)))))
+    passes (level (n .before .before))
+    (passes (number n) (passes (starts t) (passes (unused u) (ap₂ _&&_ (c .before .children-ok .ensures) (c .pairs-ok .ensures)))))
 
 pub page-fit-spec : {M : Type 1} → statement M
 page-fit-spec =
     tie.close
-    (tie.spec
-    (λ c κs. search needs)
-    returns
-    (λ c κs. search needs)
-    returns-2
-    (λ c κs. search needs)
-    (λ c. search needs)
+    (tie.spec (λ c κs. search needs) returns (λ c κs. search needs) returns-2 (λ c κs. search needs) (λ c. search needs)
     (λ c κs. entries c)
     returns-3
     (λ c κs. entries (c .before .before))
     returns-4
     (λ c κs. entries (c .before .before .before .before))
-    (λ c κs. (entries (c .before .before .before .before .before), c .before .before .before .before .before .before .before .before .before .before .before .before .pre .1))
+    (λ c κs. (
+      entries (c .before .before .before .before .before),
+      c .before .before .before .before .before .before .before .before .before .before .before .before .pre .1,
+    ))
     returns-5)

@@ -14,20 +14,11 @@ returns c =
     let start = c .before .before .before .before in
     let s = start .args .s .now in
     ap₂ _&&_ (c .before .before .all-ff .ensures) (ap₂ _&&_ (c .before .all-ff2 .ensures) (c .all-ff3 .ensures))
-    ∙ ap (λ n. all-are 255 (part s 8 24) && (all-are 255 (part s (32 + 4 * n) (4 * (24 - n))) && all-are 255 (part s (128 + 16 * n) (16 * (24 - n))))) (start .pre .len)
+    ∙ ap (λ n. all-are 255 (part s 8 24)
+    && (all-are 255 (part s (32 + 4 * n) (4 * (24 - n))) && all-are 255 (part s (128 + 16 * n) (16 * (24 - n))))) (start .pre .len)
 
 pub unused-ok-spec : {M : Type 1} → statement M
 unused-ok-spec =
     tie.close
-    (tie.spec
-    (λ c. search needs)
-    (λ c κs. search needs)
-    (λ c. search needs)
-    (λ c. search needs)
-    (λ c. search needs)
-    (λ c κs. search needs)
-    (λ c. search needs)
-    (λ c. search needs)
-    (λ c. search needs)
-    (λ c κs. search needs)
-    returns)
+    (tie.spec (λ c. search needs) (λ c κs. search needs) (λ c. search needs) (λ c. search needs) (λ c. search needs)
+    (λ c κs. search needs) (λ c. search needs) (λ c. search needs) (λ c. search needs) (λ c κs. search needs) returns)

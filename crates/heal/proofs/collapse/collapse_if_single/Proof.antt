@@ -71,13 +71,5 @@ returns-3 c X h s =
 pub collapse-if-single-spec : {M : Type 1} → statement M
 collapse-if-single-spec =
     tie.close
-    (tie.spec
-    (λ c κs. search needs)
-    (λ c. search needs)
-    returns
-    entry-count-in-requires
-    collapse-root-requires
-    (λ c. search needs)
-    returns-2
-    (λ c. search needs)
-    returns-3)
+    (tie.spec (λ c κs. search needs) (λ c. search needs) returns entry-count-in-requires collapse-root-requires
+    (λ c. search needs) returns-2 (λ c. search needs) returns-3)

@@ -116,19 +116,12 @@ returns c X h s =
     let given = rooted .before .before .before .before .before in
     let at = made (saved given) in
     subst (Encodes _)
-    (collapse-root-is (start (read (entry at)) .args .kind) X (head (read (entry at)) X h s) (found (entry at) X h s) (page at X h s .shows))
+    (collapse-root-is (start (read (entry at)) .args .kind) X (head (read (entry at)) X h s) (found (entry at) X h s)
+    (page at X h s .shows))
     (then (two given) (λ X h s. tt) (rooted .set-root .ensures) X h s)
 
 pub collapse-root-spec : {M : Type 1} → statement M
 collapse-root-spec =
     tie.close
-    (tie.spec
-    (λ c κs. search needs)
-    entry-of-requires
-    pushed-requires
-    save-requires
-    give-back-requires
-    sub-set-root
-    set-root-requires
-    (λ c. search needs)
-    returns)
+    (tie.spec (λ c κs. search needs) entry-of-requires pushed-requires save-requires give-back-requires sub-set-root
+    set-root-requires (λ c. search needs) returns)

@@ -60,7 +60,8 @@ returns c X h s =
     let read = below .before .before .before in
     let args = start read .args in
     let holds = below .heal-page .ensures X h (page read X h s) in
-    subst (Encodes _) (healed-is (args .kind) X (args .t) (head read X h s)) (c .before .before .collapse-if-single .ensures _ holds (collapses read X h s))
+    subst (Encodes _) (healed-is (args .kind) X (args .t) (head read X h s))
+    (c .before .before .collapse-if-single .ensures _ holds (collapses read X h s))
 
 pub heal-spec : {M : Type 1} → statement M
 heal-spec =

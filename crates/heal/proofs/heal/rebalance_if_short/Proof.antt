@@ -36,4 +36,6 @@ returns-2 c X h v s =
     subst (Encodes _) (if-short-kept (args .q) X (n .0) (args .kind) v (args .p) (args .i) (c .if1 .left)) h
 
 pub rebalance-if-short-spec : {M : Type 1} → statement M
-rebalance-if-short-spec = tie.close (tie.spec entry-count-in-requires rebalance-requires (λ c. search needs) returns (λ c. search needs) returns-2)
+rebalance-if-short-spec =
+    tie.close
+    (tie.spec entry-count-in-requires rebalance-requires (λ c. search needs) returns (λ c. search needs) returns-2)

@@ -83,8 +83,4 @@ heal-leaf-spec =
     (λ c κs. from (c .before .before .before .before .pre) (λ X h s. record { image = X; holds = h; ready = s .tree-page .within }))
     (λ c κs. omega (arith, inside c))
     (λ c κs. omega (arith, inside (c .before .before .before)))
-    save-requires
-    (λ c. search needs)
-    returns
-    (λ c. search needs)
-    returns-2)
+    save-requires (λ c. search needs) returns (λ c. search needs) returns-2)

@@ -80,11 +80,8 @@ returns c X h v s =
 pub load-siblings-spec : {M : Type 1} → statement M
 load-siblings-spec =
     tie.close
-    (tie.spec
-    load-requires
+    (tie.spec load-requires
     (λ c κs. omega (arith, known c))
     (λ c. omega (arith, known (c .before)))
     (λ c κs. omega (arith, known (c .before)))
-    pushed-requires
-    pushed-requires-2
-    returns)
+    pushed-requires pushed-requires-2 returns)

@@ -97,7 +97,8 @@ abbrev saved : tie.After-give-back → tie.After-save
 saved c = c .before .before .before .before
 
 two : (c : tie.After-give-back) → Post (start (read (made (saved c))) .args .img .now) (Ready (read (made (saved c))))
-    (λ X. Encodes (c .give-back .last .0) (given-back (read (made (saved c)) .load-siblings .result .b .child) (left-written (made (saved c)) X)))
+    (λ X.
+    Encodes (c .give-back .last .0) (given-back (read (made (saved c)) .load-siblings .result .b .child) (left-written (made (saved c)) X)))
 two c = then (one (saved c)) (λ X h s. givable-put (right (read (made (saved c))) X h s) _ _) (c .give-back .ensures)
 
 save-requires-2 : tie.Need-save-requires-2
@@ -125,12 +126,5 @@ returns c X h v s =
 pub merge-spec : {M : Type 1} → statement M
 merge-spec =
     tie.close
-    (tie.spec
-    load-siblings-requires
-    append-requires
-    merged-requires
-    save-requires
-    give-back-requires
-    save-requires-2
-    (λ c. search needs)
-    returns)
+    (tie.spec load-siblings-requires append-requires merged-requires save-requires give-back-requires save-requires-2
+    (λ c. search needs) returns)

@@ -23,7 +23,8 @@ start c = c .before .before
 
 -- the page with its right entry
 right : (c : tie.After-emptied) → Has-entries (start c .args .parent .level)
-    (splice (suc (start c .args .l)) (emptied (start c .args .start) (at (entry-list (start c .args .parent)) (suc (start c .args .l))) ∷ [])
+    (splice (suc (start c .args .l))
+    (emptied (start c .args .start) (at (entry-list (start c .args .parent)) (suc (start c .args .l))) ∷ [])
     (entry-list (start c .args .parent)))
     (c .emptied .result)
 right c =

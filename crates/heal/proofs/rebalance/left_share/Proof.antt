@@ -7,7 +7,6 @@ use Rattle.heal.proofs.rebalance.left_share.Tie as tie
 pub left-share-spec : {M : Type 1} → statement M
 left-share-spec =
     tie.close
-    (tie.spec
-    (λ c. search needs)
+    (tie.spec (λ c. search needs)
     (λ c. share-right (c .before .args .i) (c .if1 .taken) (c .before .args .n))
     (λ c. share-left (c .before .args .i) (c .if1 .left) (c .before .args .n)))

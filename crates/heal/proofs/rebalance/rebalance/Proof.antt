@@ -12,13 +12,15 @@ use Rattle.store.specs.Encoding.{Encodes}
 use Rattle.store.specs.Preconditions.{Tree-page}
 use Rattle.store.proofs.Encoding.{from}
 use Rattle.heal.specs.Healable.{Rebalanceable}
-use Rattle.heal.proofs.Rebalancing.{rebalance-sibling, rebalance-entry, rebalance-redistributable, rebalance-mergeable, rebalance-redistributed, rebalance-merged}
+use Rattle.heal.proofs.Rebalancing.{rebalance-sibling, rebalance-entry, rebalance-redistributable, rebalance-mergeable}
+use Rattle.heal.proofs.Rebalancing.{rebalance-redistributed, rebalance-merged}
 use Rattle.heal.proofs.rebalance.rebalance.Statement.{statement}
 use Rattle.heal.proofs.rebalance.rebalance.Tie as tie
 
 entry-of-requires : tie.Need-entry-of-requires
 entry-of-requires c κs =
-    from (c .before .before .before .pre) (λ X h s. record { image = X; holds = h; ready = (_, rebalance-entry (s .1) (c .sibling .ensures)) })
+    from (c .before .before .before .pre)
+    (λ X h s. record { image = X; holds = h; ready = (_, rebalance-entry (s .1) (c .sibling .ensures)) })
 
 -- ---- the sibling, of every image that the bytes encode
 
@@ -58,7 +60,8 @@ redistribute-requires c κs =
     from (start (asked read) .pre)
     (λ X h s.
     let n = len read X h (s .1) in
-    let ready = rebalance-redistributable (c .before .left-of .ensures) n (c .left-share .ensures) (many .if1 .taken) (few read X h (s .1)) (s .1) in
+    let ready = rebalance-redistributable (c .before .left-of .ensures) n (c .left-share .ensures) (many .if1 .taken)
+    (few read X h (s .1)) (s .1) in
     record { image = X; holds = h; ready = (_, ready) })
 
 returns : tie.Need-returns
@@ -95,16 +98,6 @@ returns-2 c X h v s =
 pub rebalance-spec : {M : Type 1} → statement M
 rebalance-spec =
     tie.close
-    (tie.spec
-    (λ c κs. search needs)
-    entry-of-requires
-    entry-count-in-requires
-    (λ c κs. search needs)
-    (λ c κs. omega arith)
-    redistribute-requires
-    (λ c. search needs)
-    returns
-    (λ c κs. search needs)
-    merge-requires
-    (λ c. search needs)
-    returns-2)
+    (tie.spec (λ c κs. search needs) entry-of-requires entry-count-in-requires (λ c κs. search needs)
+    (λ c κs. omega arith) redistribute-requires (λ c. search needs) returns (λ c κs. search needs) merge-requires
+    (λ c. search needs) returns-2)

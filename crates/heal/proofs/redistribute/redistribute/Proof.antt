@@ -78,7 +78,8 @@ abbrev read : tie.After-redistributed → tie.After-load-siblings
 read c = parted c .before .before .before
 
 module _ (c : tie.After-redistributed) (X : Image) (h : Encodes (start (read c) .args .img .now) X) (s : Ready (read c) X) where
-  redistribution : Redistributed (start (read c) .args .kind) (s .0) (start (read c) .args .p) (start (read c) .args .l) (start (read c) .args .k) X
+  redistribution : Redistributed (start (read c) .args .kind) (s .0) (start (read c) .args .p) (start (read c) .args .l)
+      (start (read c) .args .k) X
       (parted c .first-part .result) (c .before .before .other-part .result) (c .redistributed .result)
   redistribution =
       let args = start (read c) .args in
@@ -147,7 +148,8 @@ save-requires-3 c κs =
       some-then (two second) (λ X h s. within-put (within-put (s .1 .siblings .parent .tree-page .within) _ _) _ _) (start (read at) .pre),
       from (start (read at) .pre)
           (λ X h s.
-          above-writable (args .l) _ (entries X (args .p)) (redistribution at X h s .parent) (s .1 .siblings .low) (s .1 .siblings .parent .inside)
+          above-writable (args .l) _ (entries X (args .p)) (redistribution at X h s .parent) (s .1 .siblings .low)
+          (s .1 .siblings .parent .inside)
           (omega arith) (above-few (family (read at) X h s))),
     )
 
@@ -164,14 +166,5 @@ returns c X h v s =
 pub redistribute-spec : {M : Type 1} → statement M
 redistribute-spec =
     tie.close
-    (tie.spec
-    load-siblings-requires
-    first-part-requires
-    other-part-requires
-    entry-at-requires
-    redistributed-requires
-    save-requires
-    save-requires-2
-    save-requires-3
-    (λ c. search needs)
-    returns)
+    (tie.spec load-siblings-requires first-part-requires other-part-requires entry-at-requires redistributed-requires
+    save-requires save-requires-2 save-requires-3 (λ c. search needs) returns)

@@ -29,4 +29,5 @@ returns c =
 pub cursor-below-spec : {M : Type 1} → statement M
 cursor-below-spec =
     tie.close
-    (tie.spec (λ c κs. search needs) context-below-requires (λ c κs. omega (arith, known (c .before .before))) (λ c κs. search needs) returns)
+    (tie.spec (λ c κs. search needs) context-below-requires (λ c κs. omega (arith, known (c .before .before))) (λ c κs. search needs)
+    returns)

@@ -17,7 +17,8 @@ start c = c .before .before .before .before .before .before .before
 
 -- the run that the code has found
 found : (c : tie.After-total-at)
-    → entry-walk (start c .args .img .now) (start c .args .q) (start c .args .on) (start c .args .i) ≡ one-run (c .before .run-start .result) (c .total-at .result)
+    → entry-walk (start c .args .img .now) (start c .args .q) (start c .args .on) (start c .args .i) ≡
+    one-run (c .before .run-start .result) (c .total-at .result)
 found c =
     let test = c .before .before .before in
     entry-leaf _ _ _ _ (test .before .meets .ensures) (test .if1 .left) (start c .pre .1 .1 .0) (c .before .run-start .ensures)

@@ -7,7 +7,8 @@ use borrow.Fn.Kinds.{In}
 use borrow.Fn.PlainCycle.{Measures, is, falls, and}
 use Rattle.listing.proofs.Laws.Pages.{entry-apart, entry-inner}
 use Rattle.listing.proofs.Laws.Stands.{step-down}
-use Rattle.listing.proofs.Laws.Loops.{does-nothing, does-stopped, room-known, opened-unfit, Turning, turning-none, turning-inside, turning-room, turning-more, turning-unfit, turning-all}
+use Rattle.listing.proofs.Laws.Loops.{does-nothing, does-stopped, room-known, opened-unfit, Turning, turning-none, turning-inside}
+use Rattle.listing.proofs.Laws.Loops.{turning-room, turning-more, turning-unfit, turning-all}
 use Rattle.listing.proofs.walks.walk_entry.Reads as walk-entry
 use Rattle.listing.proofs.walks.walk_entry.Kinds as walk-entry-kinds
 use Rattle.listing.proofs.walks.+walk_entry+walk_page.Lts-walk_entry as walk-entry-lts
@@ -67,8 +68,14 @@ pub +walk-entry+walk-page-spec : {M : Type 1} → statement M
     let start = test .before .before .before .before in
     let args = start .args in
     let pre = start .pre .1 in
-    let down = step-down (pre .0) (pre .1 .0) (c .cursor-below .ensures) (pre .1 .1 .0) in
-    (omega (arith, down .1, start .pre .0), (down .0, rw (entry-inner (args .img .now) (args .q) (args .on) (args .i) (test .before .meets .ensures) (test .if1 .left) (pre .1 .1 .0) (c .cursor-below .ensures)) at (pre .1 .1 .1))))
+    let down = step-down (pre .0) (pre .1 .0) (c .cursor-below .ensures) (pre .1 .1 .0) in (
+      omega (arith, down .1, start .pre .0),
+      (
+        down .0,
+        rw (entry-inner (args .img .now) (args .q) (args .on) (args .i) (test .before .meets .ensures) (test .if1 .left)
+            (pre .1 .1 .0) (c .cursor-below .ensures)) at (pre .1 .1 .1),
+      ),
+    ))
     -- same-length
     (λ c. search needs)
     -- returns-2
@@ -78,7 +85,8 @@ pub +walk-entry+walk-page-spec : {M : Type 1} → statement M
     let test = down .before .before in
     let start = test .before .before .before .before in
     let args = start .args in
-    rw (entry-inner (args .img .now) (args .q) (args .on) (args .i) (test .before .meets .ensures) (test .if1 .left) (start .pre .1 .1 .1 .0) (down .cursor-below .ensures)) (call .walk-page .ensures)))
+    rw (entry-inner (args .img .now) (args .q) (args .on) (args .i) (test .before .meets .ensures) (test .if1 .left)
+    (start .pre .1 .1 .1 .0) (down .cursor-below .ensures)) (call .walk-page .ensures)))
     λ t. walk-page-lts.spec
     (check-page-reads.Asked, check-page-reads.Learnt, leaf-page-reads.Asked, leaf-page-reads.Learnt, walk-entry-below t, walk-entry.Post)
     (walk-page-at t)
@@ -108,8 +116,16 @@ pub +walk-entry+walk-page-spec : {M : Type 1} → statement M
     (λ c κs.
     let loop = c .before .before in
     let start = loop .before .before .before .before .before .before .before .before .before in
-    let l = c .before .loop-test .taken in
-    (omega (arith, start .pre .0), (start .pre .1 .0, (turning-inside _ _ _ (loop .loop .inv) l, (omega (arith, loop .before .if1 .left), turning-room _ _ _ (loop .loop .inv) l)))))
+    let l = c .before .loop-test .taken in (
+      omega (arith, start .pre .0),
+      (
+        start .pre .1 .0,
+        (
+          turning-inside _ _ _ (loop .loop .inv) l,
+          (omega (arith, loop .before .if1 .left), turning-room _ _ _ (loop .loop .inv) l),
+        ),
+      ),
+    ))
     -- enum-known-next, enum-told-2
     (λ c. search needs) (λ c. search needs)
     -- same-length-2

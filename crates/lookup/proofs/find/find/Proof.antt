@@ -18,23 +18,17 @@ loop-again c = (omega arith, omega (arith, c .before .start-at .ensures, c .if1 
 returns : tie.Need-returns Inv-loop μ-loop
 returns c =
     let loop = c .before .before .before .loop in
-    searched-index (c .before .before .before .before .before .pre) (loop .i) (loop .inv .0) (loop .inv .1) (λ l. omega (arith, c .before .start-at .ensures, c .if1 .taken))
+    searched-index (c .before .before .before .before .before .pre) (loop .i) (loop .inv .0) (loop .inv .1)
+    (λ l. omega (arith, c .before .start-at .ensures, c .if1 .taken))
 
 returns-2 : tie.Need-returns-2 Inv-loop μ-loop
 returns-2 c =
     let loop = c .before .loop in
-    searched-index (c .before .before .before .pre) (loop .i) (loop .inv .0) (loop .inv .1) (λ l. absurd (omega (arith, c .loop-test .left)))
+    searched-index (c .before .before .before .pre) (loop .i) (loop .inv .0) (loop .inv .1)
+    (λ l. absurd (omega (arith, c .loop-test .left)))
 
 pub find-spec : {M : Type 1} → statement M
 find-spec =
     tie.close
-    (tie.spec Inv-loop μ-loop
-    (λ c. omega arith)
-    (λ c. omega arith)
-    (λ c. omega arith)
-    (λ c κs. omega arith)
-    returns
-    (λ c. omega arith)
-    (λ c. omega arith)
-    loop-again
-    returns-2)
+    (tie.spec Inv-loop μ-loop (λ c. omega arith) (λ c. omega arith) (λ c. omega arith) (λ c κs. omega arith) returns
+    (λ c. omega arith) (λ c. omega arith) loop-again returns-2)

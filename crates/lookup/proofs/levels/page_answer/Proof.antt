@@ -12,10 +12,13 @@ use Rattle.lookup.proofs.Laws.Levels.{level-unfit, level-found, fit-sea
 use Rattle.lookup.proofs.levels.page_answer.Statement.{statement}
 use Rattle.lookup.proofs.levels.page_answer.Tie as tie
 
-tested : (c : tie.Else1) → page-fit 12 (c .before .before .before .args .h) (c .before .before .before .args .at) (c .before .before .before .args .s .now) ≡ true
+tested : (c : tie.Else1)
+    → page-fit 12 (c .before .before .before .args .h) (c .before .before .before .args .at)
+    (c .before .before .before .args .s .now) ≡ true
 tested c = sym (c .before .page-fit .ensures) ∙ not-false _ (c .if1 .left)
 
-fit : (c : tie.Else1) → PageFit 12 (c .before .before .before .args .h) (c .before .before .before .args .at) (c .before .before .before .args .s .now)
+fit : (c : tie.Else1)
+    → PageFit 12 (c .before .before .before .args .h) (c .before .before .before .args .at) (c .before .before .before .args .s .now)
 fit c = page-fit-is _ _ _ _ .0 (tested c)
 
 -- an entry was found
@@ -36,17 +39,18 @@ find-requires c κs =
 returns-2 : tie.Need-returns-2
 returns-2 c =
     let found = c .before .before in
-    level-found (record { fit = tested (found .before .before); here = found .find .ensures; pairs = c .before .pair-at .ensures; children = c .child-at .ensures })
+    level-found (record {
+      fit = tested (found .before .before);
+      here = found .find .ensures;
+      pairs =
+          c .before .pair-at .ensures;
+      children = c .child-at .ensures;
+    })
 
 pub page-answer-spec : {M : Type 1} → statement M
 page-answer-spec =
     tie.close
-    (tie.spec
-    (λ c κs. search needs)
-    returns
-    (λ c κs. search needs)
-    (λ c. search needs)
-    find-requires
+    (tie.spec (λ c κs. search needs) returns (λ c κs. search needs) (λ c. search needs) find-requires
     (λ c κs. (c .before .before .before .before .before .pre .0, within c))
     (λ c κs. (c .before .before .before .before .before .before .pre .0, within (c .before)))
     returns-2)

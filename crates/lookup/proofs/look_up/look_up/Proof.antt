@@ -10,7 +10,8 @@ use Rattle.lookup.specs.Answers.{lookup-of}
 use Rattle.lookup.specs.declared.LookupAnswer.the-variants.{Answered}
 use Rattle.lookup.proofs.Laws.Levels.{Found, unfit-level, found-level}
 use Rattle.access.proofs.Laws.{opened-ranges}
-use Rattle.lookup.proofs.Laws.Walks.{Walk, walk-root, walk-within, walk-met, walk-unfit, walk-number, walk-combinable, walk-leaf, walk-below}
+use Rattle.lookup.proofs.Laws.Walks.{Walk, walk-root, walk-within, walk-met, walk-unfit, walk-number, walk-combinable, walk-leaf}
+use Rattle.lookup.proofs.Laws.Walks.{walk-below}
 use Rattle.lookup.proofs.look_up.look_up.Statement.{statement}
 use Rattle.lookup.proofs.look_up.look_up.Tie as tie
 
@@ -21,12 +22,20 @@ abbrev μ-loop : tie.MeasureT-loop
 μ-loop img h t at₀ p₀ so-far₀ pages₀ at p so-far pages = at .level
 
 -- the entry that the page answered with
-entry : (c : tie.After-found Inv-loop μ-loop) → Found 12 (c .before .before .before .before .before .before .args .h) (c .before .before .before .loop .at) (c .before .before .before .before .before .before .args .t) (page-at 12 (c .before .before .before .before .before .before .args .img .now) (c .before .before .before .loop .p)) (c .found .given .0 .0) (c .found .given .0 .1 .0) (c .found .given .0 .1 .1 .0)
+entry : (c : tie.After-found Inv-loop μ-loop)
+    → Found 12 (c .before .before .before .before .before .before .args .h) (c .before .before .before .loop .at)
+    (c .before .before .before .before .before .before .args .t)
+    (page-at 12 (c .before .before .before .before .before .before .args .img .now) (c .before .before .before .loop .p))
+    (c .found .given .0 .0) (c .found .given .0 .1 .0) (c .found .given .0 .1 .1 .0)
 entry c = found-level _ _ _ _ _ (sym (c .found .given .1) ∙ c .before .before .level-answer .ensures)
 
 -- or that it is unfit
-unfit : (c : tie.After-enum-told Inv-loop μ-loop) → page-fit 12 (c .before .before .before .before .before .before .args .h) (c .before .before .before .loop .at) (page-at 12 (c .before .before .before .before .before .before .args .img .now) (c .before .before .before .loop .p)) ≡ false
-unfit c = unfit-level _ _ _ (c .before .before .before .before .before .before .args .t) _ (sym (c .enum-told .given .1) ∙ c .before .before .level-answer .ensures)
+unfit : (c : tie.After-enum-told Inv-loop μ-loop)
+    → page-fit 12 (c .before .before .before .before .before .before .args .h) (c .before .before .before .loop .at)
+    (page-at 12 (c .before .before .before .before .before .before .args .img .now) (c .before .before .before .loop .p)) ≡ false
+unfit c =
+    unfit-level _ _ _ (c .before .before .before .before .before .before .args .t) _
+    (sym (c .enum-told .given .1) ∙ c .before .before .level-answer .ensures)
 
 loop-holds : tie.Need-loop-holds Inv-loop μ-loop
 loop-holds c = rw (c .root-context .ensures) (walk-root (c .before .before .pre) (c .before .before .args .t))
@@ -57,8 +66,10 @@ below-requires : tie.Need-below-requires Inv-loop μ-loop
 below-requires c κs =
     let found = c .before .before .before .before in
     let loop = found .before .before .before in
-    let o = loop .before .before .before .pre in
-    (walk-within o (loop .loop .inv), (walk-number o (loop .loop .inv) (entry found), (omega (arith, c .if1 .left), walk-met o (loop .loop .inv) .bounded)))
+    let o = loop .before .before .before .pre in (
+      walk-within o (loop .loop .inv),
+      (walk-number o (loop .loop .inv) (entry found), (omega (arith, c .if1 .left), walk-met o (loop .loop .inv) .bounded)),
+    )
 
 loop-less : tie.Need-loop-less Inv-loop μ-loop
 unfolding context-below
@@ -76,14 +87,6 @@ look-up-spec =
     tie.close
     (tie.spec Inv-loop μ-loop
     (λ c κs. opened-ranges (c .before .pre) .height-least)
-    loop-holds
-    level-answer-requires
+    loop-holds level-answer-requires
     (λ c. omega (arith, c .before .loop .inv .path .level))
-    (λ c. search needs)
-    (λ c. search needs)
-    returns
-    combine-requires
-    returns-2
-    below-requires
-    loop-less
-    loop-again)
+    (λ c. search needs) (λ c. search needs) returns combine-requires returns-2 below-requires loop-less loop-again)

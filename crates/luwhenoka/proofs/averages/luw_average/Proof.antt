@@ -22,7 +22,8 @@ returns c =
     let read = told .before .before in
     let asked = read .before .before .before in
     rw (toZ-ofZ (sum-fits told), toZ-ofZ (count-fits told)) at (c .luw-average-of .ensures)
-    ∙ ap (λ k. average-answer 0 (average k (record { sum = asked .luw-instant .result .sum; count = asked .luw-instant .result .count }))) (read .kind-of .ensures)
+    ∙ ap (λ k. average-answer 0
+    (average k (record { sum = asked .luw-instant .result .sum; count = asked .luw-instant .result .count }))) (read .kind-of .ensures)
     ∙ average-0 _ _ (asked .luw-instant .ensures) (read .before .if1 .taken)
 
 returns-2 : tie.Need-returns-2

@@ -13,7 +13,8 @@ use Rattle.access.specs.Access.{Open-image}
 use Rattle.access.proofs.Laws.{opened, shut}
 use Rattle.luwhenoka.specs.Answers.{listed}
 use Rattle.luwhenoka.specs.declared.ListingAnswer.{ListingAnswer}
-use Rattle.luwhenoka.proofs.Laws.Listings.{Counted-as, counted, uncounted, listing-16, listing-11, listing-head, listing-21, listing-15, listing-0}
+use Rattle.luwhenoka.proofs.Laws.Listings.{Counted-as, counted, uncounted, listing-16, listing-11, listing-head, listing-21}
+use Rattle.luwhenoka.proofs.Laws.Listings.{listing-15, listing-0}
 use Rattle.luwhenoka.proofs.listings.luw_listing.Statement.{statement}
 use Rattle.luwhenoka.proofs.listings.luw_listing.Tie as tie
 

@@ -17,7 +17,8 @@ returns c =
     let args = first .before .before .before .args in
     let s : List ℕ = args .s .now in
     put-rest s (args .level ∷ args .second ∷ []) 8 504 refl (omega arith)
-    (put-next s 0 (args .level ∷ []) (args .second) 4 refl (omega arith) (put-first s 0 (args .level) (first .put-u32 .ensures)) (second .put-u322 .ensures)) (filled .fill .ensures)
+    (put-next s 0 (args .level ∷ []) (args .second) 4 refl (omega arith) (put-first s 0 (args .level) (first .put-u32 .ensures))
+    (second .put-u322 .ensures)) (filled .fill .ensures)
     ∙ joined-two (args .level) (args .second) (unused 504)
 
 pub write-blank-spec : {M : Type 1} → statement M

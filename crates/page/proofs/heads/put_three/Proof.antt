@@ -16,9 +16,11 @@ returns c =
     let s : List ℕ = args .s .now in
     let o : ℕ = args .o in
     put-next s o (args .x ∷ args .y ∷ []) (args .z) (o + 8) refl (omega arith)
-    (put-next s o (args .x ∷ []) (args .y) (o + 4) refl (omega arith) (put-first s o (args .x) (first .put-u32 .ensures)) (second .put-u322 .ensures)) (third .put-u323 .ensures)
+    (put-next s o (args .x ∷ []) (args .y) (o + 4) refl (omega arith) (put-first s o (args .x) (first .put-u32 .ensures))
+    (second .put-u322 .ensures)) (third .put-u323 .ensures)
 
 pub put-three-spec : {M : Type 1} → statement M
 put-three-spec =
     tie.close
-    (tie.spec (λ c κs. omega arith) (λ c. omega arith) (λ c κs. omega arith) (λ c. omega arith) (λ c κs. omega arith) (λ c. omega arith) returns)
+    (tie.spec (λ c κs. omega arith) (λ c. omega arith) (λ c κs. omega arith) (λ c. omega arith) (λ c κs. omega arith)
+    (λ c. omega arith) returns)

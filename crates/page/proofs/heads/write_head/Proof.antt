@@ -24,7 +24,8 @@ returns c =
     let ys : List ℕ = h .free ∷ h .chain ∷ h .mark ∷ [] in
     let zs : List ℕ = h .kind ∷ h .window ∷ h .changes ∷ [] in
     put-rest s (numbers h) 36 476 refl (omega arith)
-    (put-more s 0 (xs ++ ys) zs 24 refl (omega arith) (put-more s 0 xs ys 12 refl (omega arith) (first .put-three .ensures) (second .put-three2 .ensures)) (third .put-three3 .ensures))
+    (put-more s 0 (xs ++ ys) zs 24 refl (omega arith)
+    (put-more s 0 xs ys 12 refl (omega arith) (first .put-three .ensures) (second .put-three2 .ensures)) (third .put-three3 .ensures))
     (filled .fill .ensures)
 
 pub write-head-spec : {M : Type 1} → statement M

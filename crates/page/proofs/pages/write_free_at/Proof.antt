@@ -10,7 +10,8 @@ returns c =
     let written = c .before .before in
     let found = written .before .before in
     let args = found .before .before .args in
-    back-page (args .img .now) (args .p) (found .page-offset .ensures) (omega arith) (written .write-free .kept .0) (written .write-free .ensures)
+    back-page (args .img .now) (args .p) (found .page-offset .ensures) (omega arith) (written .write-free .kept .0)
+    (written .write-free .ensures)
 
 pub write-free-at-spec : {M : Type 1} → statement M
 write-free-at-spec =

@@ -10,7 +10,8 @@ returns c =
     let written = c .before .before in
     let found = written .before .before in
     let args = found .before .before .args in
-    back-page (args .img .now) (args .p) (found .page-offset .ensures) (omega arith) (written .write-page .kept .0) (written .write-page .ensures)
+    back-page (args .img .now) (args .p) (found .page-offset .ensures) (omega arith) (written .write-page .kept .0)
+    (written .write-page .ensures)
 
 pub write-page-at-spec : {M : Type 1} → statement M
 write-page-at-spec =

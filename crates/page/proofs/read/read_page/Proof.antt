@@ -51,9 +51,12 @@ loop-again c =
     record {
       within = omega arith;
       starts = filled-more 25 0 (λ j. start-at s j) i (at .loop .starts) (start .start-at .result) h (start .start-at .ensures) (g .starts);
-      sums = filled-more 25 (pos 0) (λ j. pair-at 12 s j .sum) i (at .loop .sums) _ h (result-is w64 (sum .sum-at .ok) (sum .sum-at .ensures)) (g .sums);
-      counts = filled-more 25 (pos 0) (λ j. pair-at 12 s j .count) i (at .loop .counts) _ h (result-is w32 (count .count-at .ok) (count .count-at .ensures)) (g .counts);
-      children = filled-more 25 0 (λ j. child-at 12 s j) i (at .loop .children) (c .child-at .result) h (c .child-at .ensures) (g .children);
+      sums = filled-more 25 (pos 0) (λ j. pair-at 12 s j .sum) i (at .loop .sums) _ h
+          (result-is w64 (sum .sum-at .ok) (sum .sum-at .ensures)) (g .sums);
+      counts = filled-more 25 (pos 0) (λ j. pair-at 12 s j .count) i (at .loop .counts) _ h
+          (result-is w32 (count .count-at .ok) (count .count-at .ensures)) (g .counts);
+      children = filled-more 25 0 (λ j. child-at 12 s j) i (at .loop .children) (c .child-at .result) h (c .child-at .ensures)
+          (g .children);
     }
 
 returns : tie.Need-returns Inv-loop μ-loop
@@ -77,26 +80,7 @@ returns c =
 pub read-page-spec : {M : Type 1} → statement M
 read-page-spec =
     tie.close
-    (tie.spec
-    Inv-loop
-    μ-loop
-    loop-holds
-    (λ c κs. omega arith)
-    (λ c. omega arith)
-    (λ c. omega arith)
-    (λ c κs. omega arith)
-    (λ c. omega arith)
-    (λ c. omega arith)
-    (λ c κs. omega arith)
-    (λ c. omega arith)
-    (λ c. omega arith)
-    (λ c κs. omega arith)
-    (λ c. omega arith)
-    (λ c. omega arith)
-    (λ c. omega arith)
-    (λ c. omega arith)
-    loop-again
-    (λ c κs. omega arith)
-    (λ c κs. omega arith)
-    (λ c. omega arith)
-    returns)
+    (tie.spec Inv-loop μ-loop loop-holds (λ c κs. omega arith) (λ c. omega arith) (λ c. omega arith)
+    (λ c κs. omega arith) (λ c. omega arith) (λ c. omega arith) (λ c κs. omega arith) (λ c. omega arith)
+    (λ c. omega arith) (λ c κs. omega arith) (λ c. omega arith) (λ c. omega arith) (λ c. omega arith) (λ c. omega arith)
+    loop-again (λ c κs. omega arith) (λ c κs. omega arith) (λ c. omega arith) returns)

@@ -1,5 +1,5 @@
--- `page::write::write_page` meets its contract. The loop's invariant: the page has the entries passed, and nothing else behind its two numbers.
--- Assumes nothing.
+-- `page::write::write_page` meets its contract. The loop's invariant: the page has the entries passed, and nothing else behind its two
+-- numbers. Assumes nothing.
 use mathlib.Core.Path.{_≡_, refl, sym, ap, _∙_}
 use mathlib.Core.List.{List}
 use Prim.Native.Nat.{ℕ, _+_, _-_, _^_, _≤_, _<_}
@@ -35,10 +35,16 @@ loop-holds : tie.Need-loop-holds Inv-loop μ-loop
 unfolding listed
 loop-holds c =
     let p = c .before .before .before .before .before .args .t2 in
-    record { within = omega arith; size = omega arith; bytes = c .before .before .write-blank .ensures ∙ sym (page-none 12 (p .level) (p .len)) }
+    record {
+      within = omega arith;
+      size = omega arith;
+      bytes = c .before .before .write-blank .ensures
+          ∙ sym (page-none 12 (p .level) (p .len));
+    }
 
 -- an entry's signed numbers are copied as their bits
-step : (p : Page) (i : ℕ) {s t : List ℕ} → i < 24 → mag (getD (p .sums) i (pos 0)) < 2 ^ hbits w64 → mag (getD (p .counts) i (pos 0)) < 2 ^ hbits w32
+step : (p : Page) (i : ℕ) {s t : List ℕ} → i < 24 → mag (getD (p .sums) i (pos 0)) < 2 ^ hbits w64
+    → mag (getD (p .counts) i (pos 0)) < 2 ^ hbits w32
     → t
     ≡ with-entry 12 i
     (entry (getD (p .starts) i 0)
@@ -64,11 +70,9 @@ loop-again c =
     record {
       within = omega arith;
       size = omega arith;
-      bytes = step p (at .loop .i) (omega arith) (sum .write-entry-arg3 .given) (count .write-entry-arg4 .given) (written .write-entry .ensures) (at .loop .inv .bytes);
+      bytes = step p (at .loop .i) (omega arith) (sum .write-entry-arg3 .given) (count .write-entry-arg4 .given)
+          (written .write-entry .ensures) (at .loop .inv .bytes);
     }
-
-same-length : tie.Need-same-length Inv-loop μ-loop
-same-length c = omega arith
 
 returns : tie.Need-returns Inv-loop μ-loop
 unfolding entry-list
@@ -83,23 +87,6 @@ returns c =
 pub write-page-spec : {M : Type 1} → statement M
 write-page-spec =
     tie.close
-    (tie.spec
-    Inv-loop
-    μ-loop
-    (λ c. omega arith)
-    (λ c κs. omega arith)
-    loop-holds
-    (λ c. omega arith)
-    (λ c. omega arith)
-    (λ c. omega arith)
-    (λ c. omega arith)
-    (λ c. omega arith)
-    (λ c. omega arith)
-    (λ c. omega arith)
-    (λ c. omega arith)
-    (λ c κs. omega arith)
-    (λ c. omega arith)
-    (λ c. omega arith)
-    loop-again
-    same-length
-    returns)
+    (tie.spec Inv-loop μ-loop (λ c. omega arith) (λ c κs. omega arith) loop-holds (λ c. omega arith) (λ c. omega arith)
+    (λ c. omega arith) (λ c. omega arith) (λ c. omega arith) (λ c. omega arith) (λ c. omega arith) (λ c. omega arith)
+    (λ c κs. omega arith) (λ c. omega arith) (λ c. omega arith) loop-again (λ c. omega arith) returns)

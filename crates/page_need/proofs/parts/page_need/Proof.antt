@@ -17,9 +17,6 @@ returns-2 c =
 pub page-need-spec : {M : Type 1} → statement M
 page-need-spec =
     tie.close
-    (tie.spec
-    (λ c. search needs)
-    (λ c. search needs)
+    (tie.spec (λ c. search needs) (λ c. search needs)
     (λ c. sym (page-need-few 12 (c .before .before .args .n) (c .before .before .args .below) (c .if1 .taken)))
-    (λ c. search needs)
-    returns-2)
+    (λ c. search needs) returns-2)

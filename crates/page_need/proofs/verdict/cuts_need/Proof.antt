@@ -31,8 +31,7 @@ returns-2 c =
 pub cuts-need-spec : {M : Type 1} → statement M
 cuts-need-spec =
     tie.close
-    (tie.spec
-    (λ c κs. search needs)
+    (tie.spec (λ c κs. search needs)
     (λ c κs. leads (c .before))
     returns
     (λ c κs. (leads (c .before), c .before .before .before .pre .1))

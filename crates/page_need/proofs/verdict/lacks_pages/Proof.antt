@@ -20,17 +20,11 @@ returns : tie.Need-returns
 returns c =
     let cuts-need = c .before .before .before in
     let start = cuts-need .before .before in
-    lacks-asked (start .pre .0) (start .args .s) (start .args .e) (start .pre .1) (omega (arith, start .good)) (cuts-need .cuts-need .ensures)
+    lacks-asked (start .pre .0) (start .args .s) (start .args .e) (start .pre .1) (omega (arith, start .good))
+    (cuts-need .cuts-need .ensures)
 
 pub lacks-pages-spec : {M : Type 1} → statement M
 lacks-pages-spec =
     tie.close
-    (tie.spec
-    (λ c κs. search needs)
-    (λ c. search needs)
-    sub-held
-    (λ c. search needs)
-    (λ c. search needs)
-    add-result
-    (λ c. search needs)
-    returns)
+    (tie.spec (λ c κs. search needs) (λ c. search needs) sub-held (λ c. search needs) (λ c. search needs) add-result
+    (λ c. search needs) returns)

@@ -5,7 +5,8 @@ use borrow.Author.Needs.{needs}
 use borrow.Fn.Kinds.{In}
 use borrow.Fn.PlainCycle.{Measures, is, falls, and}
 use Rattle.image.specs.Images.{image-of}
-use Rattle.page_need.proofs.Below.{fit-some, fit-found, found-most, found-leads, leads-on, later-fit, both-leaf, both-same, both-apart}
+use Rattle.page_need.proofs.Below.{fit-some, fit-found, found-most, found-leads, leads-on, later-fit, both-leaf, both-same}
+use Rattle.page_need.proofs.Below.{both-apart}
 use Rattle.page_need.proofs.Below.{small-leaf, small-both, small-apart}
 use Rattle.page_need.proofs.walk.both_cuts.Reads as both-cuts
 use Rattle.page_need.proofs.walk.both_cuts.Kinds as both-cuts-kinds
@@ -46,8 +47,7 @@ pub +both-cuts-spec : {M : Type 1} → statement M
       parted-cuts-reads.Asked,
       parted-cuts-reads.Learnt,
     ) (both-cuts-at t) both-cuts.Post
-    (λ c κs. search needs)
-    (λ c κs. search needs)
+    (λ c κs. search needs) (λ c κs. search needs)
     (λ c κs.
     let args = c .before .before .before .before .args in
     (small-leaf (args .s) (args .e) (c .before .leaf-need .ensures), small-leaf (args .t) (args .e) (c .leaf-need2 .ensures)))

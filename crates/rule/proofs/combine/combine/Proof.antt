@@ -30,20 +30,11 @@ returns c =
     rw (toZ-ofZ (f .sum₁), toZ-ofZ (f .sum₂), toZ-ofZ (f .count₁), toZ-ofZ (f .count₂), toZ-ofZ (f .sums), toZ-ofZ (f .counts))
     (sym (ap (λ k. combine k (s .args .p) (s .args .q)) (c .before .before .before .before .before .before .before .before .if1 .taken)))
 
-is-none-requires : tie.Need-is-none-requires
-is-none-requires c κs = search needs
-
 returns-2 : tie.Need-returns-2
 returns-2 c = combine-left _ _ _ (sym (c .before .is-none .ensures) ∙ c .if2 .taken)
 
-is-none-requires-2 : tie.Need-is-none-requires-2
-is-none-requires-2 c κs = search needs
-
 returns-3 : tie.Need-returns-3
 returns-3 c = combine-right _ _ _ (sym (c .before .is-none2 .ensures) ∙ c .if3 .taken)
-
-best-requires : tie.Need-best-requires
-best-requires c κs = search needs
 
 returns-4 : tie.Need-returns-4
 returns-4 c =
@@ -60,13 +51,5 @@ returns-4 c =
 pub combine-spec : {M : Type 1} → statement M
 combine-spec =
     tie.close
-    (tie.spec
-    add-t5
-    add-t6
-    returns
-    is-none-requires
-    returns-2
-    is-none-requires-2
-    returns-3
-    best-requires
-    returns-4)
+    (tie.spec add-t5 add-t6 returns (λ c κs. search needs) returns-2 (λ c κs. search needs) returns-3
+    (λ c κs. search needs) returns-4)

@@ -27,7 +27,9 @@ sub-result c =
     rw (toZ-ofZ (c .before .fits .z), toZ-ofZ next, way c .opposite) (sfits-natAbs w64 (next-fits c))
 
 -- what the machine reads back of the opposite
-turned : (c : tie.Then1) → toZ w64 (ofZ w64 (pos 0 -ℤ toZ w64 (ofZ w64 (toZ w64 (ofZ w64 (c .before .args .z)) +ℤ pos 1)))) ≡ pos (natAbs (c .before .args .z +ℤ pos 1))
+turned : (c : tie.Then1)
+    → toZ w64 (ofZ w64 (pos 0 -ℤ toZ w64 (ofZ w64 (toZ w64 (ofZ w64 (c .before .args .z)) +ℤ pos 1)))) ≡
+    pos (natAbs (c .before .args .z +ℤ pos 1))
 turned c =
     let next : SFits w64 (c .before .args .z +ℤ pos 1) = sfits-natAbs w64 (next-fits c) in
     toZ-ofZ (sub-result c) ∙ rw (toZ-ofZ (c .before .fits .z), toZ-ofZ next) (way c .opposite)

@@ -24,9 +24,7 @@ returns c X h r =
 pub count-change-spec : {M : Type 1} → statement M
 count-change-spec =
     tie.close
-    (tie.spec
-    (λ c κs. search needs)
+    (tie.spec (λ c κs. search needs)
     (λ c. omega (arith, headed (c .before) .ready .room))
     (λ c κs. record { image = _; holds = headed (c .before .before) .holds; ready = record { pages = refl } })
-    (λ c. omega arith)
-    returns)
+    (λ c. omega arith) returns)

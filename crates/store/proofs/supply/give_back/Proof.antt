@@ -42,10 +42,7 @@ returns c X h r =
 pub give-back-spec : {M : Type 1} → statement M
 give-back-spec =
     tie.close
-    (tie.spec
-    (λ c κs. search needs)
+    (tie.spec (λ c κs. search needs)
     (λ c. omega (arith, headed (c .before) .ready .room))
     (λ c κs. record { image = _; holds = headed (c .before .before) .holds; ready = record { pages = refl } })
-    set-free-requires
-    (λ c. omega arith)
-    returns)
+    set-free-requires (λ c. omega arith) returns)

@@ -65,19 +65,13 @@ returns-2 c X h r =
 pub take-spec : {M : Type 1} → statement M
 take-spec =
     tie.close
-    (tie.spec
-    (λ c κs. search needs)
-    add-h
+    (tie.spec (λ c κs. search needs) add-h
     (λ c κs. record { image = _; holds = headed (c .before .before .before) .holds; ready = record { pages = refl } })
-    (λ c. omega arith)
-    returns
-    next-free-requires
-    (λ c. omega arith)
+    (λ c. omega arith) returns next-free-requires (λ c. omega arith)
     (λ c κs. record {
       image = _;
       holds = headed
           (c .before .before .before .before .before .before) .holds;
       ready = record { pages = refl };
     })
-    (λ c. omega arith)
-    returns-2)
+    (λ c. omega arith) returns-2)
