@@ -65,17 +65,19 @@ book-input-rows half v s e img scratch =
     ∷ (13, not (value-ok v))
     ∷ []
 
--- the status of a booking, document 01's number: that of the first row that turns it back, else 0
-unfoldable pub book-status : ℕ → Side → ℤ → ℕ → ℕ → List ℕ → List ℕ → ℕ
-book-status half side v s e img scratch =
+-- "Turned back by the state": the rows that need the whole image
+abbrev pub book-state-rows : ℕ → Side → ℕ → ℕ → List ℕ → List Row
+book-state-rows half side s e img =
     let h = head half img in
-    first
-    (book-input-rows half v s e img scratch
-    ++ ((21, not (sound half img))
+    (21, not (sound half img))
     ∷ (22, withdraws side && not (eqb (h .kind) 1))
     ∷ (23, eqb (h .changes) most-changes)
     ∷ (24, lacks-pages half s (effect-end e (h .window)) (image-of half img))
-    ∷ []))
+    ∷ []
+
+-- the status of a booking, document 01's number: that of the first row that turns it back, else 0
+unfoldable pub book-status : ℕ → Side → ℤ → ℕ → ℕ → List ℕ → List ℕ → ℕ
+book-status half side v s e img scratch = first (book-input-rows half v s e img scratch ++ book-state-rows half side s e img)
 
 -- the image that an accepted change leaves
 unfoldable pub changed : ℕ → Side → ℤ → ℕ → ℕ → List ℕ → List ℕ

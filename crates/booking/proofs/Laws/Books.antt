@@ -16,7 +16,8 @@ use Rattle.calls.specs.Refusals.{Row, first, borrowed, scratch-ok, cleared, scr
 use Rattle.calls.specs.Changes.{Side}
 use Rattle.calls.specs.Calls.{Booked, head, book-input-rows, book-status, changed, book}
 use Rattle.booking.specs.declared.StateCheck.the-variants.{Accepted, Refused}
-use Rattle.booking.specs.Rows.{book-state-rows, state-check, Accepts}
+use Rattle.calls.specs.Calls.{book-state-rows}
+use Rattle.booking.specs.Rows.{state-check, Accepts}
 
 -- ---- rows
 
