@@ -30,7 +30,7 @@ names() { # DOCUMENT
 defines() { # FILE NAME
     case $1 in
     *.antt) grep -qE "^ *((unfoldable|abbrev|pub|record|data) )*$2( *[:({]| *\$)" "$1" ;;
-    *) grep -qE "^ *(pub(\(crate\))? )?(extern \"C\" )?(fn|struct|enum) $2[^A-Za-z0-9_]" "$1" ;;
+    *) grep -qE "^ *(pub(\(crate\))? )?(extern \"C\" )?(fn|struct|enum|const) $2[^A-Za-z0-9_]" "$1" ;;
     esac
 }
 
@@ -72,7 +72,8 @@ crates() {
 }
 
 check docs/CLAIMS.md 1000
-check docs/ARCHITECTURE.md 140
+check docs/ARCHITECTURE.md 300
+check docs/GLOSSARY.md 100
 crates
 printf 'claims: %s missing\n' "$missing"
 [ "$missing" -eq 0 ]
