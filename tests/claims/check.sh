@@ -1,5 +1,5 @@
 #!/usr/bin/env bash
-# Every name that docs/CLAIMS.md and docs/ARCHITECTURE.md give behind a file (`crate/specs/File` `name`, `other`: `field`) is defined in that
+# Every name that docs/CLAIMS.md, docs/ARCHITECTURE.md and docs/GLOSSARY.md give behind a file (`crate/specs/File` `name`, `other`: `field`) is defined in that
 # file, every edit behind `crate/must-fail` is there, and every path of tests/ exists. The picture and the tables in docs/ARCHITECTURE.md
 # have each crate of crates.txt once. Prints what is missing, then how many were looked up; fails if one is missing or if there were fewer than asked for.
 set -u

@@ -1,7 +1,7 @@
--- A change that is not turned back takes a good state to a good one: each step finds the structure that the one before left, and the five
--- together restore what holds only before and after a change. A clause of soundness that a cut undoes, such as that no two neighbouring
--- leaf entries have equal totals, is a field of `Invariant`: it touches `invariant-change` here, and `sound-good`, `good-sound` and
--- `fresh-good`, where `Invariant` meets soundness; no step and nothing that a step asks of its image. Assumes nothing.
+-- A change that is not turned back keeps the invariant: each step finds the structure that the one before left, and the five together
+-- restore what holds only before and after a change. A clause of soundness that a cut undoes, such as that no two neighbouring leaf entries
+-- have equal totals, is a field of `Invariant`: it touches `invariant-change` here, and `sound-invariant`, `invariant-sound` and
+-- `fresh-invariant`, where `Invariant` meets soundness; no step and nothing that a step asks of its image. Assumes nothing.
 use Prim.Native.Nat.{ℕ, suc, _≤_, _<_}
 use mathlib.Core.Path.{_≡_, ap, subst⁻¹}
 use mathlib.Core.Bool.{false, cond}
@@ -32,7 +32,7 @@ use Rattle.refinement.proofs.Stepped.{Steady, Stepped, then, absent}
 use Rattle.invariant.specs.Invariant.{Structure, Invariant}
 use Rattle.invariant.proofs.Steps.{counted-keeps, cut-step, cut-keeps, combine-step, combine-keeps, heal-step, heal-keeps, marks-fit}
 
--- What a change leaves, beside a good state: each page held as often, and the pages and numbers that it keeps.
+-- What a change leaves, beside the invariant: each page held as often, and the pages and numbers that it keeps.
 pub record Changed (half s e : ℕ) (p : Pair) (X : Image) (Y : State) : Type 0 where
   pub same-held : (q : ℕ) → held q (change half (combine (X .head .kind)) s e p Y) ≡ held q Y
   pub frame : (q : ℕ) → ¬ List·Memᴰ q (change-names half (combine (X .head .kind)) s e p X)

@@ -48,8 +48,8 @@ pub struct Page {
     pub children: [u32; SLOTS],
 }
 
-// A page's context, document 01's 'slot' of a page: the level expected there, whether it is the root's, the span of the entry that leads to
-// it, and what the absolute sums and counts of the entries above it add to.
+// A page's context, document 01's place of a page in the tree: the level expected there, whether it is the root's, the span of the entry
+// that leads to it, and what the absolute sums and counts of the entries above it add to.
 pub struct PageContext {
     pub level: u32,
     pub is_root: bool,

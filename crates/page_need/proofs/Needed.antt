@@ -1,4 +1,4 @@
--- The theorem: of an image that shows a good tree, the pages that are counted before anything is written are those that A and B take.
+-- The theorem: of an image with the invariant, the pages that are counted before anything is written are those that A and B take.
 -- Assumes nothing.
 use Prim.Native.Nat.{ℕ, zero, suc, _+_, _-_, _≤_, _<_}
 use mathlib.Core.Path.{_≡_, refl, sym, ap, _∙_, subst}

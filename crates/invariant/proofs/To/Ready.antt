@@ -49,7 +49,7 @@ module _ (half : ℕ) (h : Head) (pages : ℕ → Cell) where
       × Paged l (Ready l (sums + natAbs (x .entry .pair .sum)) (counts + natAbs (x .entry .pair .count))) lo hi (x .entry .child)
       (x .subtree)
 
-  -- ---- every entry of a good tree is ready
+  -- ---- every entry of a tree with the structure is ready
 
   pub seg-ready : (l : ℕ) (R : Asked (Subtree l)) (W : Node (Subtree l) → Type 0)
       → ((lo hi : ℕ) (x : Node (Subtree l)) → Shaped half Leaf l lo hi x → W x → Stores l pages x
