@@ -152,8 +152,8 @@ stays l x Z R W height root shown s =
 
 module _ (half : ℕ) (_⊕_ : Pair → Pair → Pair) where
   -- the root of every level
-  abbrev Shrinks : (l : ℕ) → Type 0
-  Shrinks l =
+  abbrev Collapses : (l : ℕ) → Type 0
+  Collapses l =
       (x : Node (Subtree (suc l))) (Z : Image) (R : Supply) (W : ℕ → ℕ)
       → Z .head .height ≡ suc l
       → Z .head .root ≡ x .entry .child
@@ -165,12 +165,12 @@ module _ (half : ℕ) (_⊕_ : Pair → Pair → Pair) where
       → Collapsed Z (collapse-if-single-x _⊕_ Z) (state l (x .entry .child) (x .subtree) R)
       (collapse-if-single half _⊕_ l (x .entry .child) (x .subtree) R) W
 
-  collapses-leaf : Shrinks 0
+  collapses-leaf : Collapses 0
   unfolding collapse-if-single-x collapse-if-single
   collapses-leaf x Z R W height root shown s once root-may only =
       rw (le-ltb 1 (Z .head .height) (omega arith)) (stays 0 x Z R W height root shown s)
 
-  collapses-inner : (l : ℕ) → Shrinks (suc l)
+  collapses-inner : (l : ℕ) → Collapses (suc l)
   unfolding collapse-if-single-x collapse-if-single
   collapses-inner l x Z R W height root shown s once root-may only =
       let n : length (entries Z (Z .head .root)) ≡ length (x .subtree) =
@@ -183,6 +183,6 @@ module _ (half : ℕ) (_⊕_ : Pair → Pair → Pair) where
       goes _⊕_ l x Z R W height root shown s once one root-may (only (omega arith) one))
       (λ e. stays (suc l) x Z R W height root shown s))
 
-  pub collapses : (l : ℕ) → Shrinks l
+  pub collapses : (l : ℕ) → Collapses l
   collapses zero = collapses-leaf
   collapses (suc l) = collapses-inner l
