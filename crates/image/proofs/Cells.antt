@@ -1,6 +1,6 @@
 -- What a page's bytes are as a cell, and the cells that are kept: a tree page, a free page, a page that was never used. Assumes nothing.
 use Prim.Native.Nat.{ℕ, _≤_, _<_, _^_}
-use mathlib.Core.Path.{_≡_, ap, _∙_}
+use mathlib.Core.Path.{_≡_, refl, sym, ap, _∙_}
 use mathlib.Core.Bool.{Bool, true, false, cond}
 use mathlib.Core.List.{List}
 use native.Mathlib.Omega.{arith}
@@ -10,6 +10,7 @@ use borrow.Author.Tests.{eq-eqb, ne-eqb}
 use Rattle.fields.specs.Bytes.{Bytes, unused}
 use Rattle.fields.specs.Numbers.{num, u32-at}
 use Rattle.fields.proofs.Laws.Digits.{bytes-unused}
+use Rattle.fields.proofs.Laws.Offsets.{u32}
 use Rattle.fields.proofs.Laws.Tests.{length-unused, part-unused}
 use Rattle.page.specs.declared.Entry.{Entry}
 use Rattle.page.specs.Layout.{capacity, page-size, level-of, entries-of, next-of, free-level, tree-bytes, free-bytes, never-used-ok}
@@ -48,6 +49,23 @@ module _ (half : ℕ) (s : List ℕ) where
   unfolding cell-of choice
   tree-cell e = chosen-tree (eqb (level-of s) free-level) (eqb (level-of s) never-used-level) e
 
+  -- and so is that of other bytes that say the same level
+  chosen-again : (t : List ℕ) (f n : Bool) {l : ℕ} {es : List Entry} → choice f n ≡ tree l es
+      → cond f (free (next-of t)) (cond n never-used (tree (level-of t) (entries-of half t))) ≡ tree (level-of t) (entries-of half t)
+  unfolding choice
+  chosen-again t true n e = absurd (let z : _≡_ {A = ℕ} 0 1 = cc in omega arith)
+  chosen-again t false true e = absurd (let z : _≡_ {A = ℕ} 0 1 = cc in omega arith)
+  chosen-again t false false e = refl
+
+  pub tree-cell-again : (t : List ℕ) {l : ℕ} {es : List Entry} → level-of t ≡ level-of s → cell-of half s ≡ tree l es
+      → cell-of half t ≡ tree (level-of t) (entries-of half t)
+  unfolding cell-of choice
+  tree-cell-again t same e =
+      ap (λ m.
+      cond (eqb m free-level) (free (next-of t))
+      (cond (eqb m never-used-level) never-used (tree (level-of t) (entries-of half t)))) same
+      ∙ chosen-again t (eqb (level-of s) free-level) (eqb (level-of s) never-used-level) e
+
   chosen-free : (f n : Bool) {next : ℕ} → choice f n ≡ free next → next-of s ≡ next
   unfolding choice
   chosen-free true n e = cc
@@ -82,6 +100,22 @@ canonical-tree half level es within narrow low fits =
     record {
       sized = length-tree half level es within;
       again = cell-tree half s (omega arith) ∙ (λ j. tree (v j) (entries-of-tree half level es within narrow fits j));
+    }
+
+-- a tree page that is kept is kept with other entries
+pub canonical-edited : (half level : ℕ) (es fs : List Entry) → Canonical half (tree level es) → length fs ≤ capacity half
+    → length fs < 2 ^ 32 → Entries-fit fs → Canonical half (tree level fs)
+unfolding cell-bytes level-of
+canonical-edited half level es fs kept within narrow fits =
+    let s : List ℕ = tree-bytes half level es in
+    let t : List ℕ = tree-bytes half level fs in
+    let u : level-of s ≡ level = tree-cell half s (kept .again) .0 in
+    let w : level-of s < 2 ^ 32 = u32 .at-fits s 0 (bytes-tree half level es) in
+    let v : level-of t ≡ level = level-of-tree half level fs within (omega arith) in
+    record {
+      sized = length-tree half level fs within;
+      again = tree-cell-again half s t (v ∙ sym u) (kept .again)
+          ∙ (λ j. tree (v j) (entries-of-tree half level fs within narrow fits j));
     }
 
 pub canonical-free : (half next : ℕ) → next < 2 ^ 32 → Canonical half (free next)

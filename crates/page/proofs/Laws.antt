@@ -7,9 +7,11 @@ pub mod Concat
 pub mod Puts
 pub mod Entries
 pub mod Indices
+pub mod Shifts
 pub mod Trees
 pub mod Frees
 pub mod Heads
 pub mod Filled
 pub mod Decoded
+pub mod Fits
 pub mod Lent

@@ -71,6 +71,10 @@ entry-bytes e = i64-bytes (e .pair .sum) ++ (i32-bytes (e .pair .count) ++ u32-b
 unfoldable pub with-entry : ℕ → ℕ → Entry → List ℕ → List ℕ
 with-entry half i e s = patch (patch s (start-offset i) (u32-bytes (e .start))) (entry-offset half i) (entry-bytes e)
 
+-- and with the i-th slot unused: "Places past the number are FF."
+unfoldable pub without-entry : ℕ → ℕ → List ℕ → List ℕ
+without-entry half i s = patch (patch s (start-offset i) (unused 4)) (entry-offset half i) (unused 16)
+
 unfoldable pub tree-bytes : ℕ → ℕ → List Entry → List ℕ
 tree-bytes half level es =
     let past = capacity half - length es in

@@ -3,3 +3,4 @@ pub mod Layout
 pub mod Decoded
 pub mod Widths
 pub mod Fit
+pub mod Slots

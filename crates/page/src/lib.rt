@@ -15,6 +15,7 @@ pub mod heads;
 pub mod layout;
 pub mod pages;
 pub mod read;
+pub mod slots;
 pub mod write;
 
 // An entry of a tree page: from start up to the next entry's start its pair counts; a leaf's child is 0.

@@ -18,7 +18,7 @@ ghost use Rattle.page.specs.Layout.{with-entry, tree-bytes};
 ghost use Rattle.page.specs.Decoded.{entry-list};
 
 // Writes the i-th entry of a tree page.
-fn write_entry(s: &mut [u8], i: usize, start: u32, sum: i64, count: i32, child: u32)
+pub(crate) fn write_entry(s: &mut [u8], i: usize, start: u32, sum: i64, count: i32, child: u32)
     requires { ⌜ (length (now s) ≡ 512) × (i < 24) ⌝ }
     ensures { λ _. ⌜ now (s .exit) ≡ with-entry 12 i (entry start (record { sum = sum; count = count }) child) (now (s .entry)) ⌝ }
 {

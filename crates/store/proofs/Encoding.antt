@@ -28,7 +28,7 @@ use Rattle.store.specs.Preconditions.{In-image, Tree-page}
 
 -- ---- what the bytes are
 
-tree-written : {c : Cell} {l : ℕ} {es : List Entry} → c ≡ tree l es → cell-bytes 12 c ≡ tree-bytes 12 l es
+pub tree-written : {c : Cell} {l : ℕ} {es : List Entry} → c ≡ tree l es → cell-bytes 12 c ≡ tree-bytes 12 l es
 unfolding cell-bytes
 tree-written e = ap (cell-bytes 12) e
 

@@ -1,9 +1,10 @@
--- A decoded page's numbers have their widths: that is what the struct's type says of its arrays. Assumes nothing.
+-- An entry's numbers and those of a decoded page have their widths: that is what a struct's type says of its fields. Assumes nothing.
 use Prim.Native.Nat.{ℕ, zero, suc, _<_, _^_}
 use mathlib.Core.List.{List, [], _∷_, map}
 use lib.IntN.{pos}
 use lib.ListN.{getD}
 use lib.Dec.{lit<}
+use borrow.Author.Needs.{needs}
 use mir.Syntax.{w32, w64}
 use mir.Val.{Val, SFits}
 use base.Fml.{Fml}
@@ -11,10 +12,12 @@ use denote.Shadow.{shadow}
 use denote.Laws.{Is}
 use denote.Array.{each}
 use denote.Struct.Declared.{row}
+use Rattle.page.specs.declared.Entry.{Entry}
 use Rattle.page.specs.declared.Page.{Page}
 use Rattle.page.specs.Entries.{no-entry}
 use Rattle.page.specs.Decoded.{slot-at, entry-list}
 use Rattle.page.specs.Widths.{Entry-fits, Entries-fit}
+use Rattle.page.proofs.Entry as Entry-type
 use Rattle.page.proofs.Page.{the-type}
 use Rattle.page.proofs.Laws.Entries.{no-entry-fits}
 use Rattle.lists.proofs.Listed.{listed-each}
@@ -47,3 +50,6 @@ module _ (p : Page) (vs : List Val) (g : Is (row the-type) p vs) where
   pub shown-fits : Entries-fit (entry-list p)
   unfolding entry-list
   shown-fits = listed-each Entry-fits (p .len) (λ i. slot-at p i) no-entry no-entry-fits slot-fits
+
+pub entry-fits : (e : Entry) (vs : List Val) → Is (row Entry-type.the-type) e vs → Entry-fits e
+entry-fits e vs g = record { start = search needs; sum = search needs; count = search needs; child = search needs }

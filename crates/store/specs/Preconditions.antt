@@ -29,6 +29,12 @@ pub record Has-entry (level p i : ℕ) (X : Image) : Type 0 where
   pub tree-page : Tree-page level p X
   pub inside : i < length (entries X p)
 
+-- and it has room for one more, as its i-th
+pub record Has-room (level p i : ℕ) (X : Image) : Type 0 where
+  pub tree-page : Tree-page level p X
+  pub inside : i ≤ length (entries X p)
+  pub room : length (entries X p) < 24
+
 -- and it has an entry that has t: one starts at t or before, and the starts rise
 pub record Searchable (level p t : ℕ) (X : Image) : Type 0 where
   pub tree-page : Tree-page level p X

@@ -8,7 +8,7 @@ use native.Mathlib.Numerals.{add-one}
 use native.Mathlib.Omega.{arith}
 use lib.ListN.{length, getD, length-append}
 use lib.Dec.{lit<}
-use Rattle.lists.specs.Lists.{listed, concat-map}
+use Rattle.lists.specs.Lists.{listed, concat-map, splice}
 use Rattle.lists.proofs.Listed.{length-listed}
 use Rattle.lists.proofs.Concat.{concat-map-append, concat-map-one, concat-map-more}
 use Rattle.fields.specs.Bytes.{Bytes, part, patch, unused}
@@ -97,27 +97,53 @@ module _ {A : Type 0} (f : A → List ℕ) (k : ℕ) (each : (x : A) → length 
         ∙ sym (part-add s o (k * n) (k * (room - n)))
         ∙ ap (part s o) (sym (mul-add k n (room - n)) ∙ ap (λ m. k * m) (add-sub-of-le h))
 
-    -- the next element is written
-    pub patch-run : (xs : List A) (x : A) → length xs < room → patch (run f k room xs) (k * length xs) (f x) ≡ run f k room (xs ++ (x ∷ []))
-    unfolding run
-    patch-run xs x h =
-        let m : ℕ = k * (room - suc (length xs)) in
-        let n : length (xs ++ (x ∷ [])) ≡ suc (length xs) = length-append xs (x ∷ []) ∙ add-one (length xs) in
-        let r : room - length xs ≡ suc (room - suc (length xs)) = omega arith in
-        let e : k * (room - length xs) ≡ k + m = ap (λ i. k * i) r ∙ mul-suc k (room - suc (length xs)) ∙ add-comm m k in
-        (λ j.
-        patch (concat-map f xs ++ (ap unused e ∙ unused-add k m) j)
-        ((sym (length-joined xs) ∙ sym (add-zero (length (concat-map f xs)))) j) (f x))
-        ∙ patch-append-right (concat-map f xs) (unused k ++ unused m) 0 (f x)
-        ∙ ap (λ l. concat-map f xs ++ l)
-        (patch-append-left (unused k) (unused m) 0 (f x) (fits x)
-        ∙ ap (λ l. l ++ unused m) (patch-whole (unused k) (f x) (each x ∙ sym (length-unused k))))
-        ∙ sym (append-assoc (concat-map f xs) (f x) (unused m))
-        ∙ (λ j. (ap (λ l. concat-map f xs ++ l) (sym (concat-map-one f x)) ∙ sym (concat-map-append f xs (x ∷ []))) j
-        ++ unused (k * (room - sym n j)))
-      where
-        fits : (x : A) → 0 + length (f x) ≤ length (unused k)
-        fits x =
-            let e : length (f x) ≡ k = each x in
-            let g : length (unused k) ≡ k = length-unused k in
-            omega arith
+  -- ---- a run's first slot, and the slots behind it
+
+  run-first : (room : ℕ) (x : A) (xs : List A) → run f k (suc room) (x ∷ xs) ≡ f x ++ run f k room xs
+  unfolding run concat-map
+  run-first room x xs =
+      let e : suc room - suc (length xs) ≡ room - length xs = omega arith in
+      ap (λ n. f x ++ concat-map f xs ++ unused (k * n)) e ∙ append-assoc (f x) (concat-map f xs) (unused (k * (room - length xs)))
+
+  run-unused : (room : ℕ) → run f k (suc room) [] ≡ unused k ++ run f k room []
+  run-unused room =
+      run-none (suc room) ∙ ap unused (mul-suc k room ∙ add-comm (k * room) k) ∙ unused-add k (k * room)
+      ∙ ap (λ l. unused k ++ l) (sym (run-none room))
+
+  patch-first : (s a t bs : List ℕ) → s ≡ a ++ t → length a ≡ k → length bs ≡ k → patch s (k * 0) bs ≡ bs ++ t
+  patch-first s a t bs e g h =
+      (λ j. patch (e j) (mul-zero k j) bs) ∙ patch-append-left a t 0 bs (omega arith) ∙ ap (λ l. l ++ t) (patch-whole a bs (h ∙ sym g))
+
+  patch-behind : (s a t bs : List ℕ) (i : ℕ) → s ≡ a ++ t → length a ≡ k → patch s (k * suc i) bs ≡ a ++ patch t (k * i) bs
+  patch-behind s a t bs i e g =
+      (λ j. patch (e j) ((mul-suc k i ∙ add-comm (k * i) k ∙ ap (λ n. n + k * i) (sym g)) j) bs) ∙ patch-append-right a t (k * i) bs
+
+  -- an element is written at a slot of another, or at the first unused one
+  pub patch-slot : (room : ℕ) (xs : List A) (x : A) (i : ℕ) → i ≤ length xs → i < room
+      → patch (run f k room xs) (k * i) (f x) ≡ run f k room (splice i (x ∷ []) xs)
+  unfolding splice
+  patch-slot zero xs x i h l = absurd (omega arith)
+  patch-slot (suc room) [] x zero h l =
+      patch-first (run f k (suc room) []) (unused k) (run f k room []) (f x) (run-unused room) (length-unused k) (each x)
+      ∙ sym (run-first room x [])
+  patch-slot (suc room) [] x (suc i) h l = absurd (omega arith)
+  patch-slot (suc room) (y ∷ ys) x zero h l =
+      patch-first (run f k (suc room) (y ∷ ys)) (f y) (run f k room ys) (f x) (run-first room y ys) (each y) (each x)
+      ∙ sym (run-first room x ys)
+  patch-slot (suc room) (y ∷ ys) x (suc i) h l =
+      patch-behind (run f k (suc room) (y ∷ ys)) (f y) (run f k room ys) (f x) i (run-first room y ys) (each y)
+      ∙ ap (λ t. f y ++ t) (patch-slot room ys x i (omega arith) (omega arith))
+      ∙ sym (run-first room y (splice i (x ∷ []) ys))
+
+  -- the last element's slot is unused again
+  pub patch-last : (room : ℕ) (xs : List A) (x : A) → length xs < room
+      → patch (run f k room (xs ++ (x ∷ []))) (k * length xs) (unused k) ≡ run f k room xs
+  patch-last zero xs x l = absurd (omega arith)
+  patch-last (suc room) [] x l =
+      patch-first (run f k (suc room) (x ∷ [])) (f x) (run f k room []) (unused k) (run-first room x []) (each x) (length-unused k)
+      ∙ sym (run-unused room)
+  patch-last (suc room) (y ∷ ys) x l =
+      patch-behind (run f k (suc room) (y ∷ (ys ++ (x ∷ [])))) (f y) (run f k room (ys ++ (x ∷ []))) (unused k) (length ys)
+      (run-first room y (ys ++ (x ∷ []))) (each y)
+      ∙ ap (λ t. f y ++ t) (patch-last room ys x (omega arith))
+      ∙ sym (run-first room y ys)

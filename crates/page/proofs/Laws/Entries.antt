@@ -67,6 +67,18 @@ module _ (half : ℕ) (s : List ℕ) (i : ℕ) where
         child = u32 .at-bytes s (o + 12) (e .child) child (w .child) j;
       }
 
+  -- an entry that is read has its widths
+  pub entry-at-fits : Bytes s → Entry-fits (entry-at half s i)
+  unfolding entry-at start-at pair-at child-at
+  entry-at-fits b =
+      let o : ℕ = entry-offset half i in
+      record {
+        start = u32 .at-fits s (start-offset i) b;
+        sum = i64 .at-fits s o b;
+        count = i32 .at-fits s (o + 8) b;
+        child = u32 .at-fits s (o + 12) b;
+      }
+
   -- the bytes of the entry that is read are those that stand there
   pub start-bytes-at : Bytes s → start-offset i + 4 ≤ length s → start-bytes (entry-at half s i) ≡ part s (start-offset i) 4
   unfolding entry-at start-at

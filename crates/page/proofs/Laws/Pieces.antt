@@ -2,10 +2,12 @@
 use mathlib.Core.Path.{_≡_, sym, ap, _∙_}
 use mathlib.Core.List.{List, [], _++_, append-assoc, append-nil}
 use Prim.Native.Nat.{ℕ, _+_, _≤_}
+use native.Mathlib.Nat.{add-zero}
+use native.Mathlib.Omega.{arith}
 use lib.ListN.{length, length-append}
 use Rattle.fields.specs.Bytes.{part, patch}
 use Rattle.fields.proofs.Laws.Parts.{part-add, part-part, part-middle, part-append-left, part-append-right, patch-append-left}
-use Rattle.fields.proofs.Laws.Parts.{patch-append-right}
+use Rattle.fields.proofs.Laws.Parts.{patch-append-right, patch-whole}
 
 -- two parts, one after the other
 pub part-pieces : (s : List ℕ) (o n p m : ℕ) {xs ys : List ℕ} → o + n ≡ p → xs ≡ part s o n → ys ≡ part s p m → xs ++ ys ≡ part s o (n + m)
@@ -19,6 +21,13 @@ part-last xs ys o n e f = ap (λ l. part (xs ++ l) o n) (sym (append-nil ys)) �
 pub part-inside : (s : List ℕ) (o k : ℕ) (xs ys zs : List ℕ) (m n : ℕ) → part s o k ≡ xs ++ (ys ++ zs) → length xs ≡ m
     → length ys ≡ n → m + n ≤ k → part s (o + m) n ≡ ys
 part-inside s o k xs ys zs m n q e f h = sym (part-part s o k m n h) ∙ ap (λ l. part l m n) q ∙ part-middle xs ys zs m n e f
+
+-- another piece in the middle
+pub patch-middle : (xs ys zs : List ℕ) (o : ℕ) (bs : List ℕ) → length xs ≡ o → length bs ≡ length ys
+    → patch (xs ++ (ys ++ zs)) o bs ≡ xs ++ (bs ++ zs)
+patch-middle xs ys zs o bs e f =
+    ap (λ k. patch (xs ++ (ys ++ zs)) k bs) (sym e ∙ sym (add-zero (length xs))) ∙ patch-append-right xs (ys ++ zs) 0 bs
+    ∙ ap (λ l. xs ++ l) (patch-append-left ys zs 0 bs (omega arith) ∙ ap (λ l. l ++ zs) (patch-whole ys bs f))
 
 module _ (a b c : List ℕ) (o p : ℕ) where
   pub part-second : (m : ℕ) → length a ≡ o → p + m ≤ length b → part (a ++ (b ++ c)) (o + p) m ≡ part b p m

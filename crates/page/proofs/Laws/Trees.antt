@@ -6,24 +6,26 @@ use mathlib.Core.List.{List, [], _∷_, _++_, append-assoc}
 use Prim.Native.Nat.{ℕ, _+_, _-_, _*_, _^_, _≤_, _<_, min}
 use native.Mathlib.Nat.{min-eq-left}
 use native.Mathlib.Omega.{arith}
-use lib.ListN.{length, length-append}
+use lib.ListN.{length, length-append, length-take, length-drop}
 use Rattle.fields.specs.Bytes.{Bytes, part, patch, unused, all-are}
 use Rattle.fields.specs.Numbers.{u32-bytes}
-use Rattle.fields.proofs.Laws.Parts.{length-part, part-whole, part-middle, part-append-left}
+use Rattle.fields.proofs.Laws.Parts.{length-part, part-whole, part-middle, part-append-left, patch-append-left}
 use Rattle.fields.proofs.Laws.Digits.{bytes-append, bytes-unused}
 use Rattle.fields.proofs.Laws.Offsets.{u32}
 use Rattle.fields.proofs.Laws.Tests.{length-unused, unused-add, all-are-unused, unused-all-are}
 use Rattle.page.specs.declared.Entry.{Entry}
 use Rattle.page.specs.Entries.{at, no-entry}
 use Rattle.page.specs.Layout.{capacity, start-offset, entry-offset, page-size, level-of, entry-count, entry-at, entries-of, unused-ok}
-use Rattle.page.specs.Layout.{entry-bytes, with-entry, tree-bytes}
-use Rattle.lists.specs.Lists.{listed}
+use Rattle.page.specs.Layout.{entry-bytes, with-entry, without-entry, tree-bytes}
+use Rattle.lists.specs.Lists.{listed, splice}
+use Rattle.lists.proofs.Edits.{length-splice-one}
 use Rattle.page.specs.Widths.{Entry-fits, Entries-fit}
-use Rattle.lists.proofs.Listed.{length-listed, getD-listed, listed-more, listed-same, listed-getD}
-use Rattle.page.proofs.Laws.Concat.{run, run-none, bytes-run, length-run, part-run, part-run-past, run-parts, patch-run}
-use Rattle.page.proofs.Laws.Pieces.{part-pieces, part-second, part-third, patch-second, patch-third}
+use Rattle.lists.proofs.Listed.{length-listed, getD-listed, listed-more, listed-same, listed-each, listed-getD}
+use Rattle.page.proofs.Laws.Concat.{run, run-none, bytes-run, length-run, part-run, part-run-past, run-parts, patch-slot, patch-last}
+use Rattle.page.proofs.Laws.Pieces.{part-pieces, part-second, part-third, patch-middle, patch-second, patch-third}
+use Rattle.page.proofs.Laws.Shifts.{splice-end}
 use Rattle.page.proofs.Laws.Entries.{start-bytes, length-start-bytes, bytes-start-bytes, length-entry-bytes, bytes-entry-bytes}
-use Rattle.page.proofs.Laws.Entries.{entry-at-bytes, start-bytes-at, entry-bytes-at}
+use Rattle.page.proofs.Laws.Entries.{entry-at-bytes, entry-at-fits, no-entry-fits, start-bytes-at, entry-bytes-at}
 
 -- ---- the three pieces
 
@@ -142,30 +144,74 @@ module _ (half level number : ℕ) (es : List Entry) where
         part-entries (16 * length es) (16 * (capacity half - length es))
         ∙ part-run-past entry-bytes 16 length-entry-bytes (capacity half) es
 
-  -- the next entry is written
-  pub page-more : (e : Entry) → length es < capacity half
-      → with-entry half (length es) e (page-bytes half level number es) ≡ page-bytes half level number (es ++ (e ∷ []))
-  unfolding page-bytes starts entries with-entry
-  page-more e h =
-      let a : List ℕ = top level number in
-      let n : ℕ = length es in
-      let la : length a ≡ 32 = length-top level number in
-      let lb : length (starts half es) ≡ 4 * capacity half = length-starts (omega arith) in
-      let ls : length (start-bytes e) ≡ 4 = length-start-bytes e in
-      let f : patch (starts half es) (4 * n) (start-bytes e) ≡ starts half (es ++ (e ∷ [])) =
-      patch-run start-bytes 4 length-start-bytes (capacity half) es e h in
-      let lf : length (starts half (es ++ (e ∷ []))) ≡ 4 * capacity half =
-      length-run start-bytes 4 length-start-bytes (capacity half) (es ++ (e ∷ [])) (one-more e h) in
-      ap (λ l. patch l (entry-offset half n) (entry-bytes e))
-      (patch-second a (starts half es) (entries half es) 32 (4 * n) (start-bytes e) la (omega arith)
-      ∙ ap (λ l. a ++ (l ++ entries half es)) f)
-      ∙ patch-third a (starts half (es ++ (e ∷ []))) (entries half es) (32 + 4 * capacity half) (16 * n) (entry-bytes e) (λ j. la j + lf j)
-      ∙ ap (λ l. a ++ (starts half (es ++ (e ∷ [])) ++ l)) (patch-run entry-bytes 16 length-entry-bytes (capacity half) es e h)
-    where
-      one-more : (e : Entry) → length es < capacity half → length (es ++ (e ∷ [])) ≤ capacity half
-      one-more e h = simp length-append (omega arith)
+-- ---- slots that are written
 
--- a page whose entries are listed: a loop's step writes one more of them, and with all of them it is the tree page
+module _ (half level number : ℕ) (es : List Entry) where
+  -- the page says another number
+  pub page-numbered : (m : ℕ) → patch (page-bytes half level number es) 4 (u32-bytes m) ≡ page-bytes half level m es
+  unfolding page-bytes
+  page-numbered m =
+      let n : length (u32-bytes m) ≡ 4 = u32 .length-bytes m in
+      let e : length (top level number) ≡ 32 = length-top level number in
+      patch-append-left (top level number) (starts half es ++ entries half es) 4 (u32-bytes m) (omega arith)
+      ∙ ap (λ l. l ++ (starts half es ++ entries half es))
+      (patch-middle (u32-bytes level) (u32-bytes number) (unused 24) 4 (u32-bytes m) (u32 .length-bytes level)
+      (n ∙ sym (u32 .length-bytes number)))
+
+-- an entry's slot of either array is written
+module _ (half level number : ℕ) (es fs : List Entry) where
+  page-slot : (i : ℕ) (bs cs : List ℕ) → length es ≤ capacity half → length fs ≤ capacity half → i < capacity half
+      → length bs ≡ 4 → patch (starts half es) (4 * i) bs ≡ starts half fs → patch (entries half es) (16 * i) cs ≡ entries half fs
+      → patch (patch (page-bytes half level number es) (start-offset i) bs) (entry-offset half i) cs ≡ page-bytes half level number fs
+  unfolding page-bytes
+  page-slot i bs cs h l within lb f g =
+      let a : List ℕ = top level number in
+      let la : length a ≡ 32 = length-top level number in
+      let ls : length (starts half es) ≡ 4 * capacity half = length-starts half level number es h in
+      let lf : length (starts half fs) ≡ 4 * capacity half = length-starts half level number fs l in
+      ap (λ s. patch s (entry-offset half i) cs)
+      (patch-second a (starts half es) (entries half es) 32 (4 * i) bs la (omega arith) ∙ ap (λ s. a ++ (s ++ entries half es)) f)
+      ∙ patch-third a (starts half fs) (entries half es) (32 + 4 * capacity half) (16 * i) cs (λ j. la j + lf j)
+      ∙ ap (λ s. a ++ (starts half fs ++ s)) g
+
+module _ (half level number : ℕ) (es : List Entry) where
+  -- an entry is written at a slot of another, or at the first unused one
+  pub page-set : (e : Entry) (i : ℕ) → i ≤ length es → i < capacity half → length es ≤ capacity half
+      → with-entry half i e (page-bytes half level number es) ≡ page-bytes half level number (splice i (e ∷ []) es)
+  unfolding with-entry starts entries splice
+  page-set e i h within l =
+      page-slot half level number es (splice i (e ∷ []) es) i (start-bytes e) (entry-bytes e) l
+      (simp (length-append, length-take, length-drop) (omega arith)) within (length-start-bytes e)
+      (patch-slot start-bytes 4 length-start-bytes (capacity half) es e i h within)
+      (patch-slot entry-bytes 16 length-entry-bytes (capacity half) es e i h within)
+
+  -- and one that was read at another slot
+  pub page-copied : (i j : ℕ) → i < length es → j ≤ length es → j < capacity half → length es ≤ capacity half
+      → with-entry half j (entry-at half (page-bytes half level number es) i) (page-bytes half level number es) ≡
+      page-bytes half level number (splice j (at es i ∷ []) es)
+  unfolding with-entry starts entries
+  page-copied i j h g within l =
+      let s : List ℕ = page-bytes half level number es in
+      let n : length s ≡ page-size half = length-page half level number es l in
+      let a : start-bytes (entry-at half s i) ≡ start-bytes (at es i) =
+      start-bytes-at half s i (bytes-page half level number es) (omega arith) ∙ part-starts half level number es l (4 * i) 4 (omega arith)
+      ∙ part-run start-bytes 4 length-start-bytes (capacity half) es no-entry i h in
+      let b : entry-bytes (entry-at half s i) ≡ entry-bytes (at es i) =
+      entry-bytes-at half s i (bytes-page half level number es) (omega arith) ∙ part-entries half level number es l (16 * i) 16
+      ∙ part-run entry-bytes 16 length-entry-bytes (capacity half) es no-entry i h in
+      (λ k. patch (patch s (start-offset j) (a k)) (entry-offset half j) (b k))
+      ∙ page-set (at es i) j g within l
+
+  -- the slot behind its entries is unused again
+  pub page-dropped : (e : Entry) → length es < capacity half
+      → without-entry half (length es) (page-bytes half level number (es ++ (e ∷ []))) ≡ page-bytes half level number es
+  unfolding without-entry starts entries
+  page-dropped e h =
+      page-slot half level number (es ++ (e ∷ [])) es (length es) (unused 4) (unused 16) (simp length-append (omega arith)) (omega arith) h
+      (length-unused 4) (patch-last start-bytes 4 length-start-bytes (capacity half) es e h)
+      (patch-last entry-bytes 16 length-entry-bytes (capacity half) es e h)
+
+-- a page whose entries are listed: a loop's step writes one more of them
 pub page-listed-more : (half level number i : ℕ) (f : ℕ → Entry) {s t : List ℕ} {e : Entry} → i < capacity half
     → t ≡ with-entry half i e s → e ≡ f i
     → s ≡ page-bytes half level number (listed i f) → t ≡ page-bytes half level number (listed (i + 1) f)
@@ -173,13 +219,12 @@ page-listed-more half level number i f h step same before =
     let n : length (listed i f) ≡ i = length-listed i f in
     step
     ∙ (λ j. with-entry half (sym n j) (same j) (before j))
-    ∙ page-more half level number (listed i f) (f i) (omega arith)
-    ∙ ap (page-bytes half level number) (sym (listed-more i f))
+    ∙ page-set half level number (listed i f) (f i) (length (listed i f)) (omega arith) (omega arith) (omega arith)
+    ∙ ap (page-bytes half level number) (splice-end (listed i f) (f i) ∙ sym (listed-more i f))
 
-pub page-listed : (half level number : ℕ) (f : ℕ → Entry)
-    → page-bytes half level number (listed number f) ≡ tree-bytes half level (listed number f)
-page-listed half level number f =
-    ap (λ k. page-bytes half level k (listed number f)) (sym (length-listed number f)) ∙ sym (tree-page half level (listed number f))
+-- a page that says how many entries it has is the tree page
+pub page-whole : (half level number : ℕ) (es : List Entry) → length es ≡ number → page-bytes half level number es ≡ tree-bytes half level es
+page-whole half level number es e = ap (λ k. page-bytes half level k es) (sym e) ∙ sym (tree-page half level es)
 
 -- ---- tree pages
 
@@ -234,11 +279,35 @@ module _ (half level : ℕ) (es : List Entry) where
           && (all-are 255 (page-starts-past half level n es within j) && all-are 255 (page-entries-past half level n es within j)))
           ∙ (λ j. all-are-unused 24 j && (all-are-unused (4 * past) j && all-are-unused (16 * past) j))
 
+module _ (half level : ℕ) (es : List Entry) {s : List ℕ} where
+  -- what bytes of a tree page say
+  pub tree-count : length es ≤ capacity half → length es < 2 ^ 32 → s ≡ tree-bytes half level es → entry-count s ≡ length es
+  tree-count within w e = ap entry-count e ∙ number-of-tree half level es within w
+
+  -- and the page once they say another number
+  pub tree-numbered : {t : List ℕ} (m : ℕ) → s ≡ tree-bytes half level es → t ≡ patch s 4 (u32-bytes m) → t ≡ page-bytes half level m es
+  tree-numbered m e f =
+      f ∙ ap (λ l. patch l 4 (u32-bytes m)) (e ∙ tree-page half level es) ∙ page-numbered half level (length es) es m
+
+  -- an entry is another
+  pub tree-set : (e : Entry) (i : ℕ) → i < length es → length es ≤ capacity half → s ≡ tree-bytes half level es
+      → with-entry half i e s ≡ tree-bytes half level (splice i (e ∷ []) es)
+  tree-set e i h within same =
+      ap (with-entry half i e) (same ∙ tree-page half level es)
+      ∙ page-set half level (length es) es e i (omega arith) (omega arith) within
+      ∙ page-whole half level (length es) (splice i (e ∷ []) es) (length-splice-one i e es h)
+
 -- ---- a page's bytes
 
 pub length-entries-of : (half : ℕ) (s : List ℕ) → length (entries-of half s) ≡ min (entry-count s) (capacity half)
 unfolding entries-of
 length-entries-of half s = length-listed (min (entry-count s) (capacity half)) (λ i. entry-at half s i)
+
+pub entries-of-fit : (half : ℕ) (s : List ℕ) → Bytes s → Entries-fit (entries-of half s)
+unfolding entries-of
+entries-of-fit half s b =
+    listed-each Entry-fits (min (entry-count s) (capacity half)) (λ i. entry-at half s i) no-entry no-entry-fits
+    (λ i. entry-at-fits half s i b)
 
 pub at-entries-of : (half : ℕ) (s : List ℕ) (i : ℕ) → i < entry-count s → i < capacity half → at (entries-of half s) i ≡ entry-at half s i
 unfolding entries-of

@@ -15,7 +15,8 @@ use Rattle.lists.specs.Lists.{listed}
 use Rattle.page.specs.Layout.{with-entry}
 use Rattle.page.specs.Decoded.{slot-at, entry-list}
 use Rattle.page.proofs.Laws.Signed.{result-is}
-use Rattle.page.proofs.Laws.Trees.{page-bytes, page-none, page-listed-more, page-listed}
+use Rattle.page.proofs.Laws.Decoded.{length-shown}
+use Rattle.page.proofs.Laws.Trees.{page-bytes, page-none, page-listed-more, page-whole}
 use Rattle.page.proofs.write.write_page.Statement.{statement}
 use Rattle.page.proofs.write.write_page.Tie as tie
 
@@ -82,7 +83,7 @@ returns c =
     let e : at .loop .i ≡ p .len = omega arith in
     at .loop .inv .bytes
     ∙ ap (λ k. page-bytes 12 (p .level) (p .len) (listed k (λ j. slot-at p j))) e
-    ∙ page-listed 12 (p .level) (p .len) (λ j. slot-at p j)
+    ∙ page-whole 12 (p .level) (p .len) (entry-list p) (length-shown p)
 
 pub write-page-spec : {M : Type 1} → statement M
 write-page-spec =
