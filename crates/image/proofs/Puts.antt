@@ -1,5 +1,5 @@
--- The bytes of an image in which one page or the head changed: those of the image before with the page's bytes, or the head's, in their
--- place. Assumes nothing.
+-- The bytes of an image in which one page or the head changed: those of the image before with the page's bytes, or the head's numbers,
+-- in their place. Assumes nothing.
 use Prim.Native.Nat.{ℕ, zero, suc, _+_, _*_, _-_, _≤_, _<_}
 use mathlib.Core.Path.{_≡_, sym, ap, _∙_}
 use mathlib.Core.List.{List, _++_}
@@ -7,10 +7,12 @@ use native.Mathlib.Nat.{mul-suc, add-comm}
 use native.Mathlib.Omega.{arith}
 use lib.ListN.{length}
 use Rattle.fields.specs.Bytes.{patch}
-use Rattle.fields.proofs.Laws.Parts.{patch-append-left, patch-append-right, patch-whole}
+use Rattle.fields.specs.Numbers.{u32-bytes}
+use Rattle.lists.specs.Lists.{concat-map}
+use Rattle.fields.proofs.Laws.Parts.{patch-append-right}
 use Rattle.page.specs.declared.Head.{Head}
-use Rattle.page.specs.Layout.{page-size, head-bytes}
-use Rattle.page.proofs.Laws.Heads.{length-head}
+use Rattle.page.specs.Layout.{page-size, head-numbers, head-bytes}
+use Rattle.page.proofs.Laws.Heads.{length-head, head-numbered}
 use Rattle.image.specs.Images.{Image, cell-bytes, image-bytes, Canonical}
 use Rattle.image.proofs.Rows.{rows, patch-rows}
 
@@ -37,13 +39,10 @@ module _ (half : ℕ) (some : 1 ≤ half) where
       (λ i d. ap (cell-bytes half) (same (suc i) (λ z. d (omega arith)))) (omega arith))
       ∙ (λ j. head-bytes half (h j) ++ rows g (h j .pages - 1))
 
-  -- the head is written, and n stays
-  pub put-head : (X : Image) (h : Head) → h .pages ≡ X .head .pages
-      → patch (image-bytes half X) 0 (head-bytes half h) ≡ image-bytes half (record { head = h; page = X .page })
-  unfolding image-bytes
-  put-head X h e =
-      let top : List ℕ = head-bytes half (X .head) in
-      let f : ℕ → List ℕ = λ q. cell-bytes half (X .page (suc q)) in
-      let same : length (head-bytes half h) ≡ length top = length-head half h some ∙ sym (length-head half (X .head) some) in
-      patch-append-left top (rows f (X .head .pages - 1)) 0 (head-bytes half h) (omega arith)
-      ∙ (λ j. patch-whole top (head-bytes half h) same j ++ rows f (sym e j - 1))
+-- the head's numbers are written, and n stays
+pub put-head : (half : ℕ) (X : Image) (h : Head) → h .pages ≡ X .head .pages
+    → patch (image-bytes half X) 0 (concat-map u32-bytes (head-numbers h)) ≡ image-bytes half (record { head = h; page = X .page })
+unfolding image-bytes
+put-head half X h e =
+    let f : ℕ → List ℕ = λ q. cell-bytes half (X .page (suc q)) in
+    head-numbered half h (X .head) (rows f (X .head .pages - 1)) ∙ (λ j. head-bytes half h ++ rows f (sym e j - 1))

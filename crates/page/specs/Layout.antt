@@ -115,8 +115,9 @@ head-of s =
       changes = u32-at s 32;
     }
 
+-- its numbers in their order
+abbrev pub head-numbers : Head → List ℕ
+head-numbers h = h .pages ∷ h .height ∷ h .root ∷ h .free ∷ h .chain ∷ h .mark ∷ h .kind ∷ h .window ∷ h .changes ∷ []
+
 unfoldable pub head-bytes : ℕ → Head → List ℕ
-head-bytes half h =
-    concat-map u32-bytes
-    (h .pages ∷ h .height ∷ h .root ∷ h .free ∷ h .chain ∷ h .mark ∷ h .kind ∷ h .window ∷ h .changes ∷ [])
-    ++ unused (page-size half - 36)
+head-bytes half h = concat-map u32-bytes (head-numbers h) ++ unused (page-size half - 36)

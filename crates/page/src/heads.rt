@@ -22,7 +22,7 @@ ghost use lib.ListN.{length};
 ghost use Rattle.fields.specs.Bytes.{patch};
 ghost use Rattle.fields.specs.Numbers.{u32-bytes};
 ghost use Rattle.lists.specs.Lists.{concat-map};
-ghost use Rattle.page.specs.Layout.{head-of, head-bytes};
+ghost use Rattle.page.specs.Layout.{head-of, head-numbers, head-bytes};
 
 // The head's numbers.
 pub fn read_head(s: &[u8]) -> Head
@@ -52,13 +52,21 @@ fn put_three(s: &mut [u8], o: usize, x: u32, y: u32, z: u32)
     put_u32(s, o + 8, z);
 }
 
+// Writes the head's numbers, and nothing behind them.
+pub fn write_numbers(s: &mut [u8], h: Head)
+    requires { ⌜ 36 ≤ length (now s) ⌝ }
+    ensures { λ _. ⌜ now (s .exit) ≡ patch (now (s .entry)) 0 (concat-map u32-bytes (head-numbers h)) ⌝ }
+{
+    put_three(s, HEAD_PAGES, h.pages, h.height, h.root);
+    put_three(s, HEAD_FREE, h.free, h.chain, h.mark);
+    put_three(s, HEAD_KIND, h.kind, h.window, h.changes);
+}
+
 // Writes the head: its numbers, the rest unused.
 pub(crate) fn write_head(s: &mut [u8], h: Head)
     requires { ⌜ length (now s) ≡ 512 ⌝ }
     ensures { λ _. ⌜ now (s .exit) ≡ head-bytes 12 h ⌝ }
 {
-    put_three(s, HEAD_PAGES, h.pages, h.height, h.root);
-    put_three(s, HEAD_FREE, h.free, h.chain, h.mark);
-    put_three(s, HEAD_KIND, h.kind, h.window, h.changes);
+    write_numbers(s, h);
     fill(s, HEAD_BYTES, HEAD_REST, UNUSED_BYTE);
 }

@@ -40,6 +40,7 @@ module _ {img : List ℕ} {X : Image} {l p : ℕ} (h : Encodes img X) (t : Tree-
         → ys ≡ tree-bytes 12 l fs → Encodes (putMid a (a + 512 - a) img ys) (put p (tree l fs) X)
     unfolding cell-bytes
     back-edited fs few fit kept e =
-        let k : Canonical 12 (tree l (entries X p)) = subst (Canonical 12) (t .page) (h .sized-kept p (t .within .least) (t .within .below)) in
-        holds-put h (tree l fs) (t .within) (canonical-edited 12 l (entries X p) fs k few (omega arith) fit)
+        let w = t .within in
+        let k : Canonical 12 (tree l (entries X p)) = subst (Canonical 12) (t .page) (h .sized-kept p (w .least) (w .below)) in
+        holds-put h (tree l fs) w (canonical-edited 12 l (entries X p) fs k few (omega arith) fit)
         (back-page img p o (lent-within h t) kept e)

@@ -8,10 +8,12 @@ use native.Mathlib.Omega.{arith}
 use lib.Dec.{eqb}
 use lib.ListN.{length}
 use Rattle.fields.specs.Bytes.{part, patch}
+use Rattle.fields.specs.Numbers.{u32-bytes}
+use Rattle.lists.specs.Lists.{concat-map}
 use Rattle.page.specs.declared.Entry.{Entry}
 use Rattle.page.specs.declared.Head.{Head}
 use Rattle.page.specs.declared.Page.{Page}
-use Rattle.page.specs.Layout.{page-size, level-of, entry-count, entries-of, next-of, head-of, head-bytes, tree-bytes}
+use Rattle.page.specs.Layout.{page-size, level-of, entry-count, entries-of, next-of, head-of, head-numbers, tree-bytes}
 use Rattle.page.specs.Decoded.{Read}
 use Rattle.page.specs.Widths.{Head-fits}
 use Rattle.page.proofs.Laws.Heads.{head-of-head}
@@ -128,11 +130,11 @@ module _ {img : List ℕ} {X : Image} (h : Encodes img X) where
         pages-most = h .pages-most;
       }
 
-  pub holds-with-head : {after : List ℕ} (head : Head) → Same-size head X → Head-fits head → after ≡ patch img 0 (head-bytes 12 head)
-      → Encodes after (with-head head X)
+  pub holds-with-head : {after : List ℕ} (head : Head) → Same-size head X → Head-fits head
+      → after ≡ patch img 0 (concat-map u32-bytes (head-numbers head)) → Encodes after (with-head head X)
   holds-with-head head s fits e =
       record {
-        bytes = e ∙ ap (λ l. patch l 0 (head-bytes 12 head)) (h .bytes) ∙ put-head-bytes 12 (omega arith) X head (s .pages);
+        bytes = e ∙ ap (λ l. patch l 0 (concat-map u32-bytes (head-numbers head))) (h .bytes) ∙ put-head-bytes 12 X head (s .pages);
         sized-kept = λ q l b. h .sized-kept q l (omega (arith, s .pages));
         head-fits = fits;
         pages-least = omega (arith, s .pages, h .pages-least);

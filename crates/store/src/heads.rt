@@ -2,7 +2,7 @@
 use access::pages::page_at;
 use page::Head;
 use page::heads::read_head;
-use page::pages::write_head_at;
+use page::heads::write_numbers;
 ghost use mathlib.Core.Path.{_≡_};
 ghost use Rattle.store.specs.Encoding.{Encodes, Pre, Post, Any, Same-size, with-head};
 
@@ -14,10 +14,10 @@ pub fn head_of(img: &[u8]) -> Head
     read_head(page_at(img, 0))
 }
 
-// The head becomes h, for the same number of pages.
+// The head becomes h, for the same number of pages: its nine numbers are written, since what stands behind them is unused already.
 pub(crate) fn set_head(img: &mut [u8], h: Head)
     requires { ⌜ Pre (now img) (Same-size h) ⌝ }
     ensures { λ _. ⌜ Post (now (img .entry)) (Same-size h) (λ X. Encodes (now (img .exit)) (with-head h X)) ⌝ }
 {
-    write_head_at(img, h)
+    write_numbers(img, h)
 }

@@ -1,38 +1,34 @@
 -- The laws of the head's bytes: its nine numbers one after the other, the rest unused. Assumes nothing.
 use mathlib.Core.Path.{_≡_, refl, sym, ap, _∙_}
 use mathlib.Core.Bool.{true}
-use mathlib.Core.List.{List, [], _∷_}
+use mathlib.Core.List.{List, [], _++_, append-assoc}
 use Prim.Native.Nat.{ℕ, _+_, _-_, _*_, _^_, _<_}
 use native.Mathlib.Omega.{arith}
 use lib.ListN.{length, getD, length-append}
-use Rattle.fields.specs.Bytes.{Bytes, part, unused, all-are}
+use Rattle.fields.specs.Bytes.{Bytes, part, patch, unused, all-are}
 use Rattle.fields.specs.Numbers.{u32-at, u32-bytes}
 use Rattle.fields.proofs.Laws.Parts.{length-part, part-whole}
 use Rattle.fields.proofs.Laws.Digits.{bytes-append, bytes-unused}
 use Rattle.fields.proofs.Laws.Offsets.{u32}
 use Rattle.fields.proofs.Laws.Tests.{length-unused, all-are-unused, unused-all-are}
 use Rattle.page.specs.declared.Head.{Head}
-use Rattle.page.specs.Layout.{page-size, head-of, head-bytes}
+use Rattle.page.specs.Layout.{page-size, head-of, head-numbers, head-bytes}
 use Rattle.lists.specs.Lists.{listed, concat-map}
 use Rattle.page.specs.Widths.{Head-fits}
 use Rattle.page.proofs.Laws.Concat.{bytes-joined, length-joined, part-joined, joined-parts}
-use Rattle.page.proofs.Laws.Pieces.{part-pieces, part-last}
-
--- the head's numbers in their order
-abbrev pub numbers : Head → List ℕ
-numbers h = h .pages ∷ h .height ∷ h .root ∷ h .free ∷ h .chain ∷ h .mark ∷ h .kind ∷ h .window ∷ h .changes ∷ []
+use Rattle.page.proofs.Laws.Pieces.{part-pieces, part-last, patch-middle}
 
 module _ (half : ℕ) (h : Head) where
   pub bytes-head : Bytes (head-bytes half h)
   unfolding head-bytes
   bytes-head =
-      bytes-append (concat-map u32-bytes (numbers h)) (unused (page-size half - 36))
-      (bytes-joined u32-bytes (u32 .bytes-bytes) (numbers h)) (bytes-unused (page-size half - 36))
+      bytes-append (concat-map u32-bytes (head-numbers h)) (unused (page-size half - 36))
+      (bytes-joined u32-bytes (u32 .bytes-bytes) (head-numbers h)) (bytes-unused (page-size half - 36))
 
   pub length-head : 0 < half → length (head-bytes half h) ≡ page-size half
   unfolding head-bytes
   length-head l =
-      let e : length (concat-map u32-bytes (numbers h)) ≡ 36 = length-joined u32-bytes 4 (u32 .length-bytes) (numbers h) in
+      let e : length (concat-map u32-bytes (head-numbers h)) ≡ 36 = length-joined u32-bytes 4 (u32 .length-bytes) (head-numbers h) in
       simp (length-append, length-unused) (omega arith)
 
   pub head-of-head : Head-fits h → head-of (head-bytes half h) ≡ h
@@ -49,10 +45,23 @@ module _ (half : ℕ) (h : Head) where
     changes = field-at 8 (omega arith) (w .changes) j;
   }
     where
-      field-at : (i : ℕ) → i < 9 → getD (numbers h) i 0 < 2 ^ 32 → u32-at (head-bytes half h) (4 * i) ≡ getD (numbers h) i 0
+      field-at : (i : ℕ) → i < 9 → getD (head-numbers h) i 0 < 2 ^ 32 → u32-at (head-bytes half h) (4 * i) ≡ getD (head-numbers h) i 0
       field-at i l w =
-          u32 .at-bytes (head-bytes half h) (4 * i) (getD (numbers h) i 0)
-          (unfold head-bytes in part-joined u32-bytes 4 (u32 .length-bytes) (numbers h) (unused (page-size half - 36)) 0 i l) w
+          u32 .at-bytes (head-bytes half h) (4 * i) (getD (head-numbers h) i 0)
+          (unfold head-bytes in part-joined u32-bytes 4 (u32 .length-bytes) (head-numbers h) (unused (page-size half - 36)) 0 i l) w
+
+  -- other numbers are written, and what stands behind them is the same
+  pub head-numbered : (g : Head) (t : List ℕ)
+      → patch (head-bytes half g ++ t) 0 (concat-map u32-bytes (head-numbers h)) ≡ head-bytes half h ++ t
+  unfolding head-bytes
+  head-numbered g t =
+      let m : ℕ = page-size half - 36 in
+      let xs : List ℕ = concat-map u32-bytes (head-numbers g) in
+      let ys : List ℕ = concat-map u32-bytes (head-numbers h) in
+      let a : length xs ≡ 36 = length-joined u32-bytes 4 (u32 .length-bytes) (head-numbers g) in
+      let b : length ys ≡ 36 = length-joined u32-bytes 4 (u32 .length-bytes) (head-numbers h) in
+      ap (λ l. patch l 0 ys) (append-assoc xs (unused m) t) ∙ patch-middle [] xs (unused m ++ t) 0 ys refl (b ∙ sym a)
+      ∙ sym (append-assoc ys (unused m) t)
 
   -- the rest of the head, as `head-fit` tests it
   pub head-rest : all-are 255 (part (head-bytes half h) 36 (page-size half - 36)) ≡ true
@@ -60,7 +69,7 @@ module _ (half : ℕ) (h : Head) where
   head-rest =
       let m : ℕ = page-size half - 36 in
       ap (all-are 255)
-      (part-last (concat-map u32-bytes (numbers h)) (unused m) 36 m (length-joined u32-bytes 4 (u32 .length-bytes) (numbers h))
+      (part-last (concat-map u32-bytes (head-numbers h)) (unused m) 36 m (length-joined u32-bytes 4 (u32 .length-bytes) (head-numbers h))
       (length-unused m)) ∙ all-are-unused m
 
 pub head-of-fits : (s : List ℕ) → Bytes s → Head-fits (head-of s)

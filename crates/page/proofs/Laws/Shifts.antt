@@ -1,5 +1,5 @@
--- The lists that a page's entries are while they move by a slot, one at a time: up, to make room for one more, and down, over one that goes.
--- Assumes nothing.
+-- The lists that a page's entries are while they move by a slot, one at a time: up, to make room for one more, and down, over one that
+-- goes. Assumes nothing.
 use mathlib.Core.Path.{_≡_, refl, sym, ap, _∙_}
 use mathlib.Core.List.{List, [], _∷_, _++_}
 use Prim.Native.Nat.{ℕ, zero, suc, _+_, _-_, _≤_, _<_, min}

@@ -1,5 +1,5 @@
--- `page::slots::remove_slot` meets its contract. The loop's invariant: those behind the i-th up to the j-th stand a slot lower, and the page
--- says already that it has one less. Assumes nothing.
+-- `page::slots::remove_slot` meets its contract. The loop's invariant: those behind the i-th up to the j-th stand a slot lower, and the
+-- page says already that it has one less. Assumes nothing.
 use mathlib.Core.Path.{_≡_, sym, ap, _∙_}
 use mathlib.Core.List.{List, [], _∷_, _++_}
 use Prim.Native.Nat.{ℕ, suc, _+_, _-_, _≤_, _<_}

@@ -1,4 +1,4 @@
--- `store::edits::insert_entry` meets its contract: the page that is lent shows the tree page, and comes back with one more entry. Assumes nothing.
+-- `store::edits::insert_entry` meets its contract: the page that is lent comes back with one more entry. Assumes nothing.
 use mathlib.Core.List.{List}
 use native.Mathlib.Omega.{arith}
 use borrow.Author.Needs.{needs}

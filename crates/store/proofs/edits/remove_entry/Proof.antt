@@ -1,4 +1,4 @@
--- `store::edits::remove_entry` meets its contract: the page that is lent shows the tree page, and comes back with one entry less. Assumes nothing.
+-- `store::edits::remove_entry` meets its contract: the page that is lent comes back with one entry less. Assumes nothing.
 use mathlib.Core.List.{List, []}
 use native.Mathlib.Omega.{arith}
 use borrow.Author.Needs.{needs}
@@ -18,7 +18,8 @@ remove-slot-requires c κs =
     let pre = found .before .before .pre in
     let k = pre .ready .1 in
     let within = lent-within (pre .holds) (k .tree-page) in
-    omega (arith, within, k .inside, few-entries (pre .holds) (k .tree-page), lent-number (pre .holds) (k .tree-page) (found .page-offset .ensures))
+    let few = few-entries (pre .holds) (k .tree-page) in
+    omega (arith, within, k .inside, lent-number (pre .holds) (k .tree-page) (found .page-offset .ensures))
 
 returns : tie.Need-returns
 returns c X h l k =

@@ -1,8 +1,8 @@
--- `store::edits::set_entry` meets its contract: the page that is lent shows the tree page, and comes back with another entry. Assumes nothing.
+-- `store::edits::set_entry` meets its contract: the page that is lent comes back with another entry. Assumes nothing.
+use mathlib.Core.Path.{_∙_}
 use mathlib.Core.List.{List, [], _∷_}
 use native.Mathlib.Omega.{arith}
 use borrow.Author.Needs.{needs}
-use mathlib.Core.Path.{_∙_}
 use Rattle.lists.specs.Lists.{splice}
 use Rattle.lists.proofs.Edits.{length-splice-one}
 use Rattle.page.proofs.Laws.Fits.{set-fit}
