@@ -1,14 +1,30 @@
 // Runs of one byte: the test for unused bytes, and the filling of a run.
+use super::read::get_u32;
 ghost use mathlib.Core.Path.{_≡_};
-ghost use Prim.Native.Nat.{_+_, _≤_};
+ghost use Prim.Native.Nat.{_+_, _*_, _≤_};
 ghost use lib.ListN.{length, replicate};
 ghost use Rattle.fields.specs.Bytes.{part, patch, all-are};
 
 // "Unused bytes are FF (hexadecimal)."
 pub const UNUSED_BYTE: u8 = 255;
 
-// Whether the n bytes from offset a on are all FF: no exit in the loop, so that many bytes are tested at once.
-pub fn all_ff(s: &[u8], a: usize, n: usize) -> bool
+// Whether the k words of four bytes from offset a on are all FF. No exit in the loop, and one `and` a word with one comparison at the end:
+// many words are tested at once, and the last ones one by one, at most seven where bytes would be up to 31 (5% of an instant).
+fn words_ff(s: &[u8], a: usize, k: usize) -> bool
+    requires { ⌜ a + 4 * k ≤ length (now s) ⌝ }
+    ensures { λ r. ⌜ r ≡ all-are 255 (part (now (s .entry)) a (4 * k)) ⌝ }
+{
+    let mut all = u32::MAX;
+    let mut i = 0;
+    while i < k {
+        all = all & get_u32(s, a + 4 * i);
+        i += 1;
+    }
+    all == u32::MAX
+}
+
+// The same of n single bytes.
+fn bytes_ff(s: &[u8], a: usize, n: usize) -> bool
     requires { ⌜ a + n ≤ length (now s) ⌝ }
     ensures { λ r. ⌜ r ≡ all-are 255 (part (now (s .entry)) a n) ⌝ }
 {
@@ -19,6 +35,16 @@ pub fn all_ff(s: &[u8], a: usize, n: usize) -> bool
         i += 1;
     }
     ok
+}
+
+// Whether the n bytes from offset a on are all FF: word by word, then what is left. Every caller has whole words, and the compiler
+// drops the rest.
+pub fn all_ff(s: &[u8], a: usize, n: usize) -> bool
+    requires { ⌜ a + n ≤ length (now s) ⌝ }
+    ensures { λ r. ⌜ r ≡ all-are 255 (part (now (s .entry)) a n) ⌝ }
+{
+    let k = n / 4;
+    words_ff(s, a, k) & bytes_ff(s, a + 4 * k, n % 4)
 }
 
 // Writes the byte b at the n offsets from a on.

@@ -34,7 +34,7 @@ pub fn get_u32(s: &[u8], o: usize) -> u32
 }
 
 // The number that the eight bytes at offset o show.
-fn get_u64(s: &[u8], o: usize) -> u64
+pub fn get_u64(s: &[u8], o: usize) -> u64
     requires { ⌜ o + 8 ≤ length (now s) ⌝ }
     ensures { λ r. ⌜ r ≡ num (part (now (s .entry)) o 8) ⌝ }
 {

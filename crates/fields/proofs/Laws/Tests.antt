@@ -1,16 +1,19 @@
 -- The laws of the tests: `all-are` over a list, `every` over the numbers below n, and of unused bytes. Assumes nothing.
-use mathlib.Core.Path.{_≡_, refl, sym, ap, _∙_}
-use mathlib.Core.Bool.{Bool, true, _&&_, and-eq-true-iff, and-true, and-assoc}
-use Prim.Native.Nat.{ℕ, zero, suc, _+_, _-_, _≤_, _<_}
+use mathlib.Core.Path.{_≡_, refl, sym, ap, ap₂, _∙_}
+use mathlib.Core.Bool.{Bool, true, false, _&&_, and-eq-true-iff, and-true, and-assoc}
+use Prim.Native.Nat.{ℕ, zero, suc, _+_, _*_, _-_, _≤_, _<_}
 use native.Mathlib.Decide.{decLt}
 use native.Mathlib.Numerals.{add-one}
 use native.Mathlib.Omega.{arith}
 use mathlib.Core.List.{List, [], _∷_, _++_}
 use lib.ListN.{length, getD, replicate, length-replicate, replicate-append-replicate}
-use lib.Dec.{eqb}
+use lib.Dec.{eqb, lit<}
+use lib.Bits.{bitAnd, and-le-l, and-le-r, and-self}
 use borrow.Author.Tests.{eqb-true, eq-eqb}
-use Rattle.fields.specs.Bytes.{part, unused, all-are, every}
-use Rattle.fields.proofs.Laws.Parts.{part-none, part-first, part-add, part-middle}
+use Rattle.fields.specs.Bytes.{Bytes, part, unused, all-are, every}
+use Rattle.fields.specs.Numbers.{digits, u32-at, u32-bytes}
+use Rattle.fields.proofs.Laws.Parts.{length-part, part-none, part-first, part-add, part-middle}
+use Rattle.fields.proofs.Laws.Offsets.{u32}
 
 -- ---- all bytes of a list are b
 
@@ -47,6 +50,26 @@ all-are-more b s a i h =
 
 -- ---- unused bytes
 
+-- two tests that pass for the same facts are one
+agree : (a b : Bool) → (a ≡ true → b ≡ true) → (b ≡ true → a ≡ true) → a ≡ b
+agree true b f g = sym (f refl)
+agree false true f g = g refl
+agree false false f g = refl
+
+-- numbers of 32 bits are all ones exactly where their `and` is
+pub and-ones : (a b : ℕ) → a ≤ 4294967295 → b ≤ 4294967295 → eqb (bitAnd a b) 4294967295 ≡ eqb a 4294967295 && eqb b 4294967295
+and-ones a b f g = agree _ _ each all
+  where
+    each : eqb (bitAnd a b) 4294967295 ≡ true → (eqb a 4294967295 && eqb b 4294967295) ≡ true
+    each h =
+        let e = eqb-true (bitAnd a b) 4294967295 h in
+        and-eq-true-iff _ _ .1 (eq-eqb a _ (omega (arith, e, and-le-l a b)), eq-eqb b _ (omega (arith, e, and-le-r a b)))
+
+    all : (eqb a 4294967295 && eqb b 4294967295) ≡ true → eqb (bitAnd a b) 4294967295 ≡ true
+    all h =
+        let k = and-eq-true-iff (eqb a 4294967295) (eqb b 4294967295) .0 h in
+        eq-eqb _ _ (ap₂ bitAnd (eqb-true a _ (k .0)) (eqb-true b _ (k .1)) ∙ and-self 4294967295)
+
 pub length-unused : (n : ℕ) → length (unused n) ≡ n
 unfolding unused
 length-unused n = length-replicate n 255
@@ -69,6 +92,31 @@ all-are-unused n = all-are-replicate 255 n
 pub unused-all-are : (n : ℕ) (xs : List ℕ) → length xs ≡ n → all-are 255 xs ≡ true → xs ≡ unused n
 unfolding unused
 unused-all-are n xs e h = all-are-true 255 xs h ∙ ap (λ k. replicate k 255) e
+
+-- four bytes are FF exactly where the number there is all ones
+word-unused : (s : List ℕ) (o : ℕ) → Bytes s → o + 4 ≤ length s → eqb (u32-at s o) 4294967295 ≡ all-are 255 (part s o 4)
+word-unused s o b h = agree _ _ ones four
+  where
+    bytes : u32-bytes 4294967295 ≡ unused 4
+    bytes = unfold u32-bytes digits unused in refl
+
+    ones : eqb (u32-at s o) 4294967295 ≡ true → all-are 255 (part s o 4) ≡ true
+    ones e =
+        ap (all-are 255) (sym (u32 .bytes-at s o b h) ∙ ap u32-bytes (eqb-true (u32-at s o) _ e) ∙ bytes) ∙ all-are-unused 4
+
+    four : all-are 255 (part s o 4) ≡ true → eqb (u32-at s o) 4294967295 ≡ true
+    four e =
+        eq-eqb _ _ (u32 .at-bytes s o 4294967295 (unused-all-are 4 (part s o 4) (length-part s o 4 h) e ∙ sym bytes) (lit< tt))
+
+-- a loop over the words of a part: one word more
+pub all-are-word : (s : List ℕ) (a i : ℕ) → Bytes s → a + 4 * i + 4 ≤ length s
+    → all-are 255 (part s a (4 * (i + 1))) ≡ all-are 255 (part s a (4 * i)) && eqb (u32-at s (a + 4 * i)) 4294967295
+all-are-word s a i b h =
+    let e : 4 * (i + 1) ≡ 4 * i + 4 = omega arith in
+    ap (λ n. all-are 255 (part s a n)) e
+    ∙ ap (all-are 255) (part-add s a (4 * i) 4)
+    ∙ all-are-append 255 (part s a (4 * i)) (part s (a + 4 * i) 4)
+    ∙ ap (λ t. all-are 255 (part s a (4 * i)) && t) (sym (word-unused s (a + 4 * i) b h))
 
 -- ---- p of each number below n
 

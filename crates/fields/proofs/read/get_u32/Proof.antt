@@ -9,7 +9,8 @@ use Rattle.fields.proofs.read.get_u32.Tie as tie
 returns : tie.Need-returns
 unfolding u32-at
 returns c =
-    let args = c .before .before .before .before .before .args in
+    let first = c .before .before .before in
+    let args = first .before .before .args in
     omega (arith, num-part-four (args .s .now) (args .o) (omega arith))
 
 pub get-u32-spec : {M : Type 1} → statement M

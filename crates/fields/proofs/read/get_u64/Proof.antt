@@ -9,7 +9,8 @@ use Rattle.fields.proofs.read.get_u64.Tie as tie
 returns : tie.Need-returns
 unfolding u32-at
 returns c =
-    let args = c .before .before .before .before .before .args in
+    let low = c .before .before .before in
+    let args = low .before .before .args in
     omega (arith, num-part-add (args .s .now) (args .o) 4 4 (omega arith))
 
 pub get-u64-spec : {M : Type 1} → statement M
