@@ -1,7 +1,9 @@
 -- `Parts` has the laws of the parts of a check, `Pages` what a fit page is, fact by fact, `Spans` that the spans of its entries follow each
--- other, `Heads` what a fit head is, `Paths` that a walk down from one stays within bounds.
+-- other, `Heads` what a fit head is, `Paths` that a walk down from one stays within bounds, `Limits` that limits allow
+-- what may stand in a page.
 pub mod Parts
 pub mod Pages
 pub mod Spans
 pub mod Heads
 pub mod Paths
+pub mod Limits

@@ -2,7 +2,7 @@
 use mathlib.Core.Path.{_≡_, refl, sym, ap, ap₂, _∙_}
 use mathlib.Core.Logic.{_↔_}
 use mathlib.Core.Bool.{Bool, true, false, _&&_}
-use Prim.Native.Nat.{ℕ, _+_, _≤_, _<_}
+use Prim.Native.Nat.{ℕ, zero, suc, _+_, _≤_, _<_}
 use native.Mathlib.Omega.{arith}
 use lib.Dec.{leb, ltb, eqb}
 use borrow.Author.Tests.{leb-true, ltb-true, eqb-true, lt-ltb, le-leb, eq-eqb}
@@ -24,6 +24,18 @@ pub passed-all : {n : ℕ} {p : ℕ → Bool} {i : ℕ} {ok : Bool} → Passed n
 passed-all {n} {p} {i} h l =
     let e : i ≡ n = omega (arith, h .within) in
     h .same ∙ ap (λ k. every k p) e
+
+-- two tests of each thing are one of both
+pub every-both : (n : ℕ) (p q : ℕ → Bool) → every n (λ i. p i && q i) ≡ every n p && every n q
+unfolding every
+every-both zero p q = refl
+every-both (suc n) p q = ap (λ t. t && (p n && q n)) (every-both n p q) ∙ four (every n p) (every n q) (p n) (q n)
+  where
+    four : (a b c d : Bool) → ((a && b) && (c && d)) ≡ ((a && c) && (b && d))
+    four true true c d = refl
+    four true false true d = refl
+    four true false false d = refl
+    four false b c d = refl
 
 -- a check goes on where a part passes, and ends where one fails
 pub passes : {a b r : Bool} → a ≡ true → r ≡ b → r ≡ (a && b)

@@ -1,7 +1,6 @@
 // Is a page fit in its context?
-use super::children::children_ok;
+use super::entries::entries_ok;
 use super::entry_count::entry_count_ok;
-use super::pairs::pairs_ok;
 use super::starts::starts_ok;
 use super::unused::unused_ok;
 use page::Head;
@@ -34,5 +33,5 @@ pub fn page_fit(s: &[u8], h: Head, at: PageContext) -> bool
     if !unused_ok(s, n) {
         return false;
     }
-    children_ok(s, n, h.pages, at) & pairs_ok(s, n, h, at)
+    entries_ok(s, n, h, at)
 }

@@ -12,10 +12,13 @@ use super::layout::STARTS_OFFSET;
 use fields::read::get_i32;
 use fields::read::get_i64;
 use fields::read::get_u32;
+use fields::read::get_u64;
 use rule::Pair;
 ghost use mathlib.Core.Path.{_≡_};
-ghost use Prim.Native.Nat.{_<_};
+ghost use Prim.Native.Nat.{_<_, _/_, _%_, _^_};
 ghost use lib.ListN.{length};
+ghost use mir.Syntax.{w32, w64};
+ghost use mir.Val.{toZ};
 ghost use Rattle.page.specs.Layout.{level-of, entry-count, next-of, start-at, pair-at, child-at, entry-at};
 
 // The level of a tree page, or the mark of a free page.
@@ -83,6 +86,22 @@ pub fn child_at(s: &[u8], i: usize) -> u32
     ensures { λ r. ⌜ r ≡ child-at 12 (now (s .entry)) i ⌝ }
 {
     get_u32(s, ENTRIES_OFFSET + ENTRY_BYTES * i + CHILD_IN_ENTRY)
+}
+
+// The 64 bits of the sum of the i-th entry: for a test that goes by bits, which needs no sign.
+pub fn sum_bits_at(s: &[u8], i: usize) -> u64
+    requires { ⌜ (length (now s) ≡ 512) × (i < 24) ⌝ }
+    ensures { λ r. ⌜ toZ w64 r ≡ pair-at 12 (now (s .entry)) i .sum ⌝ }
+{
+    get_u64(s, ENTRIES_OFFSET + ENTRY_BYTES * i)
+}
+
+// The 32 bits of the count of the i-th entry, and above them its child: one load for both.
+pub fn count_and_child_at(s: &[u8], i: usize) -> u64
+    requires { ⌜ (length (now s) ≡ 512) × (i < 24) ⌝ }
+    ensures { λ r. ⌜ (toZ w32 (r % 2 ^ 32) ≡ pair-at 12 (now (s .entry)) i .count) × (r / 2 ^ 32 ≡ child-at 12 (now (s .entry)) i) ⌝ }
+{
+    get_u64(s, ENTRIES_OFFSET + ENTRY_BYTES * i + COUNT_IN_ENTRY)
 }
 
 // The i-th entry.

@@ -5,3 +5,4 @@ pub mod Order
 pub mod Laws
 pub mod Rounding
 pub mod Window
+pub mod Wrapped

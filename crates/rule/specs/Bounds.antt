@@ -2,7 +2,7 @@
 use Prim.Native.Nat.{ℕ, _+_, _≤_, _<_, _^_}
 use mathlib.Core.Path.{_≡_}
 use mathlib.Core.Bool.{Bool, true, false, _&&_, _||_}
-use lib.Dec.{eqb}
+use lib.Dec.{eqb, ltb}
 use lib.IntN.{ℤ, pos, natAbs}
 use lib.Signed.{leZ}
 use Rattle.rule.specs.declared.Pair.{Pair}
@@ -13,6 +13,10 @@ use Rattle.rule.specs.Averages.{most-sum}
 -- "kinds 2 and 3 have (0, 0) or a value with 1"
 unfoldable pub value-or-none : Pair → Bool
 value-or-none p = same-pair p none || (value-ok (p .sum) && same-number (p .count) (pos 1))
+
+-- the test of a number of 64 bits whose top bit tells whether a comparison failed
+abbrev pub top-clear : ℕ → Bool
+top-clear r = ltb r (2 ^ 63)
 
 -- What a change that rows 13 and 22 don't turn back combines with.
 pub record Effective (kind : ℕ) (p : Pair) : Type 0 where

@@ -2,12 +2,11 @@
 use crate::Pair;
 use crate::limits::GREATEST;
 use crate::limits::TOTALS;
-use crate::time::value_ok;
 ghost use mathlib.Core.Path.{_≡_};
 ghost use mathlib.Core.Bool.{cond};
 ghost use lib.Dec.{eqb};
 ghost use Rattle.rule.specs.Pairs.{none, same-pair, greater, lesser, combine};
-ghost use Rattle.rule.specs.Bounds.{Combinable, value-or-none};
+ghost use Rattle.rule.specs.Bounds.{Combinable};
 
 // Whether two pairs agree in sum and in count.
 pub fn same_pair(p: Pair, q: Pair) -> bool
@@ -21,13 +20,6 @@ fn is_none(p: Pair) -> bool
     ensures { λ r. ⌜ r ≡ same-pair p none ⌝ }
 {
     same_pair(p, Pair { sum: 0, count: 0 })
-}
-
-// Whether a pair is one that kinds 2 and 3 have: (0, 0), or a value with 1.
-pub fn value_or_none(p: Pair) -> bool
-    ensures { λ r. ⌜ r ≡ value-or-none p ⌝ }
-{
-    is_none(p) | (value_ok(p.sum) & (p.count == 1))
 }
 
 // The greater of two numbers for kind 2, else the lesser.

@@ -6,6 +6,7 @@ pub mod combine;
 pub mod limits;
 pub mod numbers;
 pub mod time;
+pub mod top_bits;
 
 // What an index answers at an instant, and what a tree entry holds.
 pub struct Pair {

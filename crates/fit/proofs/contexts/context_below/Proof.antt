@@ -10,14 +10,18 @@ use Rattle.fit.proofs.contexts.context_below.Tie as tie
 
 cast-magnitude : tie.Need-cast-magnitude
 cast-magnitude c =
-    let g : SFits w32 (c .before .before .before .before .before .before .before .before .pair-at .result .count) = search needs in
+    let sum = c .before .before .before in
+    let end = sum .before .before in
+    let pair = end .before .before .before in
+    let g : SFits w32 (pair .pair-at .result .count) = search needs in
     rw (toZ-ofZ g) (sfits-widen tt g)
 
 returns : tie.Need-returns
 unfolding context-below
 returns c =
     let count = c .before in
-    let sum = count .before .before .before .before in
+    let told = count .before in
+    let sum = told .before .before .before in
     let end = sum .before .before in
     let pair = end .before .before .before in
     let f : SFits w64 (pair .pair-at .result .sum) = search needs in

@@ -11,12 +11,14 @@ returns c = rw (not-true (c .before .before .args .at .«is_root») (c .if1 .tak
 returns-2 : tie.Need-returns-2
 unfolding fewest
 returns-2 c =
-    rw (not-false (c .before .before .before .before .args .at .«is_root») (c .before .before .if1 .left), eq-eqb _ _ (c .if2 .taken))
+    let root = c .before .before in
+    rw (not-false (root .before .before .args .at .«is_root») (root .if1 .left), eq-eqb _ _ (c .if2 .taken))
 
 returns-3 : tie.Need-returns-3
 unfolding fewest
 returns-3 c =
-    rw (not-false (c .before .before .before .before .args .at .«is_root») (c .before .before .if1 .left), ne-eqb _ _ (c .if2 .left))
+    let root = c .before .before in
+    rw (not-false (root .before .before .args .at .«is_root») (root .if1 .left), ne-eqb _ _ (c .if2 .left))
 
 pub fewest-spec : {M : Type 1} → statement M
 fewest-spec = tie.close (tie.spec returns returns-2 returns-3)

@@ -9,8 +9,9 @@ use Rattle.fit.proofs.head.head_fit.Tie as tie
 returns : tie.Need-returns
 unfolding head-fit
 returns c =
-    let pages = c .before .before .before .before .args .pages in
-    ap₂ _&&_ (c .before .ranges-ok .ensures ∙ ap (ranges-ok pages) (c .before .before .read-head .ensures)) (c .all-ff .ensures)
+    let read = c .before .before in
+    let pages = read .before .before .args .pages in
+    ap₂ _&&_ (c .before .ranges-ok .ensures ∙ ap (ranges-ok pages) (read .read-head .ensures)) (c .all-ff .ensures)
 
 pub head-fit-spec : {M : Type 1} → statement M
 head-fit-spec = tie.close (tie.spec (λ c κs. search needs) (λ c κs. search needs) (λ c κs. search needs) returns)

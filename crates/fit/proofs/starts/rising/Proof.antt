@@ -17,9 +17,10 @@ abbrev μ-loop : tie.MeasureT-loop
 
 loop-again : tie.Need-loop-again Inv-loop μ-loop
 loop-again c =
-    let s = c .before .before .before .before .before .args .s .now in
-    let i = c .before .before .before .loop .i in
-    passed-more (c .before .before .before .loop .inv) (omega arith)
+    let turn = c .before .before .before in
+    let s = turn .before .before .args .s .now in
+    let i = turn .loop .i in
+    passed-more (turn .loop .inv) (omega arith)
     (ap₂ ltb (c .before .start-at .ensures) (c .start-at2 .ensures ∙ ap (start-at s) (add-one i)))
 
 returns : tie.Need-returns Inv-loop μ-loop

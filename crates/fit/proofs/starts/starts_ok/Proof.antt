@@ -13,11 +13,13 @@ use Rattle.fit.proofs.starts.starts_ok.Tie as tie
 returns : tie.Need-returns
 unfolding starts-ok
 returns c =
-    let start = c .before .before .before .before .before .before in
+    let rises = c .before .before in
+    let first = rises .before .before in
+    let start = first .before .before in
     let s = start .args .s .now in
     let at = start .args .at in
-    ap₂ _&&_ (ap (λ x. eqb x (at .lo)) (c .before .before .before .before .start-at .ensures))
-    (ap₂ _&&_ (c .before .before .rising .ensures) (ap (λ x. ltb x (at .hi)) (c .before .start-at2 .ensures)))
+    ap₂ _&&_ (ap (λ x. eqb x (at .lo)) (first .start-at .ensures))
+    (ap₂ _&&_ (rises .rising .ensures) (ap (λ x. ltb x (at .hi)) (c .before .start-at2 .ensures)))
     ∙ ap (λ n. eqb (start-at s 0) (at .lo)
     && (every (n - 1) (λ i. ltb (start-at s i) (start-at s (suc i))) && ltb (start-at s (n - 1)) (at .hi))) (start .pre .len)
 

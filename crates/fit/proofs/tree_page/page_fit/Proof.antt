@@ -1,6 +1,6 @@
 -- `fit::tree_page::page_fit` meets its contract: at each exit a part fails, and those before it passed. Assumes nothing.
-use mathlib.Core.Path.{_≡_, sym, ap₂, _∙_}
-use mathlib.Core.Bool.{true, _&&_}
+use mathlib.Core.Path.{_≡_, sym, _∙_}
+use mathlib.Core.Bool.{true}
 use lib.Dec.{eqb}
 use borrow.Author.Needs.{needs}
 use borrow.Author.Tests.{eq-eqb, ne-eqb, not-true, not-false}
@@ -12,30 +12,39 @@ use Rattle.fit.proofs.Laws.Parts.{compared}
 use Rattle.fit.proofs.tree_page.page_fit.Statement.{statement}
 use Rattle.fit.proofs.tree_page.page_fit.Tie as tie
 
--- what the code has tested so far, in the definition's words
-level : (c : tie.Else1)
-    → eqb (level-of (c .before .before .before .before .args .s .now)) (c .before .before .before .before .args .at .level) ≡ true
-level c = eq-eqb _ _ (sym (c .before .before .level-of .ensures) ∙ c .if1 .left)
+-- places: the tests before a test that was passed, and the start
+abbrev level-test : tie.Else2 → tie.Else1
+level-test c = c .before .before
 
-number : (c : tie.Else2)
-    → entry-count-ok 12 (c .before .before .before .before .before .before .args .at)
-    (c .before .before .before .before .before .before .args .s .now) ≡ true
+abbrev count-test : tie.Else3 → tie.Else2
+count-test c = c .before .before .before
+
+abbrev starts-test : tie.Else4 → tie.Else3
+starts-test c = c .before .before
+
+abbrev asked : tie.Else1 → tie.After-level-of
+asked c = c .before .before
+
+abbrev start : tie.Else2 → tie.Start
+start c = asked (level-test c) .before .before
+
+-- what the code has tested so far, in the definition's words
+level : (c : tie.Else1) → let s = asked c .before .before in eqb (level-of (s .args .s .now)) (s .args .at .level) ≡ true
+level c = eq-eqb _ _ (sym (asked c .level-of .ensures) ∙ c .if1 .left)
+
+number : (c : tie.Else2) → entry-count-ok 12 (start c .args .at) (start c .args .s .now) ≡ true
 number c = sym (c .before .entry-count-ok .ensures) ∙ not-false _ (c .if2 .left)
 
-starts : (c : tie.Else3)
-    → starts-ok (c .before .before .before .before .before .before .before .before .before .args .at)
-    (c .before .before .before .before .before .before .before .before .before .args .s .now) ≡ true
+starts : (c : tie.Else3) → starts-ok (start (count-test c) .args .at) (start (count-test c) .args .s .now) ≡ true
 starts c = sym (c .before .starts-ok .ensures) ∙ not-false _ (c .if3 .left)
 
-unused : (c : tie.Else4)
-    → unused-ok 12 (c .before .before .before .before .before .before .before .before .before .before .before .args .s .now) ≡ true
+unused : (c : tie.Else4) → unused-ok 12 (start (count-test (starts-test c)) .args .s .now) ≡ true
 unused c = sym (c .before .unused-ok .ensures) ∙ not-false _ (c .if4 .left)
 
-entries : (c : tie.After-entry-count)
-    → Compared (c .before .before .before .before .before .before .before .args .s .now) (c .entry-count .result)
+entries : (c : tie.After-entry-count) → Compared (start (c .before) .args .s .now) (c .entry-count .result)
 entries c =
-    let start = c .before .before .before .before .before .before .before in
-    compared (start .args .at) (start .args .s .now) (start .pre .0) (c .entry-count .ensures) (number (c .before))
+    let s = start (c .before) in
+    compared (s .args .at) (s .args .s .now) (s .pre .0) (c .entry-count .ensures) (number (c .before))
 
 returns : tie.Need-returns
 unfolding page-fit
@@ -49,24 +58,23 @@ returns-3 : tie.Need-returns-3
 unfolding page-fit
 returns-3 c =
     let n = c .before .before .before in
-    passes (level (n .before .before)) (passes (number n) (fails _ (sym (c .before .starts-ok .ensures) ∙ not-true _ (c .if3 .taken))))
+    passes (level (level-test n)) (passes (number n) (fails _ (sym (c .before .starts-ok .ensures) ∙ not-true _ (c .if3 .taken))))
 
 returns-4 : tie.Need-returns-4
 unfolding page-fit
 returns-4 c =
     let t = c .before .before in
-    let n = t .before .before .before in
-    passes (level (n .before .before))
+    let n = count-test t in
+    passes (level (level-test n))
     (passes (number n) (passes (starts t) (fails _ (sym (c .before .unused-ok .ensures) ∙ not-true _ (c .if4 .taken)))))
 
 returns-5 : tie.Need-returns-5
 unfolding page-fit
 returns-5 c =
-    let u = c .before .before in
-    let t = u .before .before in
-    let n = t .before .before .before in
-    passes (level (n .before .before))
-    (passes (number n) (passes (starts t) (passes (unused u) (ap₂ _&&_ (c .before .children-ok .ensures) (c .pairs-ok .ensures)))))
+    let u = c .before in
+    let t = starts-test u in
+    let n = count-test t in
+    passes (level (level-test n)) (passes (number n) (passes (starts t) (passes (unused u) (c .entries-ok .ensures))))
 
 pub page-fit-spec : {M : Type 1} → statement M
 page-fit-spec =
@@ -76,9 +84,5 @@ page-fit-spec =
     returns-3
     (λ c κs. entries (c .before .before))
     returns-4
-    (λ c κs. entries (c .before .before .before .before))
-    (λ c κs. (
-      entries (c .before .before .before .before .before),
-      c .before .before .before .before .before .before .before .before .before .before .before .before .pre .1,
-    ))
+    (λ c κs. entries (starts-test c .before .before))
     returns-5)

@@ -11,9 +11,10 @@ use Rattle.fit.proofs.unused.unused_ok.Tie as tie
 returns : tie.Need-returns
 unfolding unused-ok
 returns c =
-    let start = c .before .before .before .before in
+    let gap = c .before .before in
+    let start = gap .before .before in
     let s = start .args .s .now in
-    ap₂ _&&_ (c .before .before .all-ff .ensures) (ap₂ _&&_ (c .before .all-ff2 .ensures) (c .all-ff3 .ensures))
+    ap₂ _&&_ (gap .all-ff .ensures) (ap₂ _&&_ (c .before .all-ff2 .ensures) (c .all-ff3 .ensures))
     ∙ ap (λ n. all-are 255 (part s 8 24)
     && (all-are 255 (part s (32 + 4 * n) (4 * (24 - n))) && all-are 255 (part s (128 + 16 * n) (16 * (24 - n))))) (start .pre .len)
 
