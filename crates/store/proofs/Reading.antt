@@ -1,15 +1,19 @@
--- A tree page's entries, read from its bytes: their number, one of them, and the one that has an instant. Assumes nothing.
+-- A tree page's entries, read from its bytes: their number, one of them, where it ends, and the one that has an instant. Assumes nothing.
 use Prim.Native.Nat.{ℕ, suc, _+_, _*_, _≤_, _<_}
 use mathlib.Core.Path.{_≡_, sym, ap, _∙_, subst⁻¹}
 use mathlib.Core.Bool.{Bool, true, false, cond}
 use mathlib.Core.List.{List, [], _∷_}
 use native.Mathlib.Omega.{arith}
-use lib.Dec.{leb}
-use lib.ListN.{length}
+use lib.Dec.{leb, ltb}
+use lib.ListN.{length, drop, drop-of-length-le}
+use lib.Seq.{drop-cons}
+use borrow.Author.Tests.{ltb-true, ltb-false}
+use Rattle.lists.proofs.Choices.{cond-one}
 use Rattle.page.specs.declared.Entry.{Entry}
 use Rattle.page.specs.declared.Page.{Page}
 use Rattle.page.specs.Decoded.{entry-list}
-use Rattle.page.specs.Entries.{at, last-from, index-of}
+use Rattle.page.specs.Entries.{at, no-entry, last-from, index-of}
+use Rattle.page.specs.Fit.{end-at}
 use Rattle.page.specs.Layout.{entry-count, start-at, entry-at, entries-of}
 use Rattle.page.proofs.Laws.Trees.{at-entries-of}
 use Rattle.image.specs.Images.{Image, page-at}
@@ -17,6 +21,7 @@ use Rattle.access.proofs.Laws.{page-length}
 use Rattle.lookup.specs.Levels.{Page-searchable}
 use Rattle.edit.proofs.Edits.{has-len}
 use Rattle.steps.specs.Supply.{entries}
+use Rattle.steps.specs.Combine.{next-start}
 use Rattle.store.specs.Encoding.{Encodes, Loaded}
 use Rattle.store.specs.Preconditions.{Tree-page, Has-entry, Searchable, found-in}
 use Rattle.store.proofs.Encoding.{Tree-read, tree-read, holds-length}
@@ -70,6 +75,18 @@ module _ {img : List ℕ} {X : Image} {l p : ℕ} (h : Encodes img X) (t : Tree-
     lent-entry i n =
         let r = lent-read in
         sym (at-entries-of 12 s i (omega (arith, r .len)) (omega (arith, r .few))) ∙ ap (λ es. at es i) (r .entries)
+
+    -- where the i-th entry ends: at the next one's start, the last at the page's own end
+    pub lent-end : (hi i : ℕ) → end-at s hi i ≡ next-start hi (drop (suc i) (entries X p))
+    unfolding end-at entry-at next-start
+    lent-end hi i =
+        let es : List Entry = entries X p in
+        let size = lent-read .len in
+        cond-one (λ (end : ℕ). end ≡ next-start hi (drop (suc i) es)) (ltb (suc i) (entry-count s))
+        (λ t.
+        let n : suc i < length es = omega (arith, ltb-true) in
+        ap (λ (e : Entry). e .start) (lent-entry (suc i) n) ∙ sym (ap (next-start hi) (drop-cons es (suc i) no-entry n)))
+        (λ f. let n : length es ≤ suc i = omega (arith, ltb-false) in sym (ap (next-start hi) (drop-of-length-le es n)))
 
     pub lent-slot : {i : ℕ} (instant : ℕ) → i ≡ index-of instant (entries-of 12 s) → i ≡ index-of instant (entries X p)
     lent-slot instant e = e ∙ ap (index-of instant) (lent-read .entries)

@@ -1,12 +1,14 @@
--- What a head that was read says of the image, and what taking a page, giving one back and counting a change leave. Assumes nothing.
+-- What a head that was read says of the image, and what taking a page, writing one, giving one back and counting a change leave.
+-- Assumes nothing.
 use Prim.Native.Nat.{ℕ, suc, _+_, _-_, _<_}
-use mathlib.Core.Path.{_≡_, sym, ap, _∙_, subst}
+use mathlib.Core.Path.{_≡_, refl, sym, ap, _∙_, subst}
 use mathlib.Core.Bool.{Bool, true, false, cond}
 use mathlib.Core.List.{List}
 use native.Mathlib.Numerals.{add-one}
 use native.Mathlib.Omega.{arith}
 use lib.Dec.{eqb}
-use borrow.Author.Tests.{eq-eqb, ne-eqb}
+use borrow.Author.Tests.{eqb-true, eq-eqb, ne-eqb}
+use Rattle.lists.proofs.Choices.{cond-one}
 use Rattle.page.specs.declared.Head.{Head}
 use Rattle.image.specs.Images.{Image, Cell, free, next-in}
 use Rattle.steps.specs.Supply.{put, with-supply, spare, taken, given-back, with-root, count-change}
@@ -95,6 +97,23 @@ module _ {q : ℕ} {X : Image} (w : In-image q X) where
   pub within-rooted : (height p : ℕ) → In-image q (with-root height p X)
   unfolding with-root
   within-rooted height p = record { least = w .least; below = w .below }
+
+-- ---- a page written again, or as it is
+
+pub put-again : (p : ℕ) (c d : Cell) (X : Image) → put p c (put p d X) ≡ put p c X
+unfolding put
+put-again p c d X = λ j. record { head = X .head; page = λ q. over (eqb q p) (X .page q) j }
+  where
+    over : (b : Bool) (old : Cell) → cond b c (cond b d old) ≡ cond b c old
+    over true old = refl
+    over false old = refl
+
+pub put-same : (p : ℕ) {c : Cell} (X : Image) → X .page p ≡ c → put p c X ≡ X
+unfolding put
+put-same p {c} X h = λ j. record { head = X .head; page = λ q. still q j }
+  where
+    still : (q : ℕ) → cond (eqb q p) c (X .page q) ≡ X .page q
+    still q = cond-one (λ d. d ≡ X .page q) (eqb q p) (λ e. sym h ∙ ap (X .page) (sym (eqb-true q p e))) (λ e. refl)
 
 -- ---- giving one back, and counting
 

@@ -1,15 +1,17 @@
 // The entries of a tree page, read from its bytes one at a time: no page is decoded for a number or two.
 use super::Found;
 use access::pages::page_at;
+use fit::contexts::end_at;
 use lookup::find::find;
 use page::Entry;
 use page::at::entry_at;
 use page::at::entry_count;
 ghost use mathlib.Core.Path.{_≡_};
-ghost use Prim.Native.Nat.{_≤_};
-ghost use lib.ListN.{length};
+ghost use Prim.Native.Nat.{suc, _≤_};
+ghost use lib.ListN.{length, drop};
 ghost use Rattle.page.specs.Entries.{at};
 ghost use Rattle.steps.specs.Supply.{entries};
+ghost use Rattle.steps.specs.Combine.{next-start};
 ghost use Rattle.store.specs.Encoding.{Pre-level, Post-level};
 ghost use Rattle.store.specs.Preconditions.{Tree-page, Has-entry, Searchable, found-in};
 
@@ -27,6 +29,14 @@ pub fn entry_of(img: &[u8], p: u32, i: usize) -> Entry
     ensures { λ r. ⌜ Post-level (now (img .entry)) (λ l. Has-entry l p i) (λ l X. r ≡ at (entries X p) i) ⌝ }
 {
     entry_at(page_at(img, p), i)
+}
+
+// Where the i-th entry of page p ends, if the page ends at hi.
+pub fn entry_end(img: &[u8], p: u32, hi: u32, i: usize) -> u32
+    requires { ⌜ Pre-level (now img) (λ l. Has-entry l p i) ⌝ }
+    ensures { λ r. ⌜ Post-level (now (img .entry)) (λ l. Has-entry l p i) (λ l X. r ≡ next-start hi (drop (suc i) (entries X p))) ⌝ }
+{
+    end_at(page_at(img, p), hi, i)
 }
 
 // The last entry of page p starting at t or before.
