@@ -1,3 +1,5 @@
--- `Laws` has what step C's definitions come to in each case, `Loop` the loop over a page's entries.
+-- `Laws` has what step C's definitions come to in each case, `Sent` the loop in which a page's entries send the effect below, `Taken` the
+-- one in which they take it.
 pub mod Laws
-pub mod Loop
+pub mod Sent
+pub mod Taken

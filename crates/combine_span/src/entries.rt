@@ -1,16 +1,22 @@
-// What the effect does to one entry of a page.
+// "an entry wholly inside the span takes the effect": in place, and nothing else of the page is written.
 use crate::SpanEffect;
-use edit::entry::entry_at;
 use page::Entry;
-use page::Page;
 use rule::combine::combine;
+use store::edits::set_entry;
+use store::entries::entry_count_in;
+use store::entries::entry_end;
+use store::entries::entry_of;
 ghost use mathlib.Core.Path.{_≡_};
-ghost use mathlib.Core.Bool.{true};
-ghost use Prim.Native.Nat.{suc, _<_, _≤_};
-ghost use lib.ListN.{drop};
-ghost use Rattle.page.specs.Decoded.{entry-list};
-ghost use Rattle.steps.specs.Combine.{inside, next-start};
-ghost use Rattle.combine_span.specs.SpanCombinable.{took-by, Takes};
+ghost use mathlib.Core.List.{[], _∷_};
+ghost use Rattle.lists.specs.Lists.{splice};
+ghost use Rattle.rule.specs.Pairs.{combine};
+ghost use Rattle.rule.specs.Bounds.{Combinable};
+ghost use Rattle.page.specs.Entries.{at, entry};
+ghost use Rattle.image.specs.Images.{tree};
+ghost use Rattle.steps.specs.Supply.{entries, put};
+ghost use Rattle.steps.specs.Combine.{inside};
+ghost use Rattle.store.specs.Encoding.{Encodes, Pre-level, Post-level};
+ghost use Rattle.combine_span.specs.SpanCombinable.{end-in, took-by, all-took, Entry-takes, Page-takes};
 
 // Whether [lo, hi) lies wholly inside [s, e).
 pub(crate) fn inside(s: u32, e: u32, lo: u32, hi: u32) -> bool
@@ -19,32 +25,44 @@ pub(crate) fn inside(s: u32, e: u32, lo: u32, hi: u32) -> bool
     (s <= lo) & (hi <= e)
 }
 
-// Where the i-th entry ends: at the next one's start, the last at the page's own end.
-pub(crate) fn end_of(page: Page, hi: u32, i: usize) -> u32
-    requires { ⌜ (i < page .len) × (page .len ≤ 25) ⌝ }
-    ensures { λ r. ⌜ r ≡ next-start hi (drop (suc i) (entry-list page)) ⌝ }
+// The entry with the effect combined into its pair.
+fn with_effect(q: SpanEffect, x: Entry) -> Entry
+    requires { ⌜ Combinable (x .pair) (q .effect) ⌝ }
+    ensures { λ r. ⌜ r ≡ entry (x .start) (combine (q .kind) (x .pair) (q .effect)) (x .child) ⌝ }
 {
-    let next = i + 1;
-    if next < page.len {
-        let x = entry_at(page, next);
-        return x.start;
-    }
-    hi
-}
-
-// "an entry wholly inside the span takes the effect": the entry as it is then.
-pub(crate) fn took(q: SpanEffect, hi: u32, x: Entry) -> Entry
-    requires { ⌜ Takes q hi x ⌝ }
-    ensures { λ r. ⌜ r ≡ took-by q hi x ⌝ }
-{
-    if !inside(q.s, q.e, x.start, hi) {
-        return x;
-    }
     let own = x.pair;
     let pair = combine(q.kind, own, q.effect);
     Entry {
         start: x.start,
         pair,
         child: x.child,
+    }
+}
+
+// The i-th entry of page p, which ends at hi.
+fn entry_takes(img: &mut [u8], q: SpanEffect, hi: u32, p: u32, i: usize)
+    requires { ⌜ Pre-level (now img) (Entry-takes q hi p i) ⌝ }
+    ensures { λ _. ⌜ Post-level (now (img .entry)) (Entry-takes q hi p i) (λ l X. Encodes (now (img .exit))
+        (put p (tree l (splice i (took-by q (end-in hi (entries X p) i) (at (entries X p) i) ∷ []) (entries X p))) X)) ⌝ }
+{
+    let x = entry_of(img, p, i);
+    let end = entry_end(img, p, hi, i);
+    if !inside(q.s, q.e, x.start, end) {
+        return;
+    }
+    set_entry(img, p, i, with_effect(q, x))
+}
+
+// All entries of page p, which ends at hi.
+pub(crate) fn take_effect(img: &mut [u8], q: SpanEffect, hi: u32, p: u32)
+    requires { ⌜ Pre-level (now img) (Page-takes q hi p) ⌝ }
+    ensures { λ _. ⌜ Post-level (now (img .entry)) (Page-takes q hi p)
+        (λ l X. Encodes (now (img .exit)) (put p (tree l (all-took q hi (entries X p))) X)) ⌝ }
+{
+    let n = entry_count_in(img, p);
+    let mut i = 0;
+    while i < n {
+        entry_takes(img, q, hi, p, i);
+        i += 1;
     }
 }

@@ -1,46 +1,44 @@
-// A page by its entries, and an inner entry partly inside the span by the page below it.
+// A page by its entries, and an inner entry partly inside the span by the page below it. No page is decoded.
 use crate::SpanEffect;
-use crate::entries::end_of;
 use crate::entries::inside;
-use crate::entries::took;
-use edit::entry::entry_at;
-use edit::entry::replace;
+use crate::entries::take_effect;
 use page::Entry;
 use rule::time::overlaps;
-use store::pages::load;
-use store::pages::save;
-ghost use Prim.Native.Nat.{_<_};
+use store::entries::entry_count_in;
+use store::entries::entry_end;
+use store::entries::entry_of;
+ghost use Prim.Native.Nat.{_≤_};
 ghost use Rattle.store.specs.Encoding.{Encodes, Pre, Post};
 ghost use Rattle.combine_span.specs.SpanCombinable.{page-by, sent-by, Page-combinable, Entry-combinable};
 
-// Page p of the level named, which ends at hi: its entries in turn, each with what it sends below, and then the page is written.
+// Page p of the level named, which ends at hi: what its entries send below, one after the other, and then what they take themselves. The
+// page is read from the image as it is at each turn: what was sent below has left it as it was.
 pub(crate) fn combine_page(img: &mut [u8], q: SpanEffect, level: u32, hi: u32, p: u32)
-    requires { ⌜ level < 255 ⌝ }
     requires { ⌜ Pre (now img) (Page-combinable q level hi p) ⌝ }
     ensures { λ _. ⌜ Post (now (img .entry)) (Page-combinable q level hi p) (λ X. Encodes (now (img .exit)) (page-by q level hi p X)) ⌝ }
 {
-    let mut page = load(img, p);
+    // A leaf has no pages below.
+    if level == 0 {
+        take_effect(img, q, hi, p);
+        return;
+    }
+    let n = entry_count_in(img, p);
     let mut i = 0;
-    while i < page.len {
-        let x = entry_at(page, i);
-        let end = end_of(page, hi, i);
+    while i < n {
+        let x = entry_of(img, p, i);
+        let end = entry_end(img, p, hi, i);
         combine_entry(img, q, level, end, x);
-        page = replace(page, i, took(q, end, x));
         i += 1;
     }
-    save(img, p, page)
+    take_effect(img, q, hi, p)
 }
 
-// "one partly inside sends it to its child": what an entry of a page of that level, which ends at hi, sends below. The level falls.
+// "one partly inside sends it to its child": what an entry of an inner page of that level, which ends at hi, sends below. The level falls.
 fn combine_entry(img: &mut [u8], q: SpanEffect, level: u32, hi: u32, x: Entry)
-    requires { ⌜ level < 255 ⌝ }
+    requires { ⌜ 1 ≤ level ⌝ }
     requires { ⌜ Pre (now img) (Entry-combinable q level hi x) ⌝ }
     ensures { λ _. ⌜ Post (now (img .entry)) (Entry-combinable q level hi x) (λ X. Encodes (now (img .exit)) (sent-by q level hi x X)) ⌝ }
 {
-    // A leaf has no page below.
-    if level == 0 {
-        return;
-    }
     if inside(q.s, q.e, x.start, hi) {
         return;
     }

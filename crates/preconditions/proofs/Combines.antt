@@ -34,7 +34,6 @@ use Rattle.refinement.proofs.Paths.{entries-are, subtrees-represented}
 use Rattle.refinement.proofs.Combine.{Sent, sent-in, sent-within, below-of, sent-is}
 use Rattle.invariant.proofs.To.Weights.{Weighed, bounds-weighed, weighed-below}
 use Rattle.invariant.proofs.To.Known.{structure-once, held-is, tree-inside}
-use Rattle.invariant.proofs.To.Height.{height-most}
 use Rattle.invariant.specs.Invariant.{Structure}
 use Rattle.preconditions.proofs.Pairs.{effect-combinable}
 
@@ -83,16 +82,17 @@ module _ (q : SpanEffect) where
   sent-on l hi x X a once =
       subst (λ (Z : Image). SentTo l hi x X Z) (sent-same l hi (x .entry) X) (sent-is rule (q .s) (q .e) (q .effect) l hi x X a once)
 
-  -- ---- a page, by the pages below its entries, each of which is W
+  -- ---- a page, by the pages below its entries, each of which is W: the page itself, c, is none of them
 
   module _ (n l : ℕ) (W : Node (Subtree l) → Type 0) (combines : (y : Node (Subtree l)) → W y → Combinable (y .entry .pair) (q .effect))
       (below : (hi : ℕ) (y : Node (Subtree l)) (Z : Image) → W y → Stores l (Z .page) y → Apart n (λ p. times p (pages-under l y))
       → Z .head .pages ≡ n → Below-combinable q l hi (y .entry .child) Z) where
-    entries-ready : (hi : ℕ) (es : Nodes l) (Z : Image) → All W es → All (λ y. Stores l (Z .page) y) es → Apart n (λ p. times-below l p es)
-        → Z .head .pages ≡ n → Entries-combinable q (Below-combinable q l) l hi (flat es) Z
+    entries-ready : (hi c : ℕ) (es : Nodes l) (Z : Image) → All W es → All (λ y. Stores l (Z .page) y) es
+        → Apart n (λ p. times-below l p es) → times-below l c es ≡ 0 → Z .head .pages ≡ n
+        → Entries-combinable q (Below-combinable q l) l hi c (flat es) Z
     unfolding Entries-combinable
-    entries-ready hi [] Z w a o m = tt
-    entries-ready hi (x ∷ xs) Z w a o m =
+    entries-ready hi c [] Z w a o none m = tt
+    entries-ready hi c (x ∷ xs) Z w a o none m =
         let end = next-start hi (flat xs) in
         let here : Apart n (λ p. times p (pages-under l x)) = fewer o (λ p. omega (arith, below-cons l p x xs)) in
         let later : Apart n (λ p. times-below l p xs) = fewer o (λ p. omega (arith, below-cons l p x xs)) in
@@ -102,7 +102,9 @@ module _ (q : SpanEffect) where
         (λ p. omega (arith, o .once p, below-cons l p x xs, sent-within (q .s) (q .e) l p end x)) in (
           record { combines = λ h. combines x (all-head w) },
           record { ready = λ h k. below end x Z (all-head w) (all-head a) here m },
-          entries-ready hi xs (sent-by q l end (x .entry) Z) (all-tail w) still later (ap (λ (h : Head). h .pages) (u .head) ∙ m),
+          u .frame c (omega (arith, below-cons l c x xs, sent-within (q .s) (q .e) l c end x)),
+          entries-ready hi c xs (sent-by q l end (x .entry) Z) (all-tail w) still later (omega (arith, below-cons l c x xs))
+              (ap (λ (h : Head). h .pages) (u .head) ∙ m),
         )
 
     page-ready : (hi : ℕ) (x : Node (Subtree (suc l))) (Z : Image) → All W (x .subtree) → Stores (suc l) (Z .page) x
@@ -119,8 +121,9 @@ module _ (q : SpanEffect) where
                 page = a .0 ∙ ap (λ (es : List Entry). tree l es) (sym e);
               };
           each =
-              subst⁻¹ (λ (es : List Entry). Entries-combinable q (Below-combinable q l) l hi es Z) e
-              (entries-ready hi (x .subtree) Z w (subtrees-represented l Z x a) (fewer o (λ p. omega (arith, under-suc l p x))) m);
+              subst⁻¹ (λ (es : List Entry). Entries-combinable q (Below-combinable q l) l hi c es Z) e
+              (entries-ready hi c (x .subtree) Z w (subtrees-represented l Z x a) (fewer o (λ p. omega (arith, under-suc l p x)))
+              (omega (arith, o .once c, under-suc l c x, hit-self c)) m);
         }
 
   -- ---- down the levels
@@ -158,5 +161,4 @@ module _ (q : SpanEffect) where
 pub span-combinable : {kind changes : ℕ} {X : Image} {Y : State} (q : SpanEffect) → Effective kind (q .effect)
     → Structure 12 kind changes X Y
     → Span-combinable q X
-span-combinable {X = X} {Y = Y} q f g =
-    record { least = omega (arith, g .shown .height); most = height-most X Y g; root = root-ready q X f g }
+span-combinable {X = X} q f g = record { least = omega (arith, g .shown .height); root = root-ready q X f g }

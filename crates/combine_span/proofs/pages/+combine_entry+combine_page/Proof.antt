@@ -1,5 +1,5 @@
 -- The cycle of `combine_page` and `combine_entry` meets its contracts. A page's measure is 2·level + 1, an entry's 2·level: the level falls
--- from an entry to the page below. The loop's invariant: what was passed has taken the effect and sent it below. Assumes nothing.
+-- from an entry to the page below. The loop's invariant: the entries passed have sent below what they send. Assumes nothing.
 use mathlib.Core.Path.{sym, _∙_, subst}
 use Prim.Native.Nat.{ℕ, _+_, _*_, _-_, _<_}
 use native.Mathlib.Omega.{arith}
@@ -8,22 +8,20 @@ use borrow.Author.Tests.{not-true, not-false}
 use borrow.Fn.Kinds.{In}
 use borrow.Fn.PlainCycle.{Measures, is, falls, and}
 use Rattle.store.specs.Encoding.{Encodes}
-use Rattle.combine_span.proofs.Laws.{sent-leaf, sent-inside, sent-apart, combinable-below, sent-below}
-use Rattle.combine_span.proofs.Loop as turns
+use Rattle.combine_span.proofs.Laws.{sent-inside, sent-apart, combinable-below, sent-below}
+use Rattle.combine_span.proofs.Sent as turns
 use Rattle.combine_span.proofs.pages.combine_entry.Reads as combine-entry
 use Rattle.combine_span.proofs.pages.combine_entry.Kinds as combine-entry-kinds
 use Rattle.combine_span.proofs.pages.+combine_entry+combine_page.Lts-combine_entry as combine-entry-lts
 use Rattle.combine_span.proofs.pages.combine_page.Reads as combine-page
 use Rattle.combine_span.proofs.pages.combine_page.Kinds as combine-page-kinds
 use Rattle.combine_span.proofs.pages.+combine_entry+combine_page.Lts-combine_page as combine-page-lts
-use Rattle.edit.proofs.entry.entry_at.Reads as entry-at-reads
-use Rattle.edit.proofs.entry.replace.Reads as replace-reads
-use Rattle.combine_span.proofs.entries.end_of.Reads as end-of-reads
 use Rattle.combine_span.proofs.entries.inside.Reads as inside-reads
+use Rattle.combine_span.proofs.entries.take_effect.Reads as take-effect-reads
 use Rattle.rule.proofs.time.overlaps.Reads as overlaps-reads
-use Rattle.combine_span.proofs.entries.took.Reads as took-reads
-use Rattle.store.proofs.pages.load.Reads as load-reads
-use Rattle.store.proofs.pages.save.Reads as save-reads
+use Rattle.store.proofs.entries.entry_count_in.Reads as entry-count-in-reads
+use Rattle.store.proofs.entries.entry_end.Reads as entry-end-reads
+use Rattle.store.proofs.entries.entry_of.Reads as entry-of-reads
 use Rattle.combine_span.proofs.pages.+combine_entry+combine_page.{statement}
 use Rattle.combine_span.proofs.pages.+combine_entry+combine_page.Tie.{close}
 
@@ -47,10 +45,10 @@ abbrev combine-page-below : ℕ → In 1 combine-page-kinds.ps
 combine-page-below t = and 1 combine-page-kinds.ps (falls 1 combine-page-kinds.ps _<_ μ-combine-page t) combine-page.Pre
 
 abbrev Inv-loop : combine-page-lts.InvT-loop
-Inv-loop img₀ q level hi p page₀ i₀ img page i = turns.Turning q level hi p img₀ page i img
+Inv-loop img₀ q level hi p n i₀ img i = turns.Sending q level hi p img₀ n i img
 
 abbrev μ-loop : combine-page-lts.MeasureT-loop
-μ-loop img₀ q level hi p page₀ i₀ img page i = 24 - i
+μ-loop img₀ q level hi p n i₀ img i = n - i
 
 pub +combine-entry+combine-page-spec : {M : Type 1} → statement M
 +combine-entry+combine-page-spec =
@@ -64,117 +62,119 @@ pub +combine-entry+combine-page-spec : {M : Type 1} → statement M
       combine-page-below t,
       combine-page.Post,
     ) (combine-entry-at t) combine-entry.Post
-    -- returns
-    (λ c X h r. subst (Encodes _) (sent-leaf _ _ _ _ X (c .if1 .taken)) h)
     -- inside-requires
     (λ c κs. search needs)
-    -- returns-2
-    (λ c X h r. subst (Encodes _) (sent-inside _ _ _ _ X (sym (c .before .inside .ensures) ∙ c .if2 .taken)) h)
+    -- returns
+    (λ c X h r. subst (Encodes _) (sent-inside _ _ _ _ X (sym (c .before .inside .ensures) ∙ c .if1 .taken)) h)
     -- overlaps-requires
     (λ c κs. search needs)
-    -- returns-3
+    -- returns-2
     (λ c X h r.
     let out = c .before .before in
-    let apart = sym (out .before .inside .ensures) ∙ out .if2 .left in
-    subst (Encodes _) (sent-apart _ _ _ _ X apart (sym (c .before .overlaps .ensures) ∙ not-true _ (c .if3 .taken))) h)
+    let apart = sym (out .before .inside .ensures) ∙ out .if1 .left in
+    subst (Encodes _) (sent-apart _ _ _ _ X apart (sym (c .before .overlaps .ensures) ∙ not-true _ (c .if2 .taken))) h)
     -- sub-combine-page
-    (λ c. omega (arith, c .before .before .before .before .before .if1 .left))
+    (λ c. let out = c .before .before .before in out .before .before .before .pre .1 .0)
     -- combine-page-requires
     (λ c κs.
     let met = c .before in
     let out = met .before .before in
-    let inner = out .before .before in
-    let start = inner .before .before in
-    let apart = sym (out .before .inside .ensures) ∙ out .if2 .left in
-    let meets = sym (met .before .overlaps .ensures) ∙ not-false _ (met .if3 .left) in
-    let s = start .pre .1 .1 in (
-      omega (arith, start .pre .0, inner .if1 .left),
-      (
-        omega (arith, start .pre .1 .0),
-        record {
-          image = s .image;
-          holds = s .holds;
-          ready = combinable-below _ _ _ _ _ (inner .if1 .left) apart meets (s .ready);
-        },
-      ),
+    let pre = out .before .before .before .pre in
+    let apart = sym (out .before .inside .ensures) ∙ out .if1 .left in
+    let meets = sym (met .before .overlaps .ensures) ∙ not-false _ (met .if2 .left) in
+    let s = pre .1 .1 in (
+      omega (arith, pre .0, pre .1 .0),
+      record { image = s .image; holds = s .holds; ready = combinable-below _ _ _ _ _ (pre .1 .0) apart meets (s .ready) },
     ))
     -- same-length
     (λ c. search needs)
-    -- returns-4
+    -- returns-3
     (λ c X h r.
     let call = c .before .before in
     let met = call .before .before in
     let out = met .before .before in
-    let some = out .before .before .if1 .left in
-    let apart = sym (out .before .inside .ensures) ∙ out .if2 .left in
-    let meets = sym (met .before .overlaps .ensures) ∙ not-false _ (met .if3 .left) in
+    let some = out .before .before .before .pre .1 .0 in
+    let apart = sym (out .before .inside .ensures) ∙ out .if1 .left in
+    let meets = sym (met .before .overlaps .ensures) ∙ not-false _ (met .if2 .left) in
     subst (Encodes _) (sent-below _ _ _ _ X some apart meets)
     (call .combine-page .ensures X h (combinable-below _ _ _ _ X some apart meets r))))
     λ t. combine-page-lts.spec (
-      load-reads.Asked,
-      load-reads.Learnt,
-      entry-at-reads.Asked,
-      entry-at-reads.Learnt,
-      end-of-reads.Asked,
-      end-of-reads.Learnt,
+      take-effect-reads.Asked,
+      take-effect-reads.Learnt,
+      entry-count-in-reads.Asked,
+      entry-count-in-reads.Learnt,
+      entry-of-reads.Asked,
+      entry-of-reads.Learnt,
+      entry-end-reads.Asked,
+      entry-end-reads.Learnt,
       combine-entry-below t,
       combine-entry.Post,
-      took-reads.Asked,
-      took-reads.Learnt,
-      replace-reads.Asked,
-      replace-reads.Learnt,
-      save-reads.Asked,
-      save-reads.Learnt,
     ) (combine-page-at t) combine-page.Post Inv-loop μ-loop
-    -- load-requires
-    (λ c κs. let s = c .before .before .pre .1 .1 in record { image = s .image; holds = s .holds; ready = s .ready .tree-page .within })
-    -- loop-holds
-    (λ c. turns.none _ _ _ _ (c .before .before .before .pre .1 .1) (c .load .ensures))
-    -- entry-at-requires
-    (λ c κs. omega (arith, c .before .before .loop .inv .few))
-    -- end-of-requires
-    (λ c κs. omega (arith, c .before .before .before .loop .inv .few))
-    -- combine-entry-requires
+    -- take-effect-requires
     (λ c κs.
-    let end = c .before in
-    let at = end .before in
-    let loop = at .before .before .before in
-    let pre = loop .before .before .before .before .pre in
-    let sends = turns.sends _ _ _ _ (loop .loop .inv) (at .before .if1 .taken) (at .entry-at .ensures) (end .end-of .ensures) (pre .1 .1) in
-    (omega (arith, pre .0), (pre .1 .0, sends)))
-    -- took-requires
-    (λ c κs.
-    let end = c .before .before .before .before in
-    let at = end .before in
-    let loop = at .before .before .before in
-    let pre = loop .before .before .before .before .pre in
-    turns.takes _ _ _ _ (loop .loop .inv) (at .before .if1 .taken) (at .entry-at .ensures) (end .end-of .ensures) (pre .1 .1))
-    -- replace-requires
-    (λ c κs. let loop = c .before .before .before .before .before .before .before .before .before in omega (arith, loop .loop .inv .few))
-    -- add-i
-    (λ c. omega arith)
-    -- loop-less
-    (λ c.
-    let then = c .before .before .before .before .before .before .before .before in
-    omega (arith, then .if1 .taken, then .before .before .loop .inv .few))
-    -- loop-again
-    (λ c.
-    let call = c .before .before .before .before in
-    let end = call .before .before in
-    let at = end .before in
-    turns.more _ _ _ _ (at .before .before .before .loop .inv) (at .before .if1 .taken) (at .entry-at .ensures) (end .end-of .ensures)
-    (call .combine-entry .ensures) (call .combine-entry .kept .0) (c .before .took .ensures) (c .replace .ensures))
-    -- save-requires
-    (λ c κs.
-    let loop = c .before .before .before in
-    let inv = loop .loop .inv in
-    let start = loop .before .before .before .before in
-    let s = start .pre .1 .1 in
-    (turns.within _ _ _ _ inv s, (omega (arith, start .pre .1 .0, turns.level-is _ _ _ _ inv s), inv .few)))
+    let leaf = c .before in
+    turns.can-take _ _ _ _ (turns.leaf-sent _ _ _ _ (leaf .if1 .taken)) (leaf .before .before .pre .1))
     -- same-length
-    (λ c. let call = c .before .before in call .save .kept .0 ∙ call .before .before .before .before .loop .inv .same)
+    (λ c. search needs)
     -- returns
     (λ c.
     let call = c .before .before in
-    let else = call .before .before in
-    turns.all _ _ _ _ (else .before .before .loop .inv) (else .if1 .left) (call .save .ensures))
+    let leaf = call .before .before in
+    turns.took _ _ _ _ (turns.leaf-sent _ _ _ _ (leaf .if1 .taken)) (call .take-effect .ensures))
+    -- entry-count-in-requires
+    (λ c κs.
+    let s = c .before .before .before .pre .1 in
+    record { image = s .image; holds = s .holds; ready = (_, s .ready .tree-page) })
+    -- loop-holds
+    (λ c. turns.none _ _ _ _ (c .entry-count-in .ensures))
+    -- entry-of-requires
+    (λ c κs.
+    let turn = c .before in
+    let loop = turn .before in
+    let inner = loop .before .before .before in
+    turns.some-has _ _ _ _ (loop .loop .inv) (turn .loop-test .taken) (inner .before .before .pre .1))
+    -- entry-end-requires
+    (λ c κs.
+    let turn = c .before .before .before in
+    let loop = turn .before in
+    let inner = loop .before .before .before in
+    turns.some-has _ _ _ _ (loop .loop .inv) (turn .loop-test .taken) (inner .before .before .pre .1))
+    -- combine-entry-requires
+    (λ c κs.
+    let end = c .before in
+    let at = end .before .before in
+    let turn = at .before .before in
+    let loop = turn .before in
+    let inner = loop .before .before .before in
+    let pre = inner .before .before .pre in (
+      omega (arith, pre .0),
+      (
+        omega (arith, inner .if1 .left),
+        turns.sends _ _ _ _ (loop .loop .inv) (turn .loop-test .taken) (at .entry-of .ensures) (end .entry-end .ensures) (pre .1),
+      ),
+    ))
+    -- add-i
+    (λ c. omega arith)
+    -- loop-less
+    (λ c. omega arith)
+    -- loop-again
+    (λ c.
+    let call = c .before .before in
+    let end = call .before .before in
+    let at = end .before .before in
+    let turn = at .before .before in
+    turns.more _ _ _ _ (turn .before .loop .inv) (turn .loop-test .taken) (at .entry-of .ensures) (end .entry-end .ensures)
+    (call .combine-entry .ensures) (call .combine-entry .kept .0))
+    -- take-effect-requires-2
+    (λ c κs.
+    let end = c .before in
+    let loop = end .before in
+    let inner = loop .before .before .before in
+    turns.can-take _ _ _ _ (turns.all-sent-of _ _ _ _ (loop .loop .inv) (end .loop-test .left)) (inner .before .before .pre .1))
+    -- same-length-2
+    (λ c. let call = c .before .before in call .take-effect2 .kept .0 ∙ call .before .before .before .loop .inv .same)
+    -- returns-2
+    (λ c.
+    let call = c .before .before in
+    let end = call .before .before in
+    turns.took _ _ _ _ (turns.all-sent-of _ _ _ _ (end .before .loop .inv) (end .loop-test .left)) (call .take-effect2 .ensures))

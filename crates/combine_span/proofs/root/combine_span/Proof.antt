@@ -1,6 +1,5 @@
 -- `combine_span::root::combine_span` meets its contract: the root's page and level stand in the head that was read. Assumes nothing.
 use borrow.Author.Needs.{needs}
-use native.Mathlib.Omega.{arith}
 use Rattle.steps.specs.Combine.{combine-span}
 use Rattle.store.specs.Encoding.{Encodes}
 use Rattle.store.proofs.Supplying.{by-head, Headed, some-headed}
@@ -20,7 +19,7 @@ sub-combine-page c = headed (c .before .before) .ready .least
 combine-page-requires : tie.Need-combine-page-requires
 combine-page-requires c κs =
     let k = headed (c .before .before) in
-    (omega (arith, k .ready .most), record { image = _; holds = k .holds; ready = k .ready .root })
+    record { image = _; holds = k .holds; ready = k .ready .root }
 
 returns : tie.Need-returns
 unfolding combine-span
