@@ -27,12 +27,12 @@ meets-by q hi x = overlaps (q .s) (q .e) (x .start) hi
 abbrev pub took-by : SpanEffect → ℕ → Entry → Entry
 took-by q = took (combine (q .kind)) (q .s) (q .e) (q .effect)
 
--- the entries of a page that ends at hi, each as it is then
+-- the entries of a page that ends at hi, each as it is once those inside have taken the effect
 unfoldable pub all-took : SpanEffect → ℕ → List Entry → List Entry
 all-took q hi [] = []
 all-took q hi (x ∷ xs) = took-by q (next-start hi xs) x ∷ all-took q hi xs
 
--- where the i-th of them ends
+-- where the i-th entry of such a page ends
 abbrev pub end-in : ℕ → List Entry → ℕ → ℕ
 end-in hi es i = next-start hi (drop (suc i) es)
 
@@ -56,12 +56,12 @@ combine-span-by q = combine-span (combine (q .kind)) (q .s) (q .e) (q .effect)
 pub record Takes (q : SpanEffect) (hi : ℕ) (x : Entry) : Type 0 where
   pub combines : inside-by q hi x ≡ true → Combinable (x .pair) (q .effect)
 
--- the i-th entry of page p can
+-- the same of the i-th entry of page p, a tree page of that level
 pub record Entry-takes (q : SpanEffect) (hi p i level : ℕ) (X : Image) : Type 0 where
   pub has : Has-entry level p i X
   pub takes : Takes q (end-in hi (entries X p) i) (at (entries X p) i)
 
--- each of them can
+-- the same of each of its entries
 pub record Page-takes (q : SpanEffect) (hi p level : ℕ) (X : Image) : Type 0 where
   pub tree-page : Tree-page level p X
   pub each : (i : ℕ) → i < length (entries X p) → Takes q (end-in hi (entries X p) i) (at (entries X p) i)

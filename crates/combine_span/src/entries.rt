@@ -39,7 +39,7 @@ fn with_effect(q: SpanEffect, x: Entry) -> Entry
     }
 }
 
-// The i-th entry of page p, which ends at hi.
+// The i-th entry of page p, a page that ends at hi: it is written only if it is inside.
 fn entry_takes(img: &mut [u8], q: SpanEffect, hi: u32, p: u32, i: usize)
     requires { ⌜ Pre-level (now img) (Entry-takes q hi p i) ⌝ }
     ensures { λ _. ⌜ Post-level (now (img .entry)) (Entry-takes q hi p i) (λ l X. Encodes (now (img .exit))
