@@ -1,4 +1,4 @@
--- A page that gained an entry, written as one page or as two. Assumes nothing.
+-- A page that gains an entry, written as one page or as two. Assumes nothing.
 use Prim.Native.Nat.{ℕ, suc, _+_, _≤_, _<_}
 use mathlib.Core.Path.{_≡_, refl, sym, ap, _∙_, subst}
 use mathlib.Core.Bool.{Bool, true, false, cond}
@@ -18,7 +18,6 @@ use Rattle.steps.specs.Supply.{put, spare, taken}
 use Rattle.steps.specs.Cut.{Cutting, not-split, split, split-if-full}
 use Rattle.edit.specs.Contents.{Has-entries}
 use Rattle.edit.proofs.Edits.{has-len, splice-inserted}
-use Rattle.page.proofs.Laws.Decoded.{length-shown}
 use Rattle.store.specs.Encoding.{Encodes}
 use Rattle.store.specs.Preconditions.{In-image, Takable}
 use Rattle.store.proofs.Supplying.{within-taken}
@@ -43,16 +42,12 @@ has-tree s = λ j. tree (s .level j) (s .entries j)
 
 -- ---- the two halves
 
-module _ {l : ℕ} (page : Page) {half : Page} (n : page .len ≡ 25) where
-  pub left-len : Has-entries l (take 12 (entry-list page)) half → half .len ≡ 12
-  left-len s =
-      let long : length (entry-list page) ≡ page .len = length-shown page in
-      has-len s ∙ length-take-le 12 (entry-list page) (omega arith)
+module _ {l : ℕ} (es : List Entry) {half : Page} (n : length es ≡ 25) where
+  pub left-len : Has-entries l (take 12 es) half → half .len ≡ 12
+  left-len s = has-len s ∙ length-take-le 12 es (omega arith)
 
-  pub right-len : Has-entries l (drop 12 (entry-list page)) half → half .len ≡ 13
-  right-len s =
-      let long : length (entry-list page) ≡ page .len = length-shown page in
-      omega (arith, has-len s, length-drop 12 (entry-list page))
+  pub right-len : Has-entries l (drop 12 es) half → half .len ≡ 13
+  right-len s = omega (arith, has-len s, length-drop 12 es)
 
 -- the taken page is one of the image's
 pub spare-within : {q : ℕ} {X : Image} → q ≡ spare X → Takable X → In-image q (taken X)
@@ -89,24 +84,13 @@ module _ (e : Entry) (level : ℕ) (es : List Entry) (X : Image) {after : List �
 
 -- ---- an entry that becomes two
 
-length-inserted : {A : Type 0} (i : ℕ) (x : A) (xs : List A) → i ≤ length xs → length (inserted i x xs) ≡ suc (length xs)
+pub length-inserted : {A : Type 0} (i : ℕ) (x : A) (xs : List A) → i ≤ length xs → length (inserted i x xs) ≡ suc (length xs)
 unfolding inserted
 length-inserted i x xs h = omega (arith, length-append (take i xs) (x ∷ drop i xs), length-take-le i xs h, length-drop i xs)
 
-module _ (page : Page) (i : ℕ) (new : Entry) {r : Page} (s : Has-entries (page .level) (inserted (i + 1) new (entry-list page)) r)
-    (h : i < page .len) where
-  pub inserted-after-len : r .len ≡ suc (page .len)
-  inserted-after-len =
-      let n : length (entry-list page) ≡ page .len = length-shown page in
-      has-len s ∙ length-inserted (i + 1) new (entry-list page) (omega arith) ∙ ap suc n
-
-  -- the new one stands behind its old one, with the same pair
-  pub inserted-after-entries : (start child : ℕ) → new ≡ entry start (at (entry-list page) i .pair) child
-      → entry-list r ≡ inserted-after i start child (entry-list page)
-  unfolding inserted-after became
-  inserted-after-entries start child same =
-      let n : length (entry-list page) ≡ page .len = length-shown page in
-      s .entries
-      ∙ (λ j. inserted (add-one i j) (same j) (entry-list page))
-      ∙ sym (splice-inserted i (at (entry-list page) i) (entry start (at (entry-list page) i .pair) child) (entry-list page)
-      (omega arith) refl)
+-- the new one stands behind its old one, with the same pair
+pub inserted-after-is : (i start child : ℕ) (es : List Entry) {new : Entry} → i < length es → new ≡ entry start (at es i .pair) child
+    → inserted (i + 1) new es ≡ inserted-after i start child es
+unfolding inserted-after became
+inserted-after-is i start child es h same =
+    (λ j. inserted (add-one i j) (same j) es) ∙ sym (splice-inserted i (at es i) (entry start (at es i .pair) child) es h refl)

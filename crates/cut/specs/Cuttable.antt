@@ -1,27 +1,49 @@
 -- Images that can be cut: what steps A and B ask of each page that they read or write, in the image as the definition has it then.
 -- Assumes nothing.
 use Prim.Native.Nat.{ℕ, zero, suc, _≤_, _<_}
+use mathlib.Core.Path.{_≡_}
 use lib.ListN.{length}
 use Rattle.rule.specs.Time.{END}
 use Rattle.page.specs.declared.Entry.{Entry}
 use Rattle.image.specs.Images.{Image}
 use Rattle.steps.specs.Supply.{entries}
 use Rattle.steps.specs.Cut.{Cutting, cut-entry, root-entry}
-use Rattle.store.specs.Preconditions.{In-image, Searchable, entry-for, Takable}
+use Rattle.store.specs.Preconditions.{Tree-page, Has-entry, Searchable, entry-for, Takable}
 
--- a page that gained an entry can be written with n entries: "25 entries split"
-pub record Page-writable (p n : ℕ) (X : Image) : Type 0 where
-  pub within : In-image p X
-  pub room : 25 ≤ n → Takable X
+-- page p of level l can have one more entry as its i-th
+pub record Has-place (l p i : ℕ) (X : Image) : Type 0 where
+  pub tree-page : Tree-page l p X
+  pub inside : i ≤ length (entries X p)
+
+-- and there is room for it
+pub record Has-room (l p i : ℕ) (X : Image) : Type 0 where
+  pub place : Has-place l p i X
+  pub low : l < 255
+  pub few : length (entries X p) < 24
+
+-- or the page is full, and another can be taken: "25 entries split"
+pub record Splittable (l p i : ℕ) (X : Image) : Type 0 where
+  pub place : Has-place l p i X
+  pub low : l < 255
+  pub full : length (entries X p) ≡ 24
+  pub takable : Takable X
+
+-- page p of level l can gain an entry behind its i-th: if it is full, it can be split
+pub record Insertable (l p i : ℕ) (X : Image) : Type 0 where
+  pub has-entry : Has-entry l p i X
+  pub low : l < 255
+  pub room : 24 ≤ length (entries X p) → Takable X
 
 -- what becomes of the entry of page p that has t, and the image then: page p is of level l
 abbrev pub below : ℕ → ℕ → ℕ → Image → Cutting
 below l p t X = cut-entry 12 t l (entry-for t p X) X
 
--- Page p of level l can be searched for t, and if the entry there becomes two in a page of 24, a page can be taken then.
+-- Page p of level l can be searched for t. What is cut below it leaves it as it is, so that the entry is where it was found; if that
+-- became two in a page of 24, a page can be taken then.
 pub record Page-cuttable (l p t : ℕ) (X : Image) : Type 0 where
   pub searchable : Searchable l p t X
   pub low : l < 255
+  pub kept : below l p t X .image .page p ≡ X .page p
   pub room : 1 < length (below l p t X .became) → 24 ≤ length (entries X p) → Takable (below l p t X .image)
 
 -- so is each page on the way down from an entry; a leaf's leads nowhere

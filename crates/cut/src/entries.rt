@@ -3,7 +3,6 @@ use crate::SplitOutcome;
 use crate::split::insert_after;
 use page::Entry;
 use store::entries::find_entry;
-use store::pages::load;
 ghost use mathlib.Core.Path.{_≡_};
 ghost use Rattle.steps.specs.Cut.{cut-leaf-entry, cut-entry};
 ghost use Rattle.store.specs.Encoding.{Pre, Post};
@@ -21,6 +20,8 @@ fn cut_leaf_entry(e: Entry, t: u32) -> SplitOutcome
 }
 
 // "Lower pages take first": the page under e is written once the page below it is. Where that one was split, its entry becomes two.
+// The page under e is read on the way down for one entry alone, and is still the same on the way up: so no level of the recursion
+// holds a decoded page.
 pub(crate) fn cut_entry(img: &mut [u8], level: u32, e: Entry, t: u32) -> SplitOutcome
     requires { ⌜ Pre (now img) (Entry-cuttable level e t) ⌝ }
     ensures { λ r. ⌜ Post (now (img .entry)) (Entry-cuttable level e t) (λ X. Cut-as e (cut-entry 12 t level e X) r (now (img .exit))) ⌝ }
@@ -28,10 +29,9 @@ pub(crate) fn cut_entry(img: &mut [u8], level: u32, e: Entry, t: u32) -> SplitOu
     if level == 0 {
         return cut_leaf_entry(e, t);
     }
-    let page = load(img, e.child);
     let found = find_entry(img, e.child, t);
     let SplitOutcome::Split(start, q) = cut_entry(img, level - 1, found.entry, t) else {
         return SplitOutcome::Same;
     };
-    insert_after(img, e, page, found.index, start, q)
+    insert_after(img, e, found.index, start, q)
 }

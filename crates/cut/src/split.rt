@@ -1,4 +1,4 @@
-// A page that gained an entry is written, as one page or as two: the page under an entry e of its parent.
+// A page gains an entry, and splits if it is full: the page under an entry e of its parent.
 use crate::SplitOutcome;
 use edit::entry::entry_at;
 use edit::insert::insert;
@@ -8,23 +8,45 @@ use page::Entry;
 use page::Page;
 use page::layout::CAPACITY;
 use page::layout::HALF;
+use store::entries::entry_count_in;
+use store::entries::entry_of;
+use store::pages::load;
 use store::pages::save;
 use store::supply::take;
-ghost use mathlib.Core.Path.{_≡_};
-ghost use Prim.Native.Nat.{suc, _≤_, _<_};
-ghost use Rattle.page.specs.Decoded.{entry-list};
+ghost use Rattle.page.specs.Entries.{inserted};
+ghost use Rattle.image.specs.Images.{tree};
+ghost use Rattle.steps.specs.Supply.{entries, put};
 ghost use Rattle.steps.specs.Cut.{split, split-if-full};
-ghost use Rattle.store.specs.Encoding.{Pre, Post};
+ghost use Rattle.edit.specs.Contents.{Has-entries};
+ghost use Rattle.store.specs.Encoding.{Encodes, Pre-level, Post-level};
 ghost use Rattle.cut.specs.Answers.{inserted-after, Cut-as};
-ghost use Rattle.cut.specs.Cuttable.{Page-writable};
+ghost use Rattle.cut.specs.Cuttable.{Has-place, Has-room, Splittable, Insertable};
 
-// "25 entries split: the page keeps 12, a taken page gets 13".
-fn split(img: &mut [u8], e: Entry, page: Page) -> SplitOutcome
-    requires { ⌜ Pre (now img) (Page-writable (e .child) (page .len)) ⌝ }
-    requires { ⌜ (page .level < 255) × (page .len ≡ 25) ⌝ }
-    ensures { λ r. ⌜ Post (now (img .entry)) (Page-writable (e .child) (page .len))
-        (λ X. Cut-as e (split 12 (page .level) e (entry-list page) X) r (now (img .exit))) ⌝ }
+// Page p with e as its i-th entry.
+fn page_with(img: &[u8], p: u32, i: usize, e: Entry) -> Page
+    requires { ⌜ Pre-level (now img) (λ l. Has-place l p i) ⌝ }
+    ensures { λ r. ⌜ Post-level (now (img .entry)) (λ l. Has-place l p i) (λ l X. Has-entries l (inserted i e (entries X p)) r) ⌝ }
 {
+    insert(load(img, p), i, e)
+}
+
+// e becomes the i-th entry of page p, which has room for it.
+fn insert_entry(img: &mut [u8], p: u32, i: usize, e: Entry)
+    requires { ⌜ Pre-level (now img) (λ l. Has-room l p i) ⌝ }
+    ensures { λ _. ⌜ Post-level (now (img .entry)) (λ l. Has-room l p i)
+        (λ l X. Encodes (now (img .exit)) (put p (tree l (inserted i e (entries X p))) X)) ⌝ }
+{
+    let page = page_with(img, p, i, e);
+    save(img, p, page)
+}
+
+// "25 entries split: the page keeps 12, a taken page gets 13". The page under e has 24, and new is the i-th of the 25.
+fn split(img: &mut [u8], e: Entry, i: usize, new: Entry) -> SplitOutcome
+    requires { ⌜ Pre-level (now img) (λ l. Splittable l (e .child) i) ⌝ }
+    ensures { λ r. ⌜ Post-level (now (img .entry)) (λ l. Splittable l (e .child) i)
+        (λ l X. Cut-as e (split 12 l e (inserted i new (entries X (e .child))) X) r (now (img .exit))) ⌝ }
+{
+    let page = page_with(img, e.child, i, new);
     let q = take(img);
     let left = first_of(page, HALF);
     save(img, e.child, left);
@@ -34,40 +56,28 @@ fn split(img: &mut [u8], e: Entry, page: Page) -> SplitOutcome
     SplitOutcome::Split(first.start, q)
 }
 
-// The page under e has these entries from now on.
-fn split_if_full(img: &mut [u8], e: Entry, page: Page) -> SplitOutcome
-    requires { ⌜ Pre (now img) (Page-writable (e .child) (page .len)) ⌝ }
-    requires { ⌜ (page .level < 255) × (page .len ≤ 25) ⌝ }
-    ensures { λ r. ⌜ Post (now (img .entry)) (Page-writable (e .child) (page .len))
-        (λ X. Cut-as e (split-if-full 12 (page .level) e (entry-list page) X) r (now (img .exit))) ⌝ }
-{
-    if page.len <= CAPACITY {
-        save(img, e.child, page);
-        return SplitOutcome::Same;
-    }
-    split(img, e, page)
-}
-
 // The i-th entry of the page under e becomes two with the same pair: behind it stands one with the start and the child named.
 pub(crate) fn insert_after(
     img: &mut [u8],
     e: Entry,
-    page: Page,
     i: usize,
     start: u32,
     child: u32,
 ) -> SplitOutcome
-    requires { ⌜ Pre (now img) (Page-writable (e .child) (suc (page .len))) ⌝ }
-    requires { ⌜ (page .level < 255) × (i < page .len) × (page .len ≤ 24) ⌝ }
-    ensures { λ r. ⌜ Post (now (img .entry)) (Page-writable (e .child) (suc (page .len)))
-        (λ X. Cut-as e (split-if-full 12 (page .level) e (inserted-after i start child (entry-list page)) X) r (now (img .exit))) ⌝ }
+    requires { ⌜ Pre-level (now img) (λ l. Insertable l (e .child) i) ⌝ }
+    ensures { λ r. ⌜ Post-level (now (img .entry)) (λ l. Insertable l (e .child) i)
+        (λ l X. Cut-as e (split-if-full 12 l e (inserted-after i start child (entries X (e .child))) X) r (now (img .exit))) ⌝ }
 {
-    let old = entry_at(page, i);
+    let old = entry_of(img, e.child, i);
     let pair = old.pair;
     let new = Entry {
         start: start,
         pair: pair,
         child: child,
     };
-    split_if_full(img, e, insert(page, i + 1, new))
+    if entry_count_in(img, e.child) < CAPACITY {
+        insert_entry(img, e.child, i + 1, new);
+        return SplitOutcome::Same;
+    }
+    split(img, e, i + 1, new)
 }

@@ -7,6 +7,7 @@ use native.Mathlib.Omega.{arith}
 use lib.ListN.{length, length-map}
 use borrow.Author.Tests.{ne-eqb, lt-leb}
 use Rattle.lists.proofs.Edits.{length-splice}
+use Rattle.lists.proofs.Totals.{hit-self}
 use Rattle.rule.specs.Time.{END}
 use Rattle.rule.specs.Pairs.{none, combine}
 use Rattle.page.specs.declared.Entry.{Entry}
@@ -27,11 +28,12 @@ use Rattle.tree.specs.Shape.{Leaf}
 use Rattle.tree.specs.Conserved.{times-spare}
 use Rattle.tree.proofs.Conservation.Cut.{inner, inner-nodes, cut-case}
 use Rattle.refinement.specs.Represents.{Supplied, Stocked, Full}
+use Rattle.refinement.proofs.Below.{under-suc, below-at}
 use Rattle.refinement.proofs.Taking.{firsts, later-held}
 use Rattle.refinement.proofs.Stepped.{Stepped, steady-of, held-is}
 use Rattle.refinement.proofs.Split.{Entry-cut}
 use Rattle.refinement.proofs.Cut.{CutIs, once-there, cut-node-is, cut-is}
-use Rattle.refinement.proofs.Paths.{there, entries-are, at-flat, has-index, stocked-on, stores-on}
+use Rattle.refinement.proofs.Paths.{there, entries-are, at-flat, has-index, stocked-on, stores-on, path-below}
 use Rattle.refinement.proofs.Formed.{formed-full}
 use Rattle.invariant.specs.Invariant.{Structure}
 use Rattle.invariant.proofs.To.Known.{structure-once}
@@ -104,8 +106,32 @@ module _ {kind changes : ℕ} (t : ℕ) {X : Image} {S : Supply} (s : Supplied X
         let e = splits t l x S (k .stocked) (omega arith) (omega arith) in
         grew-takable grew single (omega (arith, ap (λ (R : Supply). R .mark) e))
 
+    -- no page is held twice, so what is cut below writes neither this page nor takes it
+    abbrev Kept : Entry → Type 0
+    Kept e = cut-entry 12 t l e X .image .page p ≡ X .page p
+
+    page-kept : Kept (y .entry)
+    page-kept =
+        let i = index-of t (flat (x .subtree)) in
+        grew .frame p
+        (omega (
+          arith,
+          k .once p,
+          under-suc l p x,
+          hit-self p,
+          below-at l p i (x .subtree) (has-index l t x (k .stocked)),
+          path-below p t l y (stocked-on l t x (k .stocked)),
+          later-held p (grew .took) S,
+        ))
+
     page-cuttable : l < 255 → cut-node 12 t (suc l) x S .supply .mark ≤ X .head .pages → Page-cuttable l p t X
-    page-cuttable low m = record { searchable = known-searchable k; low = low; room = subst⁻¹ Room entry-there (page-room m) }
+    page-cuttable low m =
+        record {
+          searchable = known-searchable k;
+          low = low;
+          kept = subst⁻¹ Kept entry-there page-kept;
+          room = subst⁻¹ Room entry-there (page-room m);
+        }
 
   entry-cuttable : (l : ℕ) (x : Node (Subtree (suc l))) {lo hi sums counts : ℕ}
       → Known 12 kind changes t X S l lo hi sums counts x → l < 255

@@ -5,14 +5,13 @@ use borrow.Author.Needs.{needs}
 use borrow.Fn.Kinds.{In}
 use borrow.Fn.PlainCycle.{Measures, is, falls, and}
 use Rattle.cut.proofs.Splitting.{told}
-use Rattle.cut.proofs.Cutting.{leaf-as, page-cuttable, read, read-cuttable, read-below, read-same, read-page-writable, read-two}
+use Rattle.cut.proofs.Cutting.{leaf-as, page-cuttable, searched, found-cuttable, found-cut, found-same, found-insertable, found-two}
 use Rattle.cut.proofs.entries.cut_entry.Reads as cut-entry
 use Rattle.cut.proofs.entries.cut_entry.Kinds as cut-entry-kinds
 use Rattle.cut.proofs.entries.+cut_entry.Lts-cut_entry as cut-entry-lts
 use Rattle.cut.proofs.entries.cut_leaf_entry.Reads as cut-leaf-entry-reads
 use Rattle.cut.proofs.split.insert_after.Reads as insert-after-reads
 use Rattle.store.proofs.entries.find_entry.Reads as find-entry-reads
-use Rattle.store.proofs.pages.load.Reads as load-reads
 use Rattle.cut.proofs.entries.+cut_entry.{statement}
 use Rattle.cut.proofs.entries.+cut_entry.Tie.{close}
 
@@ -33,8 +32,6 @@ pub +cut-entry-spec : {M : Type 1} → statement M
     cut-entry-lts.spec (
       cut-leaf-entry-reads.Asked,
       cut-leaf-entry-reads.Learnt,
-      load-reads.Asked,
-      load-reads.Learnt,
       find-entry-reads.Asked,
       find-entry-reads.Learnt,
       cut-entry-below t,
@@ -47,20 +44,9 @@ pub +cut-entry-spec : {M : Type 1} → statement M
     -- returns
     (λ c X h r. let args = c .before .before .before .args in leaf-as (args .e) (args .t) (c .before .if1 .taken)
     (c .cut-leaf-entry .ensures) h)
-    -- load-requires
-    (λ c κs.
-    let else = c .before in
-    let start = else .before .before in
-    let s = start .pre .1 in
-    record {
-      image = _;
-      holds = s .holds;
-      ready = page-cuttable (start .args .e) (else .if1 .left)
-          (s .ready) .0 .searchable .tree-page .within;
-    })
     -- find-entry-requires
     (λ c κs.
-    let else = c .before .before .before in
+    let else = c .before in
     let start = else .before .before in
     let s = start .pre .1 in
     record { image = _; holds = s .holds; ready = (_, page-cuttable (start .args .e) (else .if1 .left) (s .ready) .0 .searchable) })
@@ -69,58 +55,55 @@ pub +cut-entry-spec : {M : Type 1} → statement M
     -- cut-entry-requires
     (λ c κs.
     let found = c .before in
-    let load = found .before .before in
-    let else = load .before .before in
+    let else = found .before .before in
     let start = else .before .before in
     let s = start .pre .1 in
     let d = else .if1 .left in
-    let k = read (page-cuttable (start .args .e) d (s .ready) .0) (s .holds) (load .load .ensures) (found .find-entry .ensures) in (
+    let k = searched (page-cuttable (start .args .e) d (s .ready) .0) (s .holds) (found .find-entry .ensures) in (
       omega (arith, start .pre .0, d),
-      record { image = _; holds = s .holds; ready = read-cuttable (start .args .e) d k (s .ready) },
+      record { image = _; holds = s .holds; ready = found-cuttable (start .args .e) d k (s .ready) },
     ))
-    -- enum-known-start, enum-told, same-length-2
+    -- enum-known-start, enum-told, same-length
     (λ c. search needs) (λ c. search needs) (λ c. search needs)
     -- returns-2
     (λ c X h r.
-    let call = c .before .before .before .before in
+    let answer = c .before .before in
+    let call = answer .before .before in
     let found = call .before .before in
-    let load = found .before .before in
-    let else = load .before .before in
+    let else = found .before .before in
     let e = else .before .before .args .e in
     let d = else .if1 .left in
-    let k = read (page-cuttable e d r .0) h (load .load .ensures) (found .find-entry .ensures) in
-    let b = call .cut-entry .ensures X h (read-cuttable e d k r) in
-    read-same e d k (told (c .enum-told .given .1) (read-below e d k b)))
+    let k = searched (page-cuttable e d r .0) h (found .find-entry .ensures) in
+    let b = call .cut-entry .ensures X h (found-cuttable e d k r) in
+    found-same e d k (told (c .enum-told .given .1) (found-cut e d k b)))
     -- insert-after-requires
     (λ c κs.
     let known = c .before .before in
-    let call = known .before .before .before .before in
+    let answer = known .before .before in
+    let call = answer .before .before in
     let found = call .before .before in
-    let load = found .before .before in
-    let else = load .before .before in
+    let else = found .before .before in
     let start = else .before .before in
     let s = start .pre .1 in
     let e = start .args .e in
     let d = else .if1 .left in
     let r = page-cuttable e d (s .ready) .0 in
-    let k = read r (s .holds) (load .load .ensures) (found .find-entry .ensures) in
-    let b = told (known .start .given .1) (read-below e d k (call .cut-entry .ensures _ (s .holds) (read-cuttable e d k (s .ready)))) in (
-      record { image = _; holds = b .holds; ready = read-page-writable e d k b r },
-      (omega (arith, k .loaded .shows .level, r .low), k .inside, k .loaded .few),
-    ))
-    -- same-length-3
+    let k = searched r (s .holds) (found .find-entry .ensures) in
+    let b = told (known .start .given .1) (found-cut e d k (call .cut-entry .ensures _ (s .holds) (found-cuttable e d k (s .ready)))) in
+    record { image = _; holds = b .holds; ready = (_, found-insertable e d k b r) })
+    -- same-length-2
     (λ c. search needs)
     -- returns-3
     (λ c X h r.
     let inserted = c .before .before in
     let known = inserted .before .before .before in
-    let call = known .before .before .before .before in
+    let answer = known .before .before in
+    let call = answer .before .before in
     let found = call .before .before in
-    let load = found .before .before in
-    let else = load .before .before in
+    let else = found .before .before in
     let e = else .before .before .args .e in
     let d = else .if1 .left in
-    let ready = page-cuttable e d r .0 in
-    let k = read ready h (load .load .ensures) (found .find-entry .ensures) in
-    let b = told (known .start .given .1) (read-below e d k (call .cut-entry .ensures X h (read-cuttable e d k r))) in
-    read-two e d k b (inserted .insert-after .ensures _ (b .holds) (read-page-writable e d k b ready))))
+    let page = page-cuttable e d r .0 in
+    let k = searched page h (found .find-entry .ensures) in
+    let b = told (known .start .given .1) (found-cut e d k (call .cut-entry .ensures X h (found-cuttable e d k r))) in
+    found-two e d k b page (inserted .insert-after .ensures _ (b .holds) _ (found-insertable e d k b page))))

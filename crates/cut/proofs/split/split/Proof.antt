@@ -1,75 +1,137 @@
 -- `cut::split::split` meets its contract: a page is taken, then each half is saved. Assumes nothing.
-use mathlib.Core.Path.{ap}
+use Prim.Native.Nat.{ℕ}
+use mathlib.Core.Path.{_≡_, ap, _∙_}
+use mathlib.Core.List.{List}
 use native.Mathlib.Omega.{arith}
 use borrow.Author.Needs.{needs}
-use Rattle.image.specs.Images.{Image}
-use Rattle.store.specs.Preconditions.{Takable}
+use lib.ListN.{length, take, drop}
+use Rattle.page.specs.declared.Entry.{Entry}
+use Rattle.page.specs.Entries.{inserted}
+use Rattle.image.specs.Images.{Image, tree}
+use Rattle.page.specs.Decoded.{entry-list}
+use Rattle.steps.specs.Supply.{entries, put, spare, taken}
+use Rattle.edit.specs.Contents.{Has-entries}
+use Rattle.edit.proofs.Edits.{has-len, has-then}
+use Rattle.store.specs.Encoding.{Encodes}
+use Rattle.store.specs.Preconditions.{In-image}
+use Rattle.store.proofs.Encoding.{from}
 use Rattle.store.proofs.Supplying.{within-put, within-taken}
-use Rattle.cut.specs.Cuttable.{Page-writable}
-use Rattle.cut.proofs.Splitting.{left-len, right-len, spare-within, split-as}
+use Rattle.cut.specs.Cuttable.{Splittable}
+use Rattle.cut.proofs.Splitting.{left-len, right-len, spare-within, length-inserted, split-as}
 use Rattle.cut.proofs.split.split.Statement.{statement}
 use Rattle.cut.proofs.split.split.Tie as tie
 
--- there are 25 entries, so a page can be taken
-room : (c : tie.Start) {X : Image} → Page-writable (c .args .e .child) (c .args .page .len) X → Takable X
-room c r = r .room (omega (arith, c .pre .1))
+-- ---- the places, from the last back to the start
 
-take-requires : tie.Need-take-requires
-take-requires c κs =
-    let start = c .before .before in
-    let s = start .pre .0 in
-    record { image = _; holds = s .holds; ready = room start (s .ready) }
+abbrev made : tie.After-take → tie.After-page-with
+made c = c .before .before
+
+abbrev began : tie.After-take → tie.Start
+began c = made c .before .before .before
+
+abbrev took : tie.After-first-of → tie.After-take
+took c = c .before .before .before
+
+abbrev kept : tie.After-rest-of → tie.After-save
+kept c = c .before .before .before
+
+abbrev halved : tie.After-rest-of → tie.After-first-of
+halved c = kept c .before .before
+
+-- ---- of every image that the bytes encode: the 25 entries, the page taken, and the two halves
+
+module _ (c : tie.After-take) {X : Image} (h : Encodes (began c .args .img .now) X) {l : ℕ}
+    (r : Splittable l (began c .args .e .child) (began c .args .i) X) where
+  abbrev es : List Entry
+  es = inserted (began c .args .i) (began c .args .new) (entries X (began c .args .e .child))
+
+  page : Has-entries l es (made c .page-with .result)
+  page = made c .page-with .ensures X h l (r .place)
+
+  many : length es ≡ 25
+  many =
+      omega (arith, length-inserted (began c .args .i) (began c .args .new) (entries X (began c .args .e .child)) (r .place .inside), r .full)
+
+  spared : c .take .result ≡ spare X
+  spared = c .take .ensures X h (r .takable) .0
+
+  holds : Encodes (c .take .last .0) (taken X)
+  holds = c .take .ensures X h (r .takable) .1
+
+  within : In-image (began c .args .e .child) (taken X)
+  within = within-taken (r .place .tree-page .within)
+
+  long : made c .page-with .result .len ≡ 25
+  long = has-len page ∙ many
+
+-- the first half, once it is saved, and the page taken is still one of the image's
+module _ (c : tie.After-first-of) {X : Image} (h : Encodes (began (took c) .args .img .now) X) {l : ℕ}
+    (r : Splittable l (began (took c) .args .e .child) (began (took c) .args .i) X) where
+  left : Has-entries l (take 12 (es (took c) h r)) (c .first-of .result)
+  left = has-then (take 12) (page (took c) h r) (c .first-of .ensures)
+
+module _ (c : tie.After-rest-of) {X : Image} (h : Encodes (began (took (halved c)) .args .img .now) X) {l : ℕ}
+    (r : Splittable l (began (took (halved c)) .args .e .child) (began (took (halved c)) .args .i) X) where
+  right : Has-entries l (drop 12 (es (took (halved c)) h r)) (c .rest-of .result)
+  right = has-then (drop 12) (page (took (halved c)) h r) (c .rest-of .ensures)
+
+  thirteen : c .rest-of .result .len ≡ 13
+  thirteen = right-len (es (took (halved c)) h r) (many (took (halved c)) h r) right
+
+first-of-requires : tie.Need-first-of-requires
+first-of-requires c κs =
+    let taking = c .before .before in
+    from (began taking .pre) (λ X h r. omega (arith, long taking h (r .1)))
 
 save-requires : tie.Need-save-requires
 save-requires c κs =
     let first = c .before in
-    let taking = first .before .before .before in
-    let start = taking .before .before .before in
-    let s = start .pre .0 in
-    let left = first .first-of .ensures in (
-      record { image = _; holds = taking .take .ensures _ (s .holds) (room start (s .ready)) .1; ready = within-taken (s .ready .within) },
-      (omega (arith, left .level), omega (arith, left-len (start .args .page) (start .pre .1 .1) left)),
-    )
+    let taking = took first in
+    from (began taking .pre)
+    (λ X h r.
+    let half = left first h (r .1) in (
+      record { image = _; holds = holds taking h (r .1); ready = within taking h (r .1) },
+      (omega (arith, half .level, r .1 .low), omega (arith, left-len (es taking h (r .1)) (many taking h (r .1)) half)),
+    ))
+
+rest-of-requires : tie.Need-rest-of-requires
+rest-of-requires c κs =
+    let saved = c .before .before in
+    let taking = took (saved .before .before) in
+    from (began taking .pre) (λ X h r. let n = long taking h (r .1) in (omega arith, omega arith))
 
 save-requires-2 : tie.Need-save-requires-2
 save-requires-2 c κs =
     let rest = c .before in
-    let saved = rest .before .before .before in
-    let taking = saved .before .before .before .before .before in
-    let start = taking .before .before .before in
-    let s = start .pre .0 in
-    let q = taking .take .ensures _ (s .holds) (room start (s .ready)) in
-    let right = rest .rest-of .ensures in (
+    let taking = took (halved rest) in
+    from (began taking .pre)
+    (λ X h r. (
       record {
         image = _;
-        holds = saved .save .ensures _ (q .1) (within-taken (s .ready .within));
-        ready = within-put (spare-within (q .0) (room start (s .ready))) _ _;
+        holds = kept rest .save .ensures _ (holds taking h (r .1)) (within taking h (r .1));
+        ready = within-put (spare-within (spared taking h (r .1)) (r .1 .takable)) _ _;
       },
-      (omega (arith, right .level), omega (arith, right-len (start .args .page) (start .pre .1 .1) right)),
-    )
+      (omega (arith, right rest h (r .1) .level, r .1 .low), omega (arith, thirteen rest h (r .1))),
+    ))
 
 entry-at-requires : tie.Need-entry-at-requires
 entry-at-requires c κs =
-    let rest = c .before .before .before .before in
-    let start = rest .before .before .before .before .before .before .before .before .before .before .before in
-    let n = right-len (start .args .page) (start .pre .1 .1) (rest .rest-of .ensures) in
-    (omega arith, omega arith)
+    let saved = c .before .before in
+    let rest = saved .before .before in
+    from (began (took (halved rest)) .pre) (λ X h r. let n = thirteen rest h (r .1) in (omega arith, omega arith))
 
 returns : tie.Need-returns
-returns c X h r =
-    let saved2 = c .before .before .before in
-    let rest = saved2 .before .before in
-    let saved = rest .before .before .before in
-    let first = saved .before .before in
-    let taking = first .before .before .before in
-    let start = taking .before .before .before in
-    let q = taking .take .ensures X h (room start r) in
-    split-as (start .args .e) _ _ _ (first .first-of .ensures) (rest .rest-of .ensures) (q .0) (ap (λ e. e .start) (c .entry-at .ensures))
-    (saved2 .save2 .ensures _ (saved .save .ensures _ (q .1) (within-taken (r .within)))
-    (within-put (spare-within (q .0) (room start r)) _ _))
+returns c X h l r =
+    let saved = c .before .before .before in
+    let rest = saved .before .before in
+    let taking = took (halved rest) in
+    split-as (began taking .args .e) l (es taking h r) X (left (halved rest) h r) (right rest h r) (spared taking h r)
+    (ap (λ e. e .start) (c .entry-at .ensures))
+    (saved .save2 .ensures _ (kept rest .save .ensures _ (holds taking h r) (within taking h r))
+    (within-put (spare-within (spared taking h r) (r .takable)) _ _))
 
 pub split-spec : {M : Type 1} → statement M
 split-spec =
     tie.close
-    (tie.spec take-requires (λ c κs. search needs) save-requires (λ c κs. search needs) save-requires-2
+    (tie.spec (λ c κs. search needs) (λ c κs. search needs) first-of-requires save-requires rest-of-requires save-requires-2
     entry-at-requires (λ c. search needs) returns)
