@@ -15,15 +15,22 @@ use Rattle.cut.proofs.Roots.{cut-end, root-ready, root-cut, root-same, 
 use Rattle.cut.proofs.cut.cut.Statement.{statement}
 use Rattle.cut.proofs.cut.cut.Tie as tie
 
--- the head that was read, and the function's start
+-- the head that was read, the test for END, and the function's start
 abbrev read : tie.After-root-entry → tie.After-head-of
 read c = c .before .before
 
+abbrev tested : tie.After-root-entry → tie.Else1
+tested c = read c .before .before
+
 abbrev started : tie.After-root-entry → tie.Start
-started c = read c .before .before .before .before
+started c = tested c .before .before
+
+-- what the root became
+abbrev answered : tie.After-slice-known2 → tie.After-cut-entry
+answered c = c .before .before
 
 inside : (c : tie.After-root-entry) → started c .args .t < END
-inside c = omega (arith, read c .before .before .if1 .left)
+inside c = omega (arith, tested c .if1 .left)
 
 -- the root as an entry, of every image that the bytes encode, and what it becomes
 module _ (c : tie.After-root-entry) (X : Image) (h : Encodes (started c .args .img .now) X) (r : Cuttable (started c .args .t) X) where
@@ -50,13 +57,13 @@ cut-entry-requires c κs = from (started c .pre) (λ X h r. record { image = X; 
 
 returns-2 : tie.Need-returns-2
 returns-2 c X h r =
-    let call = c .before .before .before .before in
+    let call = answered (c .before .before) in
     root-same _ X (inside (call .before)) (told (c .enum-told .given .1) (grew call X h r))
 
 grow-root-requires : tie.Need-grow-root-requires
 grow-root-requires c κs =
     let known = c .before .before in
-    let call = known .before .before .before .before in
+    let call = answered (known .before .before) in
     from (started (call .before) .pre)
     (λ X h r.
     let g = told (known .start .given .1) (grew call X h r) in
@@ -67,7 +74,7 @@ returns-3 : tie.Need-returns-3
 returns-3 c X h r =
     let raising = c .before .before in
     let known = raising .before .before .before in
-    let call = known .before .before .before .before in
+    let call = answered (known .before .before) in
     let g = told (known .start .given .1) (grew call X h r) in
     let head = read (call .before) .head-of .ensures X h tt in
     root-two _ X head g (inside (call .before))

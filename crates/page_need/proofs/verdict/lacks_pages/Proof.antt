@@ -7,7 +7,8 @@ use Rattle.page_need.proofs.verdict.lacks_pages.Tie as tie
 
 sub-held : tie.Need-sub-held
 sub-held c =
-    let f = head-is (c .before .before .before .before .pre .0) in
+    let cuts-need = c .before .before in
+    let f = head-is (cuts-need .before .before .pre .0) in
     omega (arith, f .pages-is, f .mark-most)
 
 add-result : tie.Need-add-result

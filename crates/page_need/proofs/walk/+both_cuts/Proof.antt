@@ -49,7 +49,8 @@ pub +both-cuts-spec : {M : Type 1} → statement M
     ) (both-cuts-at t) both-cuts.Post
     (λ c κs. search needs) (λ c κs. search needs)
     (λ c κs.
-    let args = c .before .before .before .before .args in
+    let leaf = c .before .before in
+    let args = leaf .before .before .args in
     (small-leaf (args .s) (args .e) (c .before .leaf-need .ensures), small-leaf (args .t) (args .e) (c .leaf-need2 .ensures)))
     (λ c.
     let second = c .before in
@@ -71,10 +72,11 @@ pub +both-cuts-spec : {M : Type 1} → statement M
     let k = leads-on (args .img .now) (args .s) (args .level) (args .e) (start .pre .1 .0) (else .if1 .left) in
     fit-some (later-fit k (start .pre .1 .1)))
     -- sub-both-cuts
-    (λ c. let first = c .before .before .before .before in omega (arith, first .before .if1 .left))
+    (λ c. let second = c .before .before .before in omega (arith, second .before .before .if1 .left))
     -- both-cuts-requires
     (λ c κs.
-    let first = c .before .before .before .before in
+    let second = c .before .before .before in
+    let first = second .before in
     let else = first .before in
     let start = else .before .before in
     let args = start .args in
@@ -82,7 +84,9 @@ pub +both-cuts-spec : {M : Type 1} → statement M
     (omega (arith, start .pre .0, else .if1 .left), (found-leads k (fit-found k (first .find-entry .ensures)), start .pre .1 .1)))
     -- page-need-requires
     (λ c κs.
-    let first = c .before .before .before .before .before in
+    let same = c .before in
+    let second = same .before .before .before in
+    let first = second .before in
     let else = first .before in
     let start = else .before .before in
     let args = start .args in
@@ -104,7 +108,7 @@ pub +both-cuts-spec : {M : Type 1} → statement M
     (fit-found k (first .find-entry .ensures)) (fit-found (later-fit k (start .pre .1 .1)) (second .find-entry2 .ensures))
     (same .if2 .taken) (c .before .both-cuts .ensures) (c .page-need .ensures))
     -- sub-parted-cuts
-    (λ c. let first = c .before .before .before .before in omega (arith, first .before .if1 .left))
+    (λ c. let second = c .before .before .before in omega (arith, second .before .before .if1 .left))
     -- parted-cuts-requires
     (λ c κs.
     let second = c .before .before .before in
@@ -117,7 +121,8 @@ pub +both-cuts-spec : {M : Type 1} → statement M
     (found-leads k (fit-found k (first .find-entry .ensures)), found-leads j (fit-found j (second .find-entry2 .ensures))))
     -- page-need-requires-2
     (λ c κs.
-    let second = c .before .before .before .before in
+    let other = c .before in
+    let second = other .before .before .before in
     let first = second .before in
     let else = first .before in
     let start = else .before .before in
