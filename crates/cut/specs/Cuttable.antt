@@ -15,13 +15,7 @@ pub record Has-place (l p i : ℕ) (X : Image) : Type 0 where
   pub tree-page : Tree-page l p X
   pub inside : i ≤ length (entries X p)
 
--- and there is room for it
-pub record Has-room (l p i : ℕ) (X : Image) : Type 0 where
-  pub place : Has-place l p i X
-  pub low : l < 255
-  pub few : length (entries X p) < 24
-
--- or the page is full, and another can be taken: "25 entries split"
+-- and is full, and another can be taken: "25 entries split"
 pub record Splittable (l p i : ℕ) (X : Image) : Type 0 where
   pub place : Has-place l p i X
   pub low : l < 255

@@ -8,19 +8,19 @@ use page::Entry;
 use page::Page;
 use page::layout::CAPACITY;
 use page::layout::HALF;
+use store::edits::insert_entry;
 use store::entries::entry_count_in;
 use store::entries::entry_of;
 use store::pages::load;
 use store::pages::save;
 use store::supply::take;
 ghost use Rattle.page.specs.Entries.{inserted};
-ghost use Rattle.image.specs.Images.{tree};
-ghost use Rattle.steps.specs.Supply.{entries, put};
+ghost use Rattle.steps.specs.Supply.{entries};
 ghost use Rattle.steps.specs.Cut.{split, split-if-full};
 ghost use Rattle.edit.specs.Contents.{Has-entries};
-ghost use Rattle.store.specs.Encoding.{Encodes, Pre-level, Post-level};
+ghost use Rattle.store.specs.Encoding.{Pre-level, Post-level};
 ghost use Rattle.cut.specs.Answers.{inserted-after, Cut-as};
-ghost use Rattle.cut.specs.Cuttable.{Has-place, Has-room, Splittable, Insertable};
+ghost use Rattle.cut.specs.Cuttable.{Has-place, Splittable, Insertable};
 
 // Page p with e as its i-th entry.
 fn page_with(img: &[u8], p: u32, i: usize, e: Entry) -> Page
@@ -28,16 +28,6 @@ fn page_with(img: &[u8], p: u32, i: usize, e: Entry) -> Page
     ensures { λ r. ⌜ Post-level (now (img .entry)) (λ l. Has-place l p i) (λ l X. Has-entries l (inserted i e (entries X p)) r) ⌝ }
 {
     insert(load(img, p), i, e)
-}
-
-// e becomes the i-th entry of page p, which has room for it.
-fn insert_entry(img: &mut [u8], p: u32, i: usize, e: Entry)
-    requires { ⌜ Pre-level (now img) (λ l. Has-room l p i) ⌝ }
-    ensures { λ _. ⌜ Post-level (now (img .entry)) (λ l. Has-room l p i)
-        (λ l X. Encodes (now (img .exit)) (put p (tree l (inserted i e (entries X p))) X)) ⌝ }
-{
-    let page = page_with(img, p, i, e);
-    save(img, p, page)
 }
 
 // "25 entries split: the page keeps 12, a taken page gets 13". The page under e has 24, and new is the i-th of the 25.

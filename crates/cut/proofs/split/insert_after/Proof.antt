@@ -11,9 +11,10 @@ use Rattle.image.specs.Images.{Image, tree}
 use Rattle.steps.specs.Supply.{entries, put}
 use Rattle.steps.specs.Cut.{split-if-full}
 use Rattle.store.specs.Encoding.{Encodes}
+use Rattle.store.specs.Preconditions.{Has-room}
 use Rattle.store.proofs.Encoding.{from}
 use Rattle.cut.specs.Answers.{inserted-after}
-use Rattle.cut.specs.Cuttable.{Has-place, Has-room, Splittable, Insertable}
+use Rattle.cut.specs.Cuttable.{Has-place, Splittable, Insertable}
 use Rattle.cut.proofs.Splitting.{cut-as, length-inserted, inserted-after-is, saved-as, halved-as}
 use Rattle.cut.proofs.split.insert_after.Statement.{statement}
 use Rattle.cut.proofs.split.insert_after.Tie as tie
@@ -57,7 +58,9 @@ module _ (c : tie.After-entry-count-in) {X : Image} (h : Encodes (began c .args 
 module _ (c : tie.Then1) {X : Image} (h : Encodes (began (c .before) .args .img .now) X) {l : ℕ}
     (r : Insertable l (began (c .before) .args .e .child) (began (c .before) .args .i) X) where
   room : Has-room l (began (c .before) .args .e .child) (began (c .before) .args .i + 1) X
-  room = record { place = place (c .before) h r; low = r .low; few = omega (arith, count (c .before) h r, c .if1 .taken) }
+  room =
+      let s = place (c .before) h r in
+      record { tree-page = s .tree-page; inside = s .inside; room = omega (arith, count (c .before) h r, c .if1 .taken) }
 
 module _ (c : tie.Else1) {X : Image} (h : Encodes (began (c .before) .args .img .now) X) {l : ℕ}
     (r : Insertable l (began (c .before) .args .e .child) (began (c .before) .args .i) X) where
@@ -85,7 +88,7 @@ returns c X h l r =
     let test = inserted .before .before in
     let counted = test .before in
     cut-as (λ j. split-if-full 12 l (began counted .args .e) (gained counted h r j) X)
-    (saved-as (began counted .args .e) l _ X (omega (arith, longer counted h r, room test h r .few))
+    (saved-as (began counted .args .e) l _ X (omega (arith, longer counted h r, room test h r .room))
     (inserted .insert-entry .ensures X h l (room test h r)))
 
 add-split : tie.Need-add-split
