@@ -1,5 +1,5 @@
 -- What becomes of a leaf. Assumes nothing.
-use mathlib.Core.Path.{_≡_, sym, ap, _∙_}
+use mathlib.Core.Path.{_≡_, refl, sym, ap, _∙_, subst⁻¹}
 use mathlib.Core.Bool.{Bool, true, false, cond, _&&_}
 use mathlib.Core.List.{List, []}
 use Prim.Native.Nat.{ℕ, zero, _-_}
@@ -8,16 +8,15 @@ use lib.Dec.{eqb, ltb}
 use borrow.Author.Tests.{lt-ltb, le-ltb}
 use Rattle.rule.specs.Pairs.{combine, same-pair}
 use Rattle.page.specs.declared.Entry.{Entry}
-use Rattle.page.specs.declared.Page.{Page}
-use Rattle.page.specs.Decoded.{entry-list}
 use Rattle.page.specs.Entries.{at, index-of}
 use Rattle.lists.specs.Lists.{splice}
 use Rattle.image.specs.Images.{Image, tree}
-use Rattle.edit.specs.Contents.{Has-entries}
-use Rattle.edit.proofs.Edits.{has-then}
 use Rattle.steps.specs.Supply.{entries, put}
 use Rattle.steps.specs.Heal.{heals, heal-page}
-use Rattle.store.specs.Encoding.{Loaded}
+use Rattle.store.specs.declared.Found.{Found}
+use Rattle.store.specs.Preconditions.{Searchable, found-in}
+use Rattle.store.proofs.Reading.{searchable-entry}
+use Rattle.heal.specs.Healable.{Entry-read}
 
 -- ---- the test
 
@@ -35,21 +34,28 @@ module _ (t i : ℕ) (es : List Entry) where
       let later : ltb 0 i ≡ true = lt-ltb 0 i (omega arith) in
       ap (λ b. eqb (x .start) t && b) r ∙ (λ j. sym later j && (eqb (e j .start) t && same-pair (e j .pair) (d j .pair)))
 
--- ---- what becomes of the leaf, whatever the kind
+-- ---- the entry that has t
 
-module _ (kind t p : ℕ) {i : ℕ} (X : Image) {page : Page} (n : Loaded zero (entries X p) page) (e : i ≡ index-of t (entries X p)) where
-  tested : heals t (entry-list page) i ≡ heals t (entries X p) (index-of t (entries X p))
-  tested = λ j. heals t (n .shows .entries j) (e j)
+module _ (t p : ℕ) (X : Image) {f : Found} (g : f ≡ found-in t (entries X p)) where
+  pub found-read : {level : ℕ} → Searchable level p t X → Entry-read (f .entry) level p (f .index) X
+  unfolding found-in
+  found-read {level} s =
+      subst⁻¹ (λ (m : Found). Entry-read (m .entry) level p (m .index) X) g (record { has = searchable-entry s; read = refl })
 
-  pub leaf-kept : heals t (entry-list page) i ≡ false → X ≡ heal-page 12 (combine kind) t 0 p X
-  unfolding heal-page
-  leaf-kept b = ap (λ b. cond b (put p (tree zero (splice (index-of t (entries X p)) [] (entries X p))) X) X) (sym (sym tested ∙ b))
+  -- ---- what becomes of the leaf, whatever the kind
 
-  pub leaf-healed : {r : Page} → heals t (entry-list page) i ≡ true → Has-entries (page .level) (splice i [] (entry-list page)) r
-      → put p (tree (r .level) (entry-list r)) X ≡ heal-page 12 (combine kind) t 0 p X
-  unfolding heal-page
-  leaf-healed {r} b s =
-      let es : List Entry = entries X p in
-      let w = has-then (splice i []) (n .shows) s in
-      (λ j. put p (tree (w .level j) (w .entries j)) X)
-      ∙ (λ j. cond (sym (sym tested ∙ b) j) (put p (tree zero (splice (e j) [] es)) X) X)
+  module _ (kind : ℕ) where
+    abbrev done : Bool → ℕ → Image
+    done b i = cond b (put p (tree zero (splice i [] (entries X p))) X) X
+
+    -- what the test of that entry decides
+    decided : (b : Bool) → heals t (entries X p) (f .index) ≡ b → done b (f .index) ≡ heal-page 12 (combine kind) t 0 p X
+    unfolding heal-page found-in
+    decided b e = λ j. done ((sym e ∙ ap (λ (m : Found). heals t (entries X p) (m .index)) g) j) (g j .index)
+
+    pub leaf-kept : heals t (entries X p) (f .index) ≡ false → X ≡ heal-page 12 (combine kind) t 0 p X
+    leaf-kept e = decided false e
+
+    pub leaf-healed : heals t (entries X p) (f .index) ≡ true
+        → put p (tree zero (splice (f .index) [] (entries X p))) X ≡ heal-page 12 (combine kind) t 0 p X
+    leaf-healed e = decided true e

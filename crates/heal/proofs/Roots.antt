@@ -9,14 +9,11 @@ use borrow.Author.Tests.{lt-ltb, le-ltb, eq-eqb, ne-eqb}
 use Rattle.rule.specs.Pairs.{combine}
 use Rattle.page.specs.declared.Entry.{Entry}
 use Rattle.page.specs.declared.Head.{Head}
-use Rattle.page.specs.declared.Page.{Page}
-use Rattle.page.specs.Decoded.{entry-list}
 use Rattle.page.specs.Entries.{at}
-use Rattle.image.specs.Images.{Image, tree}
-use Rattle.edit.specs.Contents.{Has-entries}
+use Rattle.image.specs.Images.{Image, Cell, tree}
 use Rattle.steps.specs.Supply.{entries, put, given-back, with-root}
 use Rattle.steps.specs.Heal.{pushed, collapse-root, collapse-if-single, heal-page, heal}
-use Rattle.store.specs.Preconditions.{Tree-page}
+use Rattle.store.specs.Preconditions.{Tree-page, Givable}
 
 -- the head that was read leads to the root
 module _ (X : Image) {h : Head} (e : h ≡ X .head) where
@@ -28,6 +25,11 @@ module _ (X : Image) {h : Head} (e : h ≡ X .head) where
 
   pub read-entry : {x : Entry} (i : ℕ) → x ≡ at (entries X (h .root)) i → x ≡ at (entries X (X .head .root)) i
   read-entry i x = x ∙ ap (λ k. at (entries X (k .root)) i) e
+
+-- a page can be given back whatever was written
+pub givable-put : {q : ℕ} {X : Image} → Givable q X → (p : ℕ) (cell : Cell) → Givable q (put p cell X)
+unfolding put
+givable-put g p cell = record { within = record { least = g .within .least; below = g .within .below }; room = g .room }
 
 module _ (kind : ℕ) (X : Image) where
   abbrev root-entries : ℕ
@@ -51,16 +53,16 @@ module _ (kind : ℕ) (X : Image) where
   collapsed-collapse-root h e =
       λ j. cond (sym (lt-ltb 1 (X .head .height) h) j && sym (eq-eqb root-entries 1 e) j) (collapse-root (combine kind) X) X
 
-  -- the head that was read, the root's entry, and the page under it
-  pub collapse-root-is : {h : Head} {e : Entry} {page : Page} → h ≡ X .head → e ≡ at (entries X (X .head .root)) 0
-      → Has-entries (X .head .height - 2) (pushed (combine kind) X (at (entries X (X .head .root)) 0)) page
-      → with-root (h .height - 1) (e .child) (given-back (h .root) (put (e .child) (tree (page .level) (entry-list page)) X))
+  -- the head that was read, and the root's entry
+  pub collapse-root-is : {h : Head} {e : Entry} → h ≡ X .head → e ≡ at (entries X (X .head .root)) 0
+      → with-root (h .height - 1) (e .child)
+      (given-back (h .root) (put (e .child) (tree (X .head .height - 2) (pushed (combine kind) X e)) X))
       ≡ collapse-root (combine kind) X
   unfolding collapse-root
-  collapse-root-is h e s =
+  collapse-root-is h e =
       λ j.
       with-root (h j .height - 1) (e j .child)
-      (given-back (h j .root) (put (e j .child) (tree (s .level j) (s .entries j)) X))
+      (given-back (h j .root) (put (e j .child) (tree (X .head .height - 2) (pushed (combine kind) X (e j))) X))
 
   -- the step, by the head that was read
   pub healed-is : (t : ℕ) {h : Head} → h ≡ X .head

@@ -5,12 +5,18 @@ use mathlib.Core.Path.{_≡_}
 use mathlib.Core.Bool.{true, cond}
 use lib.ListN.{length}
 use Rattle.rule.specs.Pairs.{combine}
+use Rattle.page.specs.declared.Entry.{Entry}
 use Rattle.page.specs.Entries.{at, index-of}
 use Rattle.image.specs.Images.{Image}
 use Rattle.steps.specs.Supply.{entries}
 use Rattle.steps.specs.Heal.{short, left-of, rebalance, heal-page}
 use Rattle.store.specs.Preconditions.{Tree-page, Has-entry, Searchable, entry-for, Push-ready, Chain-room}
 use Rattle.heal.specs.Siblings.{Siblings}
+
+-- page p of that level has an i-th entry, which was read as e
+pub record Entry-read (e : Entry) (level p i : ℕ) (X : Image) : Type 0 where
+  pub has : Has-entry level p i X
+  pub read : e ≡ at (entries X p) i
 
 -- "A page other than the root left with 11 turns to its left neighbour under the same parent, else the right": the page under the i-th
 -- entry of page p can. Its sibling gives, or the right one of the two is given back.
@@ -43,7 +49,6 @@ Page-healable kind t (suc l) p X = Inner-healable kind t l p (λ q Y. Page-heala
 -- "An inner root with one entry combines its pair into its child's entries, is given back, and the child becomes root."
 pub record Collapsible (X : Image) : Type 0 where
   pub inner : 1 < X .head .height
-  pub low : X .head .height - 2 < 255
   pub root : Has-entry (X .head .height - 1) (X .head .root) 0 X
   pub child : Push-ready (X .head .height - 2) (at (entries X (X .head .root)) 0) X
   pub room : Chain-room X

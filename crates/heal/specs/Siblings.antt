@@ -1,28 +1,29 @@
 -- Images in which two siblings can be read, and share their entries anew or become one page. Assumes nothing.
-use Prim.Native.Nat.{ℕ, suc, _+_, _≤_, _<_}
+use Prim.Native.Nat.{ℕ, suc, _+_, _-_, _≤_, _<_, max}
 use mathlib.Core.Path.{_≡_}
-use mathlib.Core.List.{List, [], _∷_}
-use lib.ListN.{length}
+use mathlib.Core.List.{List, [], _∷_, _++_}
+use lib.ListN.{length, take, drop}
+use Rattle.rule.specs.declared.Pair.{Pair}
+use Rattle.rule.specs.Bounds.{Combinable}
 use Rattle.rule.specs.Pairs.{none, combine}
 use Rattle.page.specs.declared.Entry.{Entry}
-use Rattle.page.specs.declared.Page.{Page}
 use Rattle.page.specs.Entries.{entry, at}
 use Rattle.lists.specs.Lists.{splice}
-use Rattle.image.specs.Images.{Image}
-use Rattle.steps.specs.Supply.{entries}
-use Rattle.steps.specs.Heal.{pushed}
-use Rattle.store.specs.Encoding.{Loaded}
-use Rattle.store.specs.Preconditions.{Has-entry, Push-ready, Chain-room}
-use Rattle.heal.specs.declared.SiblingPair.{SiblingPair}
+use Rattle.image.specs.Images.{Image, tree}
+use Rattle.steps.specs.Supply.{entries, put, given-back}
+use Rattle.steps.specs.Heal.{pushed, joint}
+use Rattle.store.specs.Encoding.{Encodes}
+use Rattle.store.specs.Preconditions.{Tree-page, Has-entry, Push-ready, Chain-room}
+use Rattle.heal.specs.declared.SiblingPages.{SiblingPages}
 
 -- ---- what is asked
 
--- Page p has an l-th entry and a next one, and the pages under both can take the pairs above them.
+-- Page p has an l-th entry and a next one, and the pages under both, two pages, can take the pairs above them.
 pub record Siblings (level p l : ℕ) (X : Image) : Type 0 where
-  pub low : suc level < 255
   pub parent : Has-entry (suc level) p (suc l) X
   pub left : Push-ready level (at (entries X p) l) X
   pub right : Push-ready level (at (entries X p) (suc l)) X
+  pub apart : at (entries X p) l .child ≡ at (entries X p) (suc l) .child → ⊥
 
 -- all entries of two siblings, in number
 abbrev pub joint-count : ℕ → ℕ → Image → ℕ
@@ -41,28 +42,82 @@ pub record Mergeable (level p l : ℕ) (X : Image) : Type 0 where
   pub few : joint-count p l X ≤ 24
   pub room : Chain-room X
 
--- two decoded pages of whose entries the first k and the others each have room in a page
-pub record Divisible (k : ℕ) (p q : Page) : Type 0 where
-  pub left-slots : p .len ≤ 25
-  pub right-slots : q .len ≤ 25
-  pub first : k ≤ 25
-  pub all : k ≤ p .len + q .len
-  pub rest : p .len + q .len ≤ k + 25
+-- the pair can be combined into the i-th entry of page q
+pub record Entry-pushable (pair : Pair) (level q i : ℕ) (X : Image) : Type 0 where
+  pub has : Has-entry level q i X
+  pub combines : Combinable pair (at (entries X q) i .pair)
 
--- ---- what is read and made
+-- a and b are two tree pages of that level
+pub record Two-pages (level a b : ℕ) (X : Image) : Type 0 where
+  pub apart : a ≡ b → ⊥
+  pub left : Tree-page level a X
+  pub right : Tree-page level b X
 
--- what is read of the l-th entry of page p and the next, and of the pages under both: the pairs above are combined into their entries
-pub record Siblings-read (kind level p l : ℕ) (X : Image) (r : SiblingPair) : Type 0 where
-  pub parent : Loaded (suc level) (entries X p) (r .parent)
-  pub a : r .a ≡ at (entries X p) l
-  pub b : r .b ≡ at (entries X p) (suc l)
-  pub left : Loaded level (pushed (combine kind) X (at (entries X p) l)) (r .left)
-  pub right : Loaded level (pushed (combine kind) X (at (entries X p) (suc l))) (r .right)
+-- page a has room for all entries of both
+pub record Appendable (level a b : ℕ) (X : Image) : Type 0 where
+  pub pages : Two-pages level a b X
+  pub few : length (entries X a) + length (entries X b) ≤ 24
+
+-- page a can have k of all entries of both, and page b the others
+pub record Sharable (level a b k : ℕ) (X : Image) : Type 0 where
+  pub pages : Two-pages level a b X
+  pub first : k ≤ 24
+  pub all : k ≤ length (entries X a) + length (entries X b)
+  pub rest : length (entries X a) + length (entries X b) ≤ k + 24
+
+-- and page a has m of them, not k yet
+pub record Movable (level a b m k : ℕ) (X : Image) : Type 0 where
+  pub shares : Sharable level a b k X
+  pub has : m ≡ length (entries X a)
+  pub differs : m ≡ k → ⊥
+
+-- ---- what is made
 
 -- an entry "set to (0, 0)", from `start` on
 abbrev pub emptied : ℕ → Entry → Entry
 emptied start e = entry start none (e .child)
 
--- the entries of the page above, with `right` in the right one's place, as `give` and `merge` of the step have it
-unfoldable pub above : ℕ → List Entry → List Entry → List Entry
-above l right es = splice l (emptied (at es l .start) (at es l) ∷ []) (splice (suc l) right es)
+-- an entry into which the pair above its page was combined
+abbrev pub with-pair : ℕ → Pair → Entry → Entry
+with-pair kind pair e = entry (e .start) (combine kind pair (e .pair)) (e .child)
+
+-- the pages under the l-th entry of page p and the next, the pair above each combined into its entries
+abbrev pub both-pushed : ℕ → ℕ → ℕ → ℕ → Image → Image
+both-pushed kind level p l X =
+    let a = at (entries X p) l in
+    let b = at (entries X p) (suc l) in
+    put (b .child) (tree level (pushed (combine kind) X b)) (put (a .child) (tree level (pushed (combine kind) X a)) X)
+
+-- the bytes then, and the two pages' numbers
+pub record Both-pushed (kind level p l : ℕ) (X : Image) (r : SiblingPages) (after : List ℕ) : Type 0 where
+  pub left : r .left ≡ at (entries X p) l .child
+  pub right : r .right ≡ at (entries X p) (suc l) .child
+  pub holds : Encodes after (both-pushed kind level p l X)
+
+-- of all entries of pages a and b, page a has the first k and page b the others
+abbrev pub shared : ℕ → ℕ → ℕ → ℕ → Image → Image
+shared level a b k X =
+    let all = entries X a ++ entries X b in
+    put b (tree level (drop k all)) (put a (tree level (take k all)) X)
+
+-- the pages under the l-th entry of page p and the next share their entries anew, the left one has k
+abbrev pub siblings-shared : ℕ → ℕ → ℕ → ℕ → ℕ → Image → Image
+siblings-shared kind level p l k X =
+    let all = joint (combine kind) p l X in
+    put (at (entries X p) (suc l) .child) (tree level (drop k all)) (put (at (entries X p) l .child) (tree level (take k all)) X)
+
+-- they are one page, and the right one is given back
+abbrev pub siblings-joined : ℕ → ℕ → ℕ → ℕ → Image → Image
+siblings-joined kind level p l X =
+    given-back (at (entries X p) (suc l) .child) (put (at (entries X p) l .child) (tree level (joint (combine kind) p l X)) X)
+
+-- the l-th entry of page p is "set to (0, 0)"
+abbrev pub pair-emptied : ℕ → ℕ → ℕ → Image → Image
+pair-emptied level p l X =
+    let e = at (entries X p) l in
+    put p (tree level (splice l (emptied (e .start) e ∷ []) (entries X p))) X
+
+-- r is nearer to k than m is, and not above both
+pub record Nearer (m k r : ℕ) : Type 0 where
+  pub less : (k - r) + (r - k) < (k - m) + (m - k)
+  pub most : r ≤ max k m

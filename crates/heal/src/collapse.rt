@@ -1,9 +1,8 @@
 // "An inner root with one entry combines its pair into its child's entries, is given back, and the child becomes root."
-use crate::load::pushed;
+use crate::push::push_down;
 use store::entries::entry_count_in;
 use store::entries::entry_of;
 use store::heads::head_of;
-use store::pages::save;
 use store::root::set_root;
 use store::supply::give_back;
 ghost use Rattle.rule.specs.Pairs.{combine};
@@ -18,8 +17,7 @@ fn collapse_root(img: &mut [u8], kind: u32)
 {
     let h = head_of(img);
     let e = entry_of(img, h.root, 0);
-    let page = pushed(img, kind, e);
-    save(img, e.child, page);
+    push_down(img, kind, e);
     give_back(img, h.root);
     set_root(img, h.height - 1, e.child);
 }

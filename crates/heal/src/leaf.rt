@@ -1,19 +1,17 @@
 // "Heal at t: only if t starts a leaf entry that isn't first in its page, with the same pair as the one before; it goes."
-use edit::entry::entry_at;
-use edit::remove::remove;
 use page::Entry;
-use page::Page;
 use rule::combine::same_pair;
+use store::edits::remove_entry;
+use store::entries::entry_of;
 use store::entries::find_entry;
-use store::pages::load;
-use store::pages::save;
 ghost use mathlib.Core.Path.{_≡_};
-ghost use Prim.Native.Nat.{ℕ, _<_, _≤_};
+ghost use Prim.Native.Nat.{ℕ};
 ghost use Rattle.rule.specs.Pairs.{combine, same-pair};
-ghost use Rattle.page.specs.Decoded.{entry-list};
+ghost use Rattle.steps.specs.Supply.{entries};
 ghost use Rattle.steps.specs.Heal.{heals, heal-page};
-ghost use Rattle.store.specs.Encoding.{Encodes, Pre, Post};
+ghost use Rattle.store.specs.Encoding.{Encodes, Pre, Post, Pre-level, Post-level};
 ghost use Rattle.store.specs.Preconditions.{Searchable};
+ghost use Rattle.heal.specs.Healable.{Entry-read};
 
 // Whether two entries have the same pair.
 fn alike(e: Entry, before: Entry) -> bool
@@ -24,16 +22,15 @@ fn alike(e: Entry, before: Entry) -> bool
     same_pair(p, q)
 }
 
-// Whether the i-th entry goes.
-fn heals(page: Page, i: usize, t: u32) -> bool
-    requires { ⌜ (i < page .len) × (page .len ≤ 25) ⌝ }
-    ensures { λ r. ⌜ r ≡ heals t (entry-list page) i ⌝ }
+// Whether the i-th entry of page p goes, which was read as e.
+fn heals(img: &[u8], p: u32, i: usize, e: Entry, t: u32) -> bool
+    requires { ⌜ Pre-level (now img) (λ v. Entry-read e v p i) ⌝ }
+    ensures { λ r. ⌜ Post-level (now (img .entry)) (λ v. Entry-read e v p i) (λ v X. r ≡ heals t (entries X p) i) ⌝ }
 {
     if i == 0 {
         return false;
     }
-    let e = entry_at(page, i);
-    let before = entry_at(page, i - 1);
+    let before = entry_of(img, p, i - 1);
     (e.start == t) & alike(e, before)
 }
 
@@ -44,8 +41,8 @@ pub(crate) fn heal_leaf(img: &mut [u8], p: u32, t: u32)
         (λ X. (kind : ℕ) → Encodes (now (img .exit)) (heal-page 12 (combine kind) t 0 p X)) ⌝ }
 {
     let found = find_entry(img, p, t);
-    let page = load(img, p);
-    if heals(page, found.index, t) {
-        save(img, p, remove(page, found.index));
+    let i = found.index;
+    if heals(img, p, i, found.entry, t) {
+        remove_entry(img, p, i);
     }
 }

@@ -1,23 +1,17 @@
 // Steps D and E of a change: heal at t. Document 01, "One change in five steps"; the definitions are those of `steps`, at the kind's rule.
 // Each contract is over every image that the bytes encode and that is ready for it (specs/Siblings.antt, specs/Healable.antt).
-use page::Entry;
-use page::Page;
-
+// Everything is done on the bytes of the pages, entry by entry: no page is decoded, so that a heal takes little stack.
 pub mod collapse;
 pub mod heal;
 pub mod leaf;
-pub mod load;
 pub mod merge;
-pub mod parents;
-pub mod part;
+pub mod push;
 pub mod rebalance;
 pub mod redistribute;
+pub mod share;
 
-// Two siblings, the pairs above them combined into their entries; the page above them, and its entries for the two.
-pub struct SiblingPair {
-    pub parent: Page,
-    pub a: Entry,
-    pub b: Entry,
-    pub left: Page,
-    pub right: Page,
+// Two siblings, by their page numbers.
+pub struct SiblingPages {
+    pub left: u32,
+    pub right: u32,
 }

@@ -1,13 +1,23 @@
 // "else both join in the left page, the right is given back, the parent loses its entry"
-use crate::load::load_siblings;
-use crate::parents::merged;
-use edit::join::append;
-use store::pages::save;
+use crate::push::empty_pair;
+use crate::push::push_siblings;
+use crate::share::append_all;
+use store::edits::remove_entry;
 use store::supply::give_back;
 ghost use Rattle.rule.specs.Pairs.{combine};
 ghost use Rattle.steps.specs.Heal.{merge};
 ghost use Rattle.store.specs.Encoding.{Encodes, Pre-level, Post-level};
-ghost use Rattle.heal.specs.Siblings.{Mergeable};
+ghost use Rattle.heal.specs.Siblings.{Mergeable, siblings-joined};
+
+// The two pages; the page above them stays as it is.
+fn join_siblings(img: &mut [u8], kind: u32, p: u32, l: usize)
+    requires { ⌜ Pre-level (now img) (λ v. Mergeable v p l) ⌝ }
+    ensures { λ _. ⌜ Post-level (now (img .entry)) (λ v. Mergeable v p l) (λ v X. Encodes (now (img .exit)) (siblings-joined kind v p l X)) ⌝ }
+{
+    let s = push_siblings(img, kind, p, l);
+    append_all(img, s.left, s.right);
+    give_back(img, s.right);
+}
 
 // The pages under the l-th entry of page p and the next become one.
 pub(crate) fn merge(img: &mut [u8], kind: u32, p: u32, l: usize)
@@ -15,12 +25,7 @@ pub(crate) fn merge(img: &mut [u8], kind: u32, p: u32, l: usize)
     ensures { λ _. ⌜ Post-level (now (img .entry)) (λ v. Mergeable v p l)
         (λ v X. Encodes (now (img .exit)) (merge (combine kind) v p l X)) ⌝ }
 {
-    let s = load_siblings(img, kind, p, l);
-    let a = s.a;
-    let b = s.b;
-    let all = append(s.left, s.right);
-    let parent = merged(s.parent, l);
-    save(img, a.child, all);
-    give_back(img, b.child);
-    save(img, p, parent);
+    join_siblings(img, kind, p, l);
+    remove_entry(img, p, l + 1);
+    empty_pair(img, p, l);
 }

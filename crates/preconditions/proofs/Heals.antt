@@ -36,7 +36,7 @@ use Rattle.tree.specs.Conserved.{Path-bounded}
 use Rattle.tree.proofs.Conservation.Bounds.{nodes-within}
 use Rattle.tree.proofs.Conservation.Measures.{sums-bounded, counts-bounded, values-bounded}
 use Rattle.refinement.specs.Represents.{Stores, Supplied}
-use Rattle.refinement.proofs.Below.{node-at}
+use Rattle.refinement.proofs.Below.{node-at, under-suc, below-two}
 use Rattle.refinement.proofs.Moves.{lasting}
 use Rattle.refinement.proofs.Paths.{flat-same, entries-are, subtrees-represented, at-flat, there, has-index, from-root}
 use Rattle.refinement.proofs.Stepped.{steady-of}
@@ -215,6 +215,27 @@ module _ (kind changes t : ℕ) (S : Supply) where
           push-ready-at kind changes slow Z l sums counts x′ shown (all-splice i (all-more y-weighed all-none) (k .weighed)) j
           (omega (arith, same-length)) (omega (arith, c, child-inside k j n, pages))
 
+      -- two siblings are two pages: each page is held once
+      apart : (j : ℕ) → suc j < length (x .subtree)
+          → at (entries Z (x .entry .child)) j .child ≡ at (entries Z (x .entry .child)) (suc j) .child
+          → ⊥
+      apart j n e =
+          let z = node-at (suc l) (x .subtree) in
+          let child : (m : ℕ) → at (entries Z (x .entry .child)) m .child ≡ z m .entry .child =
+          λ m. ap (λ (f : Entry). f .child) (entry-is Z (suc l) x′ shown m ∙ same-entry m) in
+          let q = z j .entry .child in
+          let same : hit q q ≡ hit q (z (suc j) .entry .child) = ap (hit q) (sym (child j) ∙ e ∙ child (suc j)) in
+          omega (
+            arith,
+            hit-self q,
+            same,
+            under-suc l q (z j),
+            under-suc l q (z (suc j)),
+            below-two (suc l) q j (x .subtree) n,
+            under-suc (suc l) q x,
+            k .once q,
+          )
+
       -- the child page was left short
       rebalanceable : short 12 (y .entry .child) Z ≡ true → Rebalanceable l (x .entry .child) i Z
       unfolding short
@@ -225,7 +246,6 @@ module _ (kind changes t : ℕ) (S : Supply) where
           record {
             siblings =
                 record {
-                  low = omega arith;
                   parent =
                       record {
                         tree-page = tree-page Z (suc l) x′ shown (omega (arith, here-inside k, pages));
@@ -233,6 +253,7 @@ module _ (kind changes t : ℕ) (S : Supply) where
                       };
                   left = sinks (left-of i) (omega arith);
                   right = sinks (suc (left-of i)) n;
+                  apart = apart (left-of i) n;
                 };
             short = subst⁻¹ (λ (q : ℕ). length (entries Z q) < 12) c (ltb-true (length (entries Z (y .entry .child))) 12 e);
             room = room-after (below .known) (omega arith);
@@ -289,7 +310,6 @@ module _ (kind changes t : ℕ) (S : Supply) where
         let above : Z .head .height - 1 ≡ suc l = omega arith in
         record {
           inner = omega arith;
-          low = omega arith;
           root =
               subst₂ (λ (m q : ℕ). Has-entry m q 0 Z) (sym above) (sym root)
               (record {

@@ -15,15 +15,19 @@ use Rattle.heal.proofs.Roots.{read-root, read-len, collapsed-low, colla
 use Rattle.heal.proofs.collapse.collapse_if_single.Statement.{statement}
 use Rattle.heal.proofs.collapse.collapse_if_single.Tie as tie
 
+abbrev begin : tie.After-head-of → tie.Start
+begin c = c .before .before .before
+
 returns : tie.Need-returns
 returns c X h s =
-    let e = ap (λ (k : Head). k .height) (c .before .before .head-of .ensures X h tt) in
-    subst (Encodes _) (collapsed-low (c .before .before .before .before .before .args .kind) X (omega (arith, c .if1 .taken))) h
+    let read = c .before .before in
+    let e = ap (λ (k : Head). k .height) (read .head-of .ensures X h tt) in
+    subst (Encodes _) (collapsed-low (begin read .args .kind) X (omega (arith, c .if1 .taken))) h
 
 -- ---- the root, of every image that the bytes encode
 
 abbrev start : tie.Else1 → tie.Start
-start c = c .before .before .before .before .before
+start c = begin (c .before .before)
 
 module _ (c : tie.Else1) (X : Image) (h : Encodes (start c .args .img .now) X) (s : Collapsible-if-single X) where
   head : c .before .before .head-of .result ≡ X .head
@@ -56,11 +60,12 @@ collapse-root-requires c κs =
 
 returns-2 : tie.Need-returns-2
 returns-2 c X h s =
-    let one = c .before .before .before .before in
+    let gone = c .before .before in
+    let one = gone .before .before in
     let read = one .before in
     let l = collapses read X h s (one .if2 .taken) in
     subst (Encodes _) (collapsed-collapse-root (start (high read) .args .kind) X (l .inner) (sym (len read X h s) ∙ one .if2 .taken))
-    (c .before .before .collapse-root .ensures X h l)
+    (gone .collapse-root .ensures X h l)
 
 returns-3 : tie.Need-returns-3
 returns-3 c X h s =

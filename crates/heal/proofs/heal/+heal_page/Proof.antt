@@ -65,12 +65,13 @@ pub +heal-page-spec : {M : Type 1} → statement M
     from (start .pre .1)
     (λ X h s. record { image = X; holds = h; ready = (_, inner (args .kind) (args .t) (args .p) X (c .before .if1 .left) s .searchable) }))
     -- sub-heal-page
-    (λ c. omega (arith, c .before .before .before .before .if1 .left))
+    (λ c. let found = c .before .before in omega (arith, found .before .before .if1 .left))
     -- heal-page-requires
     (λ c κs.
     let found = c .before .before in
-    let e = found .before .before .if1 .left in
-    let start = found .before .before .before .before in
+    let else = found .before .before in
+    let e = else .if1 .left in
+    let start = else .before .before in
     let args = start .args in
     from (start .pre .1)
     (λ X h s.
@@ -81,8 +82,9 @@ pub +heal-page-spec : {M : Type 1} → statement M
     (λ c κs.
     let below = c .before .before .before in
     let found = below .before .before .before in
-    let e = found .before .before .if1 .left in
-    let start = found .before .before .before .before in
+    let else = found .before .before in
+    let e = else .if1 .left in
+    let start = else .before .before in
     let args = start .args in
     from (start .pre .1)
     (λ X h s.
@@ -94,10 +96,12 @@ pub +heal-page-spec : {M : Type 1} → statement M
     -- returns-2
     (λ c X h s.
     let after = c .before .before in
-    let below = after .before .before .before .before in
+    let called = after .before in
+    let below = called .before .before .before in
     let found = below .before .before .before in
-    let e = found .before .before .if1 .left in
-    let args = found .before .before .before .before .args in
+    let else = found .before .before in
+    let e = else .if1 .left in
+    let args = else .before .before .args in
     let g = found .find-entry .ensures X h _ (inner (args .kind) (args .t) (args .p) X e s .searchable) in
     let holds = below .heal-page .ensures X h (inner-below (args .kind) (args .t) (args .p) X e g s) in
     subst (Encodes _) (inner-done (args .kind) (args .t) (args .p) X e g)

@@ -14,15 +14,16 @@ use Rattle.heal.proofs.Roots.{healed-is}
 use Rattle.heal.proofs.heal.heal.Statement.{statement}
 use Rattle.heal.proofs.heal.heal.Tie as tie
 
-sub-heal-page : tie.Need-sub-heal-page
-sub-heal-page c =
-    from (c .before .before .before .before .before .pre)
-    (λ X h s.
-    let e = ap (λ (k : Head). k .height) (c .before .before .head-of .ensures X h tt) in
-    omega (arith, s .some))
-
 abbrev start : tie.After-head-of → tie.Start
 start c = c .before .before .before
+
+sub-heal-page : tie.Need-sub-heal-page
+sub-heal-page c =
+    let read = c .before .before in
+    from (start read .pre)
+    (λ X h s.
+    let e = ap (λ (k : Head). k .height) (read .head-of .ensures X h tt) in
+    omega (arith, s .some))
 
 -- of every image that the bytes encode
 module _ (c : tie.After-head-of) (X : Image) (h : Encodes (start c .args .img .now) X)
@@ -47,21 +48,25 @@ heal-page-requires c κs =
     let read = c .before .before in
     from (start read .pre) (λ X h s. record { image = X; holds = h; ready = page read X h s })
 
+abbrev healed : tie.After-collapse-if-single-arg → tie.After-heal-page
+healed c = c .before .before .before
+
 collapse-if-single-requires : tie.Need-collapse-if-single-requires
 collapse-if-single-requires c κs =
-    let below = c .before .before .before in
+    let below = healed c in
     let read = below .before .before .before in
     from (start read .pre)
     (λ X h s. record { image = _; holds = below .heal-page .ensures X h (page read X h s); ready = collapses read X h s })
 
 returns : tie.Need-returns
 returns c X h s =
-    let below = c .before .before .before .before .before .before in
+    let after = c .before .before in
+    let below = healed (after .before) in
     let read = below .before .before .before in
     let args = start read .args in
     let holds = below .heal-page .ensures X h (page read X h s) in
     subst (Encodes _) (healed-is (args .kind) X (args .t) (head read X h s))
-    (c .before .before .collapse-if-single .ensures _ holds (collapses read X h s))
+    (after .collapse-if-single .ensures _ holds (collapses read X h s))
 
 pub heal-spec : {M : Type 1} → statement M
 heal-spec =

@@ -21,12 +21,13 @@ rebalance-requires c κs =
 
 returns : tie.Need-returns
 returns c X h v s =
-    let short = c .before .before .before .before in
+    let after = c .before .before in
+    let short = after .before .before in
     let read = short .before in
     let args = read .before .before .before .args in
     let n = read .entry-count-in .ensures X h v (s .tree-page) in
     subst (Encodes _) (if-short-rebalanced (args .q) X (n .0) (args .kind) v (args .p) (args .i) (short .if1 .taken))
-    (c .before .before .rebalance .ensures X h v (rebalances-rebalanceable (args .q) X (n .0) (short .if1 .taken) s))
+    (after .rebalance .ensures X h v (rebalances-rebalanceable (args .q) X (n .0) (short .if1 .taken) s))
 
 returns-2 : tie.Need-returns-2
 returns-2 c X h v s =

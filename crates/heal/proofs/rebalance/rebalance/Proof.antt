@@ -17,15 +17,17 @@ use Rattle.heal.proofs.Rebalancing.{rebalance-redistributed, rebalance-
 use Rattle.heal.proofs.rebalance.rebalance.Statement.{statement}
 use Rattle.heal.proofs.rebalance.rebalance.Tie as tie
 
+abbrev begin : tie.After-sibling → tie.Start
+begin c = c .before .before .before
+
 entry-of-requires : tie.Need-entry-of-requires
 entry-of-requires c κs =
-    from (c .before .before .before .pre)
-    (λ X h s. record { image = X; holds = h; ready = (_, rebalance-entry (s .1) (c .sibling .ensures)) })
+    from (begin c .pre) (λ X h s. record { image = X; holds = h; ready = (_, rebalance-entry (s .1) (c .sibling .ensures)) })
 
 -- ---- the sibling, of every image that the bytes encode
 
 abbrev start : tie.After-entry-of → tie.Start
-start c = c .before .before .before .before
+start c = begin (c .before)
 
 module _ (c : tie.After-entry-of) (X : Image) (h : Encodes (start c .args .img .now) X)
     {v : ℕ} (s : Rebalanceable v (start c .args .p) (start c .args .i) X) where
