@@ -14,7 +14,7 @@ use Rattle.page.specs.Fit.{Page-context, most-changes, page-fit}
 use Rattle.fit.proofs.Laws.Paths.{Path}
 use Rattle.listing.specs.declared.SpanQuery.{SpanQuery}
 use Rattle.listing.specs.declared.Cursor.{Cursor}
-use Rattle.listing.specs.Walks.{bytes-at}
+use Rattle.listing.specs.Walks.{bytes-at, meets}
 
 -- What the pairs above a context are combined to: no more than they add to, or a value.
 pub record Above (h : Head) (at : Page-context) (p : Pair) : Type 0 where
@@ -35,7 +35,8 @@ pub record Valid-cursor (img : List ℕ) (q : SpanQuery) (on : Cursor) : Type 0 
 pub record Known-fit (img : List ℕ) (q : SpanQuery) (on : Cursor) : Type 0 where
   pub known : q .writing ≡ true → page-fit 12 (q .head) (on .at) (bytes-at img on) ≡ true
 
--- The page is fit, and the i-th is one of its entries.
+-- The page is fit, and the i-th is one of its entries and overlaps the span.
 pub record Valid-entry (img : List ℕ) (q : SpanQuery) (on : Cursor) (i : ℕ) : Type 0 where
   pub fit : page-fit 12 (q .head) (on .at) (bytes-at img on) ≡ true
   pub within : i < entry-count (bytes-at img on)
+  pub met : meets q (bytes-at img on) on i ≡ true

@@ -1,36 +1,24 @@
-// The entries that a walk meets.
+// An entry that a walk meets.
 use crate::Cursor;
 use crate::SpanQuery;
 use access::pages::page_at;
 use fit::contexts::context_below;
-use fit::contexts::end_at;
 use page::at::child_at;
 use page::at::pair_at;
 use page::at::start_at;
 use rule::Pair;
 use rule::combine::combine;
-use rule::time::overlaps;
 ghost use mathlib.Core.Path.{_≡_};
 ghost use Prim.Native.Nat.{_≤_, max};
 ghost use Rattle.page.specs.Layout.{start-at};
 ghost use Rattle.listing.specs.Cursors.{Valid-cursor, Valid-entry};
-ghost use Rattle.listing.specs.Walks.{bytes-at, meets, cursor-below};
+ghost use Rattle.listing.specs.Walks.{bytes-at, cursor-below};
 
 // The later of two instants.
 fn later(a: u32, b: u32) -> u32
     ensures { λ r. ⌜ r ≡ max a b ⌝ }
 {
     if a < b { b } else { a }
-}
-
-// Whether the i-th entry of a fit page overlaps the span: only such an entry counts.
-pub(crate) fn meets(img: &[u8], q: SpanQuery, on: Cursor, i: usize) -> bool
-    requires { ⌜ Valid-cursor (now img) q on ⌝ }
-    requires { ⌜ Valid-entry (now img) q on i ⌝ }
-    ensures { λ r. ⌜ r ≡ meets q (bytes-at (now (img .entry)) on) on i ⌝ }
-{
-    let s = page_at(img, on.page);
-    overlaps(q.a, q.b, start_at(s, i), end_at(s, on.at.hi, i))
 }
 
 // Where the run of a leaf's i-th entry starts: the first run starts at a.

@@ -6,6 +6,7 @@ use runs::Run;
 
 pub mod entries;
 pub mod leaves;
+pub mod met;
 pub mod pages;
 pub mod passes;
 pub mod walks;
@@ -23,6 +24,12 @@ pub struct Cursor {
     pub at: PageContext,
     pub page: u32,
     pub above: Pair,
+}
+
+// The entries of a page that overlap the span: from one index up to, but not including, another.
+pub struct EntryRange {
+    pub from: usize,
+    pub to: usize,
 }
 
 // A page's count of entries, or that it is unfit.

@@ -4,6 +4,7 @@ use crate::PageCheck;
 use crate::SpanQuery;
 use access::pages::page_at;
 use fit::tree_page::page_fit;
+use page::Head;
 use page::PageContext;
 use page::at::entry_count;
 ghost use mathlib.Core.Path.{_≡_};
@@ -14,27 +15,29 @@ ghost use Rattle.fit.specs.Contexts.{Bounded};
 ghost use Rattle.listing.specs.Cursors.{Valid-cursor, Known-fit};
 ghost use Rattle.listing.specs.Walks.{page-check};
 
-// Whether a page is fit. The walk that writes follows one that has found every page fit, and checks none again.
-fn found_fit(s: &[u8], q: SpanQuery, at: PageContext) -> bool
+// Whether a page is fit, if it isn't known to be. It takes the head alone: a whole query would be copied for each page, and read back
+// while its parts are still being written.
+fn found_fit(s: &[u8], known: bool, h: Head, at: PageContext) -> bool
     requires { ⌜ length (now s) ≡ 512 ⌝ }
     requires { ⌜ Bounded at ⌝ }
-    requires { ⌜ (q .writing ≡ true → page-fit 12 (q .head) at (now s) ≡ true) ⌝ }
-    ensures { λ r. ⌜ r ≡ page-fit 12 (q .head) at (now (s .entry)) ⌝ }
+    requires { ⌜ (known ≡ true → page-fit 12 h at (now s) ≡ true) ⌝ }
+    ensures { λ r. ⌜ r ≡ page-fit 12 h at (now (s .entry)) ⌝ }
 {
-    if q.writing {
+    if known {
         return true;
     }
-    page_fit(s, q.head, at)
+    page_fit(s, h, at)
 }
 
-// A page is checked before anything in it is used.
+// A page is checked before anything in it is used. The walk that writes follows one that has found every page fit, and checks none
+// again.
 pub(crate) fn check_page(img: &[u8], q: SpanQuery, on: Cursor) -> PageCheck
     requires { ⌜ Valid-cursor (now img) q on ⌝ }
     requires { ⌜ Known-fit (now img) q on ⌝ }
     ensures { λ r. ⌜ r ≡ page-check (now (img .entry)) q on ⌝ }
 {
     let s = page_at(img, on.page);
-    if found_fit(s, q, on.at) {
+    if found_fit(s, q.writing, q.head, on.at) {
         return PageCheck::Entries(entry_count(s) as usize);
     }
     PageCheck::Unfit

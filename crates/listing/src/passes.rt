@@ -1,8 +1,10 @@
 // The two passes: nothing may be written before it is known that every page met is fit and that the runs have room.
 use crate::Cursor;
+use crate::PageCheck;
 use crate::RunCount;
 use crate::SpanQuery;
 use crate::WalkAnswer;
+use crate::pages::check_page;
 use crate::walks::walk_page;
 use fit::contexts::root_context;
 use page::Head;
@@ -36,7 +38,10 @@ fn walk_root(img: &[u8], out: &mut [u8], q: SpanQuery) -> WalkAnswer
         pair: none,
         written: 0,
     };
-    walk_page(img, out, q, root, first)
+    let PageCheck::Entries(n) = check_page(img, q, root) else {
+        return WalkAnswer::Unfit;
+    };
+    walk_page(img, out, q, root, n, first)
 }
 
 // The first pass: the number of runs over [a, b), unless a page that the walk meets is unfit.

@@ -5,35 +5,38 @@ use crate::PageCheck;
 use crate::SpanQuery;
 use crate::WalkAnswer;
 use crate::entries::cursor_below;
-use crate::entries::meets;
 use crate::leaves::leaf_page;
+use crate::met::entries_met;
 use crate::pages::check_page;
 use runs::Run;
+ghost use mathlib.Core.Path.{_≡_};
 ghost use Prim.Native.Nat.{_≤_};
 ghost use Rattle.listing.specs.Cursors.{Valid-cursor, Valid-entry};
-ghost use Rattle.listing.specs.Walks.{page-walk, entry-walk, Room, Does};
+ghost use Rattle.listing.specs.Walks.{page-walk, entry-walk, page-check, Room, Does};
+ghost use Rattle.listing.specs.declared.PageCheck.the-variants.{Entries};
 
-// From a page on: its entries in turn, up to the first unfit page. A page is fit in no two contexts, so none is found fit twice.
+// From a fit page of n entries on: those that overlap the span in turn, up to the first unfit page below. A page is fit in no two
+// contexts, so none is found fit twice.
 pub(crate) fn walk_page(
     img: &[u8],
     out: &mut [u8],
     q: SpanQuery,
     on: Cursor,
+    n: usize,
     run: Run,
 ) -> WalkAnswer
     requires { ⌜ Valid-cursor (now img) q on ⌝ }
+    requires { ⌜ Entries n ≡ page-check (now img) q on ⌝ }
     requires { ⌜ Room (q .writing) run (page-walk (now img) q on) (now out) ⌝ }
     ensures { λ r. ⌜ Does (q .writing) run (page-walk (now (img .entry)) q on) (now (out .entry)) r (now (out .exit)) ⌝ }
 {
-    let PageCheck::Entries(n) = check_page(img, q, on) else {
-        return WalkAnswer::Unfit;
-    };
     if on.at.level == 0 {
         return WalkAnswer::Fit(leaf_page(img, out, q, on, n, run));
     }
+    let met = entries_met(img, q, on, n);
     let mut last = run;
-    let mut i = 0;
-    while i < n {
+    let mut i = met.from;
+    while i < met.to {
         let WalkAnswer::Fit(next) = walk_entry(img, out, q, on, i, last) else {
             return WalkAnswer::Unfit;
         };
@@ -43,7 +46,8 @@ pub(crate) fn walk_page(
     WalkAnswer::Fit(last)
 }
 
-// One entry of a fit inner page.
+// One entry of a fit inner page. The page below is checked here, where its context was made, and not behind the call: handed on, the
+// context would be copied while it is still being written, which costs a sixth of a listing's time.
 fn walk_entry(
     img: &[u8],
     out: &mut [u8],
@@ -58,8 +62,9 @@ fn walk_entry(
     requires { ⌜ Room (q .writing) run (entry-walk (now img) q on i) (now out) ⌝ }
     ensures { λ r. ⌜ Does (q .writing) run (entry-walk (now (img .entry)) q on i) (now (out .entry)) r (now (out .exit)) ⌝ }
 {
-    if !meets(img, q, on, i) {
-        return WalkAnswer::Fit(run);
-    }
-    walk_page(img, out, q, cursor_below(img, q, on, i), run)
+    let below = cursor_below(img, q, on, i);
+    let PageCheck::Entries(n) = check_page(img, q, below) else {
+        return WalkAnswer::Unfit;
+    };
+    walk_page(img, out, q, below, n, run)
 }

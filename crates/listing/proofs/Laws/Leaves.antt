@@ -1,25 +1,46 @@
--- One leaf entry: what is written of it, and the room for it. Assumes nothing.
-use mathlib.Core.Path.{_≡_}
-use mathlib.Core.Bool.{Bool, true, false}
+-- One leaf entry: what is counted and written of it, and the room for it. Assumes nothing.
+use mathlib.Core.Path.{_≡_, refl, ap}
+use mathlib.Core.Bool.{Bool, true, false, false≢true}
 use mathlib.Core.List.{List, []}
 use Prim.Native.Nat.{ℕ, _+_, _*_, _≤_}
 use lib.ListN.{length}
 use Rattle.image.specs.Listing as image
 use Rattle.runs.specs.declared.Run.{Run}
-use Rattle.runs.specs.Open.{goes-on, output-after, output-after-all}
+use Rattle.runs.specs.Open.{goes-on, stepped, output-after, stepped-all, output-after-all}
 use Rattle.runs.proofs.Laws.Entries.{room-for-new}
-use Rattle.listing.specs.Walks.{one-run, output, Room}
+use Rattle.listing.specs.declared.WalkAnswer.{WalkAnswer}
+use Rattle.listing.specs.declared.WalkAnswer.the-variants.{Fit}
+use Rattle.listing.specs.Walks.{one-run, answer, output, Room, Does}
 
--- a run that begins has room
-pub room-new : {writing : Bool} {run : Run} {x : image.Run} {out : List ℕ} → Room writing run (one-run (x .start) (x .pair)) out
-    → writing ≡ true → goes-on run x ≡ false → 16 * run .written + 16 ≤ length out
-room-new {writing} {run} {x} {out} h e new = room-for-new run x [] out (h .room e) new
+-- ---- a walk that writes, and one that counts, which looks at no output
 
-module _ (writing : Bool) (run : Run) (x : image.Run) (out : List ℕ) where
-  pub output-counting : writing ≡ false → output writing run (one-run (x .start) (x .pair)) out ≡ out
+module _ {writing : Bool} {run : Run} {w : image.Walked} {out : List ℕ} (writes : writing ≡ true) where
+  pub room-written : Room writing run w out → Room true run w out
+  room-written h = rw writes at h
+
+  pub does-written : {r : WalkAnswer} {left : List ℕ} → Does true run w out r left → Does writing run w out r left
+  does-written d = rw writes d
+
+module _ {writing : Bool} {run : Run} {w : image.Walked} {out : List ℕ} (counts : writing ≡ false) where
+  pub room-counted : Room writing run w out → Room false run w []
+  room-counted h = record { few = h .few; fit = λ e. absurd (false≢true e); room = λ e. absurd (false≢true e) }
+
+  pub does-counted : {r : WalkAnswer} → Does false run w [] r [] → Does writing run w out r out
   unfolding output
-  output-counting e = rw e
+  does-counted d = rw counts (record { answers = d .answers; writes = refl })
 
-  pub output-writing : writing ≡ true → output writing run (one-run (x .start) (x .pair)) out ≡ output-after run x out
-  unfolding output output-after-all
-  output-writing e = rw e
+-- ---- one entry
+
+module _ {run : Run} {x : image.Run} {out : List ℕ} where
+  -- a run that begins has room
+  pub room-new : Room true run (one-run (x .start) (x .pair)) out → goes-on run x ≡ false → 16 * run .written + 16 ≤ length out
+  room-new h new = room-for-new run x [] out (h .room refl) new
+
+  pub counted-one : {r : Run} → r ≡ stepped run x → Does false run (one-run (x .start) (x .pair)) out (Fit r) out
+  unfolding answer output stepped-all
+  counted-one e = record { answers = ap Fit e; writes = refl }
+
+  pub written-one : {r : Run} {left : List ℕ} → r ≡ stepped run x → left ≡ output-after run x out
+      → Does true run (one-run (x .start) (x .pair)) out (Fit r) left
+  unfolding answer output stepped-all output-after-all
+  written-one e w = record { answers = ap Fit e; writes = w }

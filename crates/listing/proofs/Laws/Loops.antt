@@ -7,29 +7,40 @@ use native.Mathlib.Omega.{arith}
 use lib.ListN.{length}
 use Rattle.page.specs.Layout.{entry-count}
 use Rattle.page.specs.Fit.{page-fit}
-use Rattle.fit.proofs.Laws.Pages.{page-fit-is}
-use Rattle.image.specs.Listing.{Walked, nothing, stopped, in-turn}
+use Rattle.fit.specs.Contexts.{Compared}
+use Rattle.fit.proofs.Laws.Pages.{page-fit-is, entry-first}
+use Rattle.image.specs.Listing.{Walked, stopped, in-turn}
 use Rattle.runs.specs.declared.Run.{Run}
-use Rattle.runs.specs.Open.{stepped-all}
 use Rattle.listing.specs.declared.SpanQuery.{SpanQuery}
 use Rattle.listing.specs.declared.Cursor.{Cursor}
+use Rattle.listing.specs.declared.EntryRange.{EntryRange}
 use Rattle.listing.specs.declared.PageCheck.the-variants as opened
+use Rattle.listing.specs.declared.WalkAnswer.{WalkAnswer}
 use Rattle.listing.specs.declared.WalkAnswer.the-variants.{Fit, Unfit}
-use Rattle.listing.specs.Walks.{bytes-at, page-walk, page-check, entry-walk, answer, Does, Room}
-use Rattle.listing.specs.Cursors.{Known-fit, Valid-entry}
-use Rattle.listing.proofs.Laws.Turns.{output-none, Walking, walking-none, walking-room, walking-more, walking-unfit, walking-all}
-use Rattle.listing.proofs.Laws.Pages.{page-stopped, page-in-turn}
+use Rattle.listing.specs.Walks.{bytes-at, cursor-below, page-walk, page-check, entry-walk, answer, Does, Room}
+use Rattle.listing.specs.Cursors.{Valid-cursor, Known-fit, Valid-entry}
+use Rattle.listing.specs.Met.{Met}
+use Rattle.listing.proofs.Laws.Turns.{output-none, Walking, walking-none, walking-skip, walking-room, walking-more}
+use Rattle.listing.proofs.Laws.Turns.{walking-unfit, walking-all}
+use Rattle.listing.proofs.Laws.Stands.{page-length}
+use Rattle.listing.proofs.Laws.Pages.{entry-apart, entry-inner, page-stopped, page-in-turn}
 
--- ---- nothing is met
+-- ---- an unfit page
 
-module _ (writing : Bool) (run : Run) (out : List ℕ) where
-  pub does-nothing : Does writing run nothing out (Fit run) out
-  unfolding answer nothing stepped-all
-  does-nothing = record { answers = refl; writes = sym (output-none writing run nothing out refl) }
+pub does-stopped : (writing : Bool) (run : Run) (out : List ℕ) → Does writing run stopped out Unfit out
+unfolding answer stopped
+does-stopped writing run out = record { answers = refl; writes = sym (output-none writing run stopped out refl) }
 
-  pub does-stopped : Does writing run stopped out Unfit out
-  unfolding answer stopped
-  does-stopped = record { answers = refl; writes = sym (output-none writing run stopped out refl) }
+-- ---- the page below an entry that overlaps the span
+
+module _ {img : List ℕ} {q : SpanQuery} {on below : Cursor} {i : ℕ} {writing : Bool} {run : Run} {out : List ℕ}
+    (here : Valid-entry img q on i) (inner : 1 ≤ on .at .level) (down : below ≡ cursor-below q (bytes-at img on) on i) where
+  pub room-below : Room writing run (entry-walk img q on i) out → Room writing run (page-walk img q below) out
+  room-below h = rw (entry-inner img q on i (here .met) inner down) at h
+
+  pub does-below : {r : WalkAnswer} {left : List ℕ} → Does writing run (page-walk img q below) out r left
+      → Does writing run (entry-walk img q on i) out r left
+  does-below d = rw (entry-inner img q on i (here .met) inner down) d
 
 -- ---- a page, and its entries in turn
 
@@ -51,7 +62,7 @@ module _ (img : List ℕ) (q : SpanQuery) (on : Cursor) where
       go true f = let z : _≡_ {A = ℕ} 0 1 = cc in absurd (omega arith)
       go false f = refl
 
-  opened-fit : {n : ℕ} → opened.Entries n ≡ page-check img q on
+  pub opened-fit : {n : ℕ} → opened.Entries n ≡ page-check img q on
       → (page-fit 12 (q .head) (on .at) (bytes-at img on) ≡ true) × (n ≡ entry-count (bytes-at img on))
   unfolding page-check
   opened-fit {n} e = go (page-fit 12 (q .head) (on .at) (bytes-at img on)) e
@@ -61,18 +72,37 @@ module _ (img : List ℕ) (q : SpanQuery) (on : Cursor) where
       go true f = (refl, cc)
       go false f = let z : _≡_ {A = ℕ} 0 1 = cc in absurd (omega arith)
 
-  -- The loop after i of the n entries of a fit page, from run and out on: r and left are the open run and the output.
-  pub record Turning (run : Run) (out : List ℕ) (n i : ℕ) (r : Run) (left : List ℕ) : Type 0 where
-    pub fit : page-fit 12 (q .head) (on .at) (bytes-at img on) ≡ true
-    pub len : n ≡ entry-count (bytes-at img on)
-    pub most : n ≤ 24
-    pub whole : page-walk img q on ≡ in-turn n (entry-walk img q on)
-    pub room : Room (q .writing) run (in-turn n (entry-walk img q on)) out
-    pub so-far : Walking (entry-walk img q on) (q .writing) run out n i r left
+  -- its count of entries may be used
+  pub opened-compared : {n : ℕ} {s : List ℕ} → Valid-cursor img q on → opened.Entries n ≡ page-check img q on → s ≡ bytes-at img on
+      → Compared s n
+  opened-compared sits e d =
+      let f = opened-fit e in
+      let fit = page-fit-is 12 (q .head) (on .at) (bytes-at img on) .0 (f .0) in
+      rw d
+      (record {
+        size = page-length sits;
+        len = f .1;
+        some = omega (arith, f .1, entry-first fit (omega arith));
+        most = omega (arith, f .1, fit .most);
+      })
 
-  pub turning-none : {n : ℕ} {run : Run} {out : List ℕ} → opened.Entries n ≡ page-check img q on
-      → Room (q .writing) run (page-walk img q on) out → Turning run out n 0 run out
-  turning-none {n} {run} {out} e room =
+  -- The loop over the range r of the n entries of a fit page, after those before i: from run and out on, last and left are the open run
+  -- and the output. It writes, or only counts.
+  pub record Turning (writing : Bool) (run : Run) (out : List ℕ) (n : ℕ) (r : EntryRange) (i : ℕ) (last : Run) (left : List ℕ) : Type 0
+    where
+      pub fit : page-fit 12 (q .head) (on .at) (bytes-at img on) ≡ true
+      pub len : n ≡ entry-count (bytes-at img on)
+      pub most : n ≤ 24
+      pub met : Met img q on n r
+      pub after : r .from ≤ i
+      pub whole : page-walk img q on ≡ in-turn n (entry-walk img q on)
+      pub room : Room writing run (in-turn n (entry-walk img q on)) out
+      pub so-far : Walking (entry-walk img q on) writing run out n i last left
+
+  -- the entries before the range give nothing
+  pub turning-none : {writing : Bool} {n : ℕ} {r : EntryRange} {run : Run} {out : List ℕ} → opened.Entries n ≡ page-check img q on
+      → Met img q on n r → Room writing run (page-walk img q on) out → Turning writing run out n r (r .from) run out
+  turning-none {writing} {n} {r} {run} {out} e m room =
       let f = opened-fit e in
       let w : page-walk img q on ≡ in-turn n (entry-walk img q on) = page-in-turn img q on (f .0)
       ∙ ap (λ k. in-turn k (entry-walk img q on)) (sym (f .1)) in
@@ -80,34 +110,50 @@ module _ (img : List ℕ) (q : SpanQuery) (on : Cursor) where
         fit = f .0;
         len = f .1;
         most = omega (arith, f .1, page-fit-is 12 (q .head) (on .at) (bytes-at img on) .0 (f .0) .most);
+        met = m;
+        after = omega arith;
         whole = w;
         room = rw w at room;
-        so-far = walking-none (entry-walk img q on) (q .writing) run out n;
+        so-far =
+            walking-skip (entry-walk img q on) writing run out (walking-none (entry-walk img q on) writing run out n) (r .from)
+            (omega arith) (m .from-most) (λ k _ l. entry-apart img q on k (m .before k l));
       }
 
-  module _ {run : Run} {out : List ℕ} {n i : ℕ} {r : Run} {left : List ℕ} (t : Turning run out n i r left) where
-    pub turning-inside : i < n → Valid-entry img q on i
-    turning-inside l = record { fit = t .fit; within = omega (arith, t .len) }
+  module _ {writing : Bool} {run : Run} {out : List ℕ} {n : ℕ} {r : EntryRange} {i : ℕ} {last : Run} {left : List ℕ}
+      (t : Turning writing run out n r i last left) where
+    -- an entry of the range is one of the page's
+    inside : i < r .to → i < n
+    inside l = omega (arith, t .met .to-most)
 
-    pub turning-room : i < n → Room (q .writing) r (entry-walk img q on i) left
-    turning-room l = walking-room _ _ _ _ (t .so-far) (t .room) l
+    pub turning-inside : i < r .to → Valid-entry img q on i
+    turning-inside l = record { fit = t .fit; within = omega (arith, t .len, inside l); met = t .met .inside i (t .after) l }
 
-    pub turning-more : i < n → {next : Run} {left′ : List ℕ} → Does (q .writing) r (entry-walk img q on i) left (Fit next) left′
+    pub turning-room : i < r .to → Room writing last (entry-walk img q on i) left
+    turning-room l = walking-room _ _ _ _ (t .so-far) (t .room) (inside l)
+
+    pub turning-more : i < r .to → {next : Run} {left′ : List ℕ} → Does writing last (entry-walk img q on i) left (Fit next) left′
         → length left′ ≡ length left
-        → Turning run out n (i + 1) next left′
+        → Turning writing run out n r (i + 1) next left′
     turning-more l d k =
         record {
           fit = t .fit;
           len = t .len;
           most = t .most;
+          met = t .met;
+          after = omega (arith, t .after);
           whole = t .whole;
           room = t .room;
-          so-far = walking-more _ _ _ _ (t .so-far) l d k;
+          so-far = walking-more _ _ _ _ (t .so-far) (inside l) d k;
         }
 
-    pub turning-unfit : i < n → {left′ : List ℕ} → Does (q .writing) r (entry-walk img q on i) left Unfit left′
-        → Does (q .writing) run (page-walk img q on) out Unfit left′
-    turning-unfit l d = rw (t .whole) (walking-unfit _ _ _ _ (t .so-far) (t .room) l d)
+    pub turning-unfit : i < r .to → {left′ : List ℕ} → Does writing last (entry-walk img q on i) left Unfit left′
+        → Does writing run (page-walk img q on) out Unfit left′
+    turning-unfit l d = rw (t .whole) (walking-unfit _ _ _ _ (t .so-far) (t .room) (inside l) d)
 
-    pub turning-all : n ≤ i → Does (q .writing) run (page-walk img q on) out (Fit r) left
-    turning-all l = rw (t .whole) (walking-all _ _ _ _ (t .so-far) l)
+    -- the entries behind the range give nothing
+    pub turning-all : r .to ≤ i → Does writing run (page-walk img q on) out (Fit last) left
+    turning-all l =
+        rw (t .whole)
+        (walking-all _ _ _ _
+        (walking-skip _ _ _ _ (t .so-far) n (t .so-far .within) (omega arith)
+        (λ k a b. entry-apart img q on k (t .met .behind k (omega arith) b))) (omega arith))

@@ -1,10 +1,10 @@
 -- What the walk from a page on is: unfit, or its entries in turn. Assumes nothing.
 use mathlib.Core.Path.{_≡_, refl, sym, ap, ap₂, _∙_}
-use mathlib.Core.Bool.{Bool, true, false, cond, not}
+use mathlib.Core.Bool.{Bool, true, false, cond}
 use mathlib.Core.List.{List, [], _∷_, map-append}
 use Prim.Native.Nat.{ℕ, zero, suc, _≤_, max}
 use native.Mathlib.Omega.{arith}
-use borrow.Author.Tests.{eq-eqb, ne-eqb, not-true, not-false}
+use borrow.Author.Tests.{eq-eqb, ne-eqb}
 use Rattle.rule.specs.declared.Pair.{Pair}
 use Rattle.rule.specs.Pairs.{none, combine}
 use Rattle.rule.proofs.Laws.{lawful}
@@ -46,23 +46,24 @@ under-turn comb p (suc n) f =
     ap (λ l. record { fit = then (in-turn n f) (f n) .fit; runs = l }) (map-append _ (in-turn n f .runs) (f n .runs))
     ∙ ap (λ w. then w (under comb p (f n))) (under-turn comb p n f)
 
--- ---- the ways out of an entry, by the test that the code makes
+-- ---- an entry, by whether it overlaps the span
 
-module _ (img : List ℕ) (q : SpanQuery) (on : Cursor) (i : ℕ) {b : Bool} (told : b ≡ meets q (bytes-at img on) on i) where
-  pub entry-apart : not b ≡ true → entry-walk img q on i ≡ nothing
+module _ (img : List ℕ) (q : SpanQuery) (on : Cursor) (i : ℕ) where
+  pub entry-apart : meets q (bytes-at img on) on i ≡ false → entry-walk img q on i ≡ nothing
   unfolding entry-walk
-  entry-apart e = rw (sym told ∙ not-true b e)
+  entry-apart e = rw e
 
-  pub entry-leaf : not b ≡ false → on .at .level ≡ 0
+  pub entry-leaf : meets q (bytes-at img on) on i ≡ true → on .at .level ≡ 0
       → {start : ℕ} {pair : Pair} → start ≡ max (q .a) (start-at (bytes-at img on) i) → pair ≡ cursor-below q (bytes-at img on) on i .above
       → entry-walk img q on i ≡ one-run start pair
   unfolding entry-walk
-  entry-leaf e z s p = rw (sym told ∙ not-false b e, eq-eqb (on .at .level) 0 z) (ap₂ one-run (sym s) (sym p))
+  entry-leaf e z s p = rw (e, eq-eqb (on .at .level) 0 z) (ap₂ one-run (sym s) (sym p))
 
-  pub entry-inner : not b ≡ false → 1 ≤ on .at .level → {below : Cursor} → below ≡ cursor-below q (bytes-at img on) on i
+  pub entry-inner : meets q (bytes-at img on) on i ≡ true → 1 ≤ on .at .level → {below : Cursor}
+      → below ≡ cursor-below q (bytes-at img on) on i
       → entry-walk img q on i ≡ page-walk img q below
   unfolding entry-walk
-  entry-inner e l d = rw (sym told ∙ not-false b e, ne-eqb (on .at .level) 0 (λ z. absurd (omega arith))) (ap (page-walk img q) (sym d))
+  entry-inner e l d = rw (e, ne-eqb (on .at .level) 0 (λ z. absurd (omega arith))) (ap (page-walk img q) (sym d))
 
 -- ---- a page
 

@@ -1,7 +1,7 @@
 -- One walk and then another, from the open run on: what is answered, written and left to count on. Assumes nothing.
 use mathlib.Core.Path.{_≡_, refl, sym, ap, _∙_, subst⁻¹}
-use mathlib.Core.Bool.{Bool, true, false, cond, _&&_, and-false, true≢false}
-use mathlib.Core.List.{List, []}
+use mathlib.Core.Bool.{Bool, true, false, cond, _&&_, and-true, and-false, true≢false}
+use mathlib.Core.List.{List, [], append-nil}
 use Prim.Native.Nat.{ℕ, zero, suc, _+_, _*_, _≤_, _<_}
 use native.Mathlib.Decide.{decLt}
 use native.Mathlib.Numerals.{add-one}
@@ -95,7 +95,25 @@ module _ (writing : Bool) (run : Run) (v w : image.Walked) (out : List ℕ) (h :
 
 -- ---- the entries of a page in turn
 
+then-nothing : (w : image.Walked) → then w nothing ≡ w
+unfolding then nothing
+then-nothing w = λ j. record { fit = and-true (w .fit) j; runs = append-nil (w .runs) j }
+
 module _ (f : ℕ → image.Walked) where
+  -- entries that give nothing leave the walk as it is
+  pub skip-turn : (n i : ℕ) → i ≤ n → ((k : ℕ) → i ≤ k → k < n → f k ≡ nothing) → in-turn n f ≡ in-turn i f
+  unfolding in-turn
+  skip-turn zero i l h =
+      let d : 0 ≡ i = omega arith in
+      ap (λ k. in-turn k f) d
+  skip-turn (suc n) i l h = go (decLt n i) (λ m. skip-turn n i m (λ k a b. h k a (omega arith)))
+    where
+      go : Dec (n < i) → (i ≤ n → in-turn n f ≡ in-turn i f) → then (in-turn n f) (f n) ≡ in-turn i f
+      go (yes m) rest =
+          let d : suc n ≡ i = omega arith in
+          ap (λ k. in-turn k f) d
+      go (no m) rest = ap (then (in-turn n f)) (h n (omega arith) (omega arith)) ∙ then-nothing (in-turn n f) ∙ rest (omega arith)
+
   -- an unfit entry makes the page's walk unfit
   pub unfit-turn : (n i : ℕ) → i < n → f i .fit ≡ false → in-turn n f .fit ≡ false
   unfolding in-turn then
@@ -139,6 +157,18 @@ module _ (f : ℕ → image.Walked) where
         record { within = omega arith; fit = refl; runs = refl; writes = sym (output-none writing run nothing out refl); same = refl }
 
     module _ {n i : ℕ} {r : Run} {left : List ℕ} (h : Walking n i r left) where
+      -- entries that give nothing are passed over
+      pub walking-skip : (j : ℕ) → i ≤ j → j ≤ n → ((k : ℕ) → i ≤ k → k < j → f k ≡ nothing) → Walking n j r left
+      walking-skip j l m none =
+          let e = skip-turn j i l none in
+          record {
+            within = m;
+            fit = ap (λ (w : image.Walked). w .fit) e ∙ h .fit;
+            runs = h .runs ∙ ap (λ (w : image.Walked). stepped-all run (w .runs)) (sym e);
+            writes = h .writes ∙ ap (λ w. output writing run w out) (sym e);
+            same = h .same;
+          }
+
       pub walking-room : Room writing run (in-turn n f) out → i < n → Room writing r (f i) left
       walking-room m l = rw (h .runs, h .writes) (room-turn n m i l)
 
