@@ -29,3 +29,8 @@ pub record Met (img : List ℕ) (q : SpanQuery) (on : Cursor) (n : ℕ) (r : Ent
   pub before : (k : ℕ) → k < r .from → meets q (bytes-at img on) on k ≡ false
   pub inside : (k : ℕ) → r .from ≤ k → k < r .to → meets q (bytes-at img on) on k ≡ true
   pub behind : (k : ℕ) → r .to ≤ k → k < n → meets q (bytes-at img on) on k ≡ false
+
+-- the leaves of a page above leaves that overlap the span; a leaf has one, itself
+pub record Leaf-range (img : List ℕ) (q : SpanQuery) (on : Cursor) (n : ℕ) (r : EntryRange) : Type 0 where
+  pub itself : on .at .level ≡ 0 → (r .from ≡ 0) × (r .to ≡ 1)
+  pub below : 1 ≤ on .at .level → Met img q on n r

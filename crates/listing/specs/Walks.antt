@@ -99,3 +99,9 @@ entry-walk img q on i =
     cond (meets q s on i)
     (cond (eqb (on .at .level) 0) (one-run (max (q .a) (start-at s i)) (below .above)) (page-walk img q below))
     nothing
+
+-- ---- the leaves below a page
+
+-- the leaf below the i-th entry of a page above leaves; a leaf is its own
+unfoldable pub leaf-cursor : List ℕ → SpanQuery → Cursor → ℕ → Cursor
+leaf-cursor img q on i = cond (eqb (on .at .level) 0) on (cursor-below q (bytes-at img on) on i)

@@ -4,6 +4,7 @@ use page::PageContext;
 use rule::Pair;
 use runs::Run;
 
+pub mod bottom;
 pub mod entries;
 pub mod leaves;
 pub mod met;

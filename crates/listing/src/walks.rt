@@ -4,8 +4,8 @@ use crate::Cursor;
 use crate::PageCheck;
 use crate::SpanQuery;
 use crate::WalkAnswer;
+use crate::bottom::walk_leaves;
 use crate::entries::cursor_below;
-use crate::leaves::leaf_page;
 use crate::met::entries_met;
 use crate::pages::check_page;
 use runs::Run;
@@ -30,8 +30,8 @@ pub(crate) fn walk_page(
     requires { ⌜ Room (q .writing) run (page-walk (now img) q on) (now out) ⌝ }
     ensures { λ r. ⌜ Does (q .writing) run (page-walk (now (img .entry)) q on) (now (out .entry)) r (now (out .exit)) ⌝ }
 {
-    if on.at.level == 0 {
-        return WalkAnswer::Fit(leaf_page(img, out, q, on, n, run));
+    if on.at.level < 2 {
+        return walk_leaves(img, out, q, on, n, run);
     }
     let met = entries_met(img, q, on, n);
     let mut last = run;

@@ -5,12 +5,14 @@ use mathlib.Core.List.{[]}
 use Prim.Native.Nat.{_-_}
 use native.Mathlib.Omega.{arith}
 use borrow.Author.Needs.{needs}
-use Rattle.listing.proofs.Laws.Loops.{Turning, turning-none, turning-inside, turning-room, turning-more, turning-all}
+use Rattle.listing.specs.Walks.{page-walk, entry-walk}
+use Rattle.listing.proofs.Laws.Ranges.{Turning, turning-none, turning-room, turning-more, turning-all}
+use Rattle.listing.proofs.Laws.Loops.{entries-ranged, entry-met}
 use Rattle.listing.proofs.leaves.count_leaf.Statement.{statement}
 use Rattle.listing.proofs.leaves.count_leaf.Tie as tie
 
 abbrev Inv-loop : tie.InvT-loop
-Inv-loop img q on n met last₀ i₀ last i = Turning img q on false last₀ [] n met i last []
+Inv-loop img q on n met last₀ i₀ last i = Turning (page-walk img q on) (entry-walk img q on) false last₀ [] n met i last []
 
 abbrev μ-loop : tie.MeasureT-loop
 μ-loop img q on n met last₀ i₀ last i = n - i
@@ -18,22 +20,22 @@ abbrev μ-loop : tie.MeasureT-loop
 loop-holds : tie.Need-loop-holds Inv-loop μ-loop
 loop-holds c =
     let pre = c .before .before .pre in
-    turning-none _ _ _ (pre .1 .0) (c .entries-met .ensures) (pre .1 .1 .1)
+    turning-none (entries-ranged _ _ _ (pre .1 .0) (c .entries-met .ensures)) (pre .1 .1 .1)
 
 count-entry-requires : tie.Need-count-entry-requires Inv-loop μ-loop
 count-entry-requires c κs =
     let loop = c .before .before in
     let pre = loop .before .before .before .pre in
     let l = c .if1 .taken in
-    (pre .0, (turning-inside _ _ _ (loop .loop .inv) l, (pre .1 .1 .0, turning-room _ _ _ (loop .loop .inv) l)))
+    (pre .0, (entry-met _ _ _ (pre .1 .0) (loop .before .entries-met .ensures) (loop .loop .inv .after) l, (pre .1 .1 .0, turning-room (loop .loop .inv) l)))
 
 loop-again : tie.Need-loop-again Inv-loop μ-loop
 loop-again c =
     let inside = c .before in
-    turning-more _ _ _ (inside .before .before .loop .inv) (inside .if1 .taken) (c .count-entry .ensures) refl
+    turning-more (inside .before .before .loop .inv) (inside .if1 .taken) (c .count-entry .ensures) refl
 
 returns : tie.Need-returns Inv-loop μ-loop
-returns c = turning-all _ _ _ (c .before .before .loop .inv) (c .if1 .left)
+returns c = turning-all (c .before .before .loop .inv) (c .if1 .left)
 
 pub count-leaf-spec : {M : Type 1} → statement M
 count-leaf-spec =

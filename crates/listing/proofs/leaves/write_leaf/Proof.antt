@@ -3,12 +3,14 @@ use mathlib.Core.Bool.{true}
 use Prim.Native.Nat.{_-_}
 use native.Mathlib.Omega.{arith}
 use borrow.Author.Needs.{needs}
-use Rattle.listing.proofs.Laws.Loops.{Turning, turning-none, turning-inside, turning-room, turning-more, turning-all}
+use Rattle.listing.specs.Walks.{page-walk, entry-walk}
+use Rattle.listing.proofs.Laws.Ranges.{Turning, turning-none, turning-room, turning-more, turning-all}
+use Rattle.listing.proofs.Laws.Loops.{entries-ranged, entry-met}
 use Rattle.listing.proofs.leaves.write_leaf.Statement.{statement}
 use Rattle.listing.proofs.leaves.write_leaf.Tie as tie
 
 abbrev Inv-loop : tie.InvT-loop
-Inv-loop img out₀ q on n met last₀ i₀ out last i = Turning img q on true last₀ out₀ n met i last out
+Inv-loop img out₀ q on n met last₀ i₀ out last i = Turning (page-walk img q on) (entry-walk img q on) true last₀ out₀ n met i last out
 
 abbrev μ-loop : tie.MeasureT-loop
 μ-loop img out₀ q on n met last₀ i₀ out last i = n - i
@@ -17,7 +19,7 @@ abbrev start : tie.After-entries-met Inv-loop μ-loop → tie.Start Inv-loop μ-
 start c = c .before .before .before
 
 loop-holds : tie.Need-loop-holds Inv-loop μ-loop
-loop-holds c = turning-none _ _ _ (start c .pre .1 .0) (c .entries-met .ensures) (start c .pre .1 .1 .1)
+loop-holds c = turning-none (entries-ranged _ _ _ (start c .pre .1 .0) (c .entries-met .ensures)) (start c .pre .1 .1 .1)
 
 write-entry-requires : tie.Need-write-entry-requires Inv-loop μ-loop
 write-entry-requires c κs =
@@ -25,16 +27,16 @@ write-entry-requires c κs =
     let loop = inside .before .before in
     let pre = start (loop .before) .pre in
     let l = inside .if1 .taken in
-    (pre .0, (turning-inside _ _ _ (loop .loop .inv) l, (pre .1 .1 .0, turning-room _ _ _ (loop .loop .inv) l)))
+    (pre .0, (entry-met _ _ _ (pre .1 .0) (loop .before .entries-met .ensures) (loop .loop .inv .after) l, (pre .1 .1 .0, turning-room (loop .loop .inv) l)))
 
 loop-again : tie.Need-loop-again Inv-loop μ-loop
 loop-again c =
     let call = c .before .before in
     let inside = call .before .before in
-    turning-more _ _ _ (inside .before .before .loop .inv) (inside .if1 .taken) (call .write-entry .ensures) (call .write-entry .kept .1 .0)
+    turning-more (inside .before .before .loop .inv) (inside .if1 .taken) (call .write-entry .ensures) (call .write-entry .kept .1 .0)
 
 returns : tie.Need-returns Inv-loop μ-loop
-returns c = turning-all _ _ _ (c .before .before .loop .inv) (c .if1 .left)
+returns c = turning-all (c .before .before .loop .inv) (c .if1 .left)
 
 pub write-leaf-spec : {M : Type 1} → statement M
 write-leaf-spec =

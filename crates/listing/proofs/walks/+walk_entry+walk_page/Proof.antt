@@ -5,9 +5,10 @@ use native.Mathlib.Omega.{arith}
 use borrow.Author.Needs.{needs}
 use borrow.Fn.Kinds.{In}
 use borrow.Fn.PlainCycle.{Measures, is, falls, and}
+use Rattle.listing.specs.Walks.{page-walk, entry-walk}
 use Rattle.listing.proofs.Laws.Stands.{step-down}
-use Rattle.listing.proofs.Laws.Loops.{does-stopped, room-below, does-below, room-known, opened-unfit}
-use Rattle.listing.proofs.Laws.Loops.{Turning, turning-none, turning-inside, turning-room, turning-more, turning-unfit, turning-all}
+use Rattle.listing.proofs.Laws.Ranges.{Turning, turning-none, turning-room, turning-more, turning-unfit, turning-all}
+use Rattle.listing.proofs.Laws.Loops.{does-stopped, room-below, does-below, room-known, opened-unfit, entries-ranged, entry-met}
 use Rattle.listing.proofs.walks.walk_entry.Reads as walk-entry
 use Rattle.listing.proofs.walks.walk_entry.Kinds as walk-entry-kinds
 use Rattle.listing.proofs.walks.+walk_entry+walk_page.Lts-walk_entry as walk-entry-lts
@@ -16,7 +17,7 @@ use Rattle.listing.proofs.walks.walk_page.Kinds as walk-page-kinds
 use Rattle.listing.proofs.walks.+walk_entry+walk_page.Lts-walk_page as walk-page-lts
 use Rattle.listing.proofs.met.entries_met.Reads as entries-met-reads
 use Rattle.listing.proofs.entries.cursor_below.Reads as cursor-below-reads
-use Rattle.listing.proofs.leaves.leaf_page.Reads as leaf-page-reads
+use Rattle.listing.proofs.bottom.walk_leaves.Reads as walk-leaves-reads
 use Rattle.listing.proofs.pages.check_page.Reads as check-page-reads
 use Rattle.listing.proofs.walks.+walk_entry+walk_page.{statement}
 use Rattle.listing.proofs.walks.+walk_entry+walk_page.Tie.{close}
@@ -40,7 +41,7 @@ abbrev walk-page-below : ℕ → In 2 walk-page-kinds.ps
 walk-page-below t = and 2 walk-page-kinds.ps (falls 2 walk-page-kinds.ps _<_ μ-walk-page t) walk-page.Pre
 
 abbrev walk-page-Inv-loop : walk-page-lts.InvT-loop
-walk-page-Inv-loop img out₀ q on n met last₀ i₀ out last i = Turning img q on (q .writing) last₀ out₀ n met i last out
+walk-page-Inv-loop img out₀ q on n met last₀ i₀ out last i = Turning (page-walk img q on) (entry-walk img q on) (q .writing) last₀ out₀ n met i last out
 
 abbrev walk-page-μ-loop : walk-page-lts.MeasureT-loop
 walk-page-μ-loop img out₀ q on n met last₀ i₀ out last i = n - i
@@ -93,10 +94,10 @@ pub +walk-entry+walk-page-spec : {M : Type 1} → statement M
     let pre = below .before .before .before .pre .1 in
     does-below (pre .1 .0) (pre .1 .1 .0) (below .cursor-below .ensures) (call .walk-page .ensures)))
     λ t. walk-page-lts.spec
-    (leaf-page-reads.Asked, leaf-page-reads.Learnt, entries-met-reads.Asked, entries-met-reads.Learnt, walk-entry-below t, walk-entry.Post)
+    (walk-leaves-reads.Asked, walk-leaves-reads.Learnt, entries-met-reads.Asked, entries-met-reads.Learnt, walk-entry-below t, walk-entry.Post)
     (walk-page-at t)
     walk-page.Post walk-page-Inv-loop walk-page-μ-loop
-    -- leaf-page-requires
+    -- walk-leaves-requires
     (λ c κs.
     let test = c .before in
     let lent = test .before .before in
@@ -105,14 +106,14 @@ pub +walk-entry+walk-page-spec : {M : Type 1} → statement M
     -- same-length
     (λ c. search needs)
     -- returns
-    (λ c. c .before .before .leaf-page .ensures)
+    (λ c. c .before .before .walk-leaves .ensures)
     -- entries-met-requires
     (λ c κs. let lent = c .before .before in let pre = lent .before .before .pre .1 in (pre .0, pre .1 .0))
     -- loop-holds
     (λ c.
     let lent = c .before .before .before in
     let pre = lent .before .before .pre .1 in
-    turning-none _ _ _ (pre .1 .0) (c .entries-met .ensures) (pre .1 .1))
+    turning-none (entries-ranged _ _ _ (pre .1 .0) (c .entries-met .ensures)) (pre .1 .1))
     -- walk-entry-requires
     (λ c κs.
     let inside = c .before in
@@ -124,7 +125,10 @@ pub +walk-entry+walk-page-spec : {M : Type 1} → statement M
       omega (arith, start .pre .0),
       (
         start .pre .1 .0,
-        (turning-inside _ _ _ (loop .loop .inv) l, (omega (arith, test .if1 .left), turning-room _ _ _ (loop .loop .inv) l)),
+        (
+          entry-met _ _ _ (start .pre .1 .1 .0) (loop .before .entries-met .ensures) (loop .loop .inv .after) l,
+          (omega (arith, test .if1 .left), turning-room (loop .loop .inv) l),
+        ),
       ),
     ))
     -- enum-known-next, enum-told
@@ -136,7 +140,7 @@ pub +walk-entry+walk-page-spec : {M : Type 1} → statement M
     let back = c .before .before in
     let call = back .before .before in
     let inside = call .before .before in
-    turning-unfit _ _ _ (inside .before .before .loop .inv) (inside .if2 .taken) (rw (c .enum-told .given .1) at (call .walk-entry .ensures)))
+    turning-unfit (inside .before .before .loop .inv) (inside .if2 .taken) (rw (c .enum-told .given .1) at (call .walk-entry .ensures)))
     -- add-i, loop-less
     (λ c. omega arith) (λ c. omega arith)
     -- loop-again
@@ -145,9 +149,9 @@ pub +walk-entry+walk-page-spec : {M : Type 1} → statement M
     let back = next .before .before in
     let call = back .before .before in
     let inside = call .before .before in
-    turning-more _ _ _ (inside .before .before .loop .inv) (inside .if2 .taken)
+    turning-more (inside .before .before .loop .inv) (inside .if2 .taken)
     (rw (next .next .given .1) at (call .walk-entry .ensures)) (call .walk-entry .kept .1 .0))
     -- same-length-3
     (λ c. c .before .before .loop .inv .so-far .same)
     -- returns-3
-    (λ c. turning-all _ _ _ (c .before .before .loop .inv) (c .if2 .left))
+    (λ c. turning-all (c .before .before .loop .inv) (c .if2 .left))
