@@ -5,7 +5,7 @@ use Prim.Native.Nat.{ℕ, zero, suc, _+_, _*_, _/_, _%_, _^_, _≤_, _<_}
 use native.Mathlib.Nat.{pow-succ'}
 use native.Mathlib.Decide.{decLt}
 use native.Mathlib.Omega.{arith}
-use mathlib.Core.List.{[], _∷_, _++_, append-assoc}
+use mathlib.Core.List.{List, [], _∷_, _++_, append-assoc}
 use lib.ListN.{length, length-append}
 use lib.IntN.{ℤ, pos, negsuc, natAbs}
 use lib.Signed.{ltZ}
@@ -15,7 +15,7 @@ use Rattle.rule.specs.declared.Average.the-variants.{Hundredths, Nothing, Beyon
 use Rattle.rule.specs.Averages.{average}
 use Rattle.image.specs.Listing.{Run}
 use Rattle.calls.specs.Program.{decimal-in, decimal, integer, two-decimals, average-text, run-text}
-use Rattle.print.specs.Written.{sign-text}
+use Rattle.print.specs.Written.{Put, sign-text}
 
 -- one digit, and more
 in-one : (k n : ℕ) → n < 10 → decimal-in (suc k) n ≡ (48 + n) ∷ []
@@ -86,10 +86,13 @@ unfolding sign-text
 length-sign (pos n) = omega arith
 length-sign (negsuc n) = omega arith
 
-pub integer-signed : (z : ℤ) → sign-text z ++ decimal (natAbs z) ≡ integer z
+integer-signed : (z : ℤ) → sign-text z ++ decimal (natAbs z) ≡ integer z
 unfolding sign-text integer
 integer-signed (pos n) = refl
 integer-signed (negsuc n) = refl
+
+pub signed-integer : {y z : ℤ} {m : ℕ} → m ≡ natAbs y → y ≡ z → sign-text y ++ decimal m ≡ integer z
+signed-integer {y} e f = ap (λ n. sign-text y ++ decimal n) e ∙ integer-signed y ∙ ap integer f
 
 pub length-integer : (z : ℤ) → length (integer z) ≤ 21
 length-integer z =
@@ -123,6 +126,27 @@ length-instant t = omega (arith, length-append (decimal t) (32 ∷ []), length-d
 
 pub length-amount : (z : ℤ) → length (integer z ++ (32 ∷ [])) ≤ 22
 length-amount z = omega (arith, length-append (integer z) (32 ∷ []), length-integer z)
+
+-- ---- how far what is put reaches at most: rules for omega, which applies each to every thing that was put
+
+module _ {s t : List ℕ} {at p : ℕ} where
+  pub behind-decimal : (n : ℕ) → Put s at (decimal n) t p → p ≤ at + 20
+  behind-decimal n f = omega (arith, length-decimal n)
+
+  pub behind-sign : (z : ℤ) → Put s at (sign-text z) t p → p ≤ at + 1
+  behind-sign z f = omega (arith, length-sign z)
+
+  pub behind-integer : (z : ℤ) → Put s at (integer z) t p → p ≤ at + 21
+  behind-integer z f = omega (arith, length-integer z)
+
+  pub behind-instant : (n : ℕ) → Put s at (decimal n ++ (32 ∷ [])) t p → p ≤ at + 21
+  behind-instant n f = omega (arith, length-instant n)
+
+  pub behind-amount : (z : ℤ) → Put s at (integer z ++ (32 ∷ [])) t p → p ≤ at + 22
+  behind-amount z f = omega (arith, length-amount z)
+
+  pub behind-average : (a : Average) → Put s at (average-text a) t p → p ≤ at + 24
+  behind-average a f = omega (arith, length-average a)
 
 -- six things make the line of a run
 pub run-pieces : (r : Run) (end : ℕ) {z y : ℤ} {a : Average} → z ≡ r .pair .sum → y ≡ r .pair .count → a ≡ average 1 (r .pair)

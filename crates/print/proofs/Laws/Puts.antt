@@ -4,7 +4,7 @@ use Prim.Native.Nat.{ℕ, _+_, _≤_, _<_}
 use native.Mathlib.Numerals.{add-one}
 use native.Mathlib.Omega.{arith}
 use mathlib.Core.List.{List, [], _∷_, _++_}
-use lib.ListN.{length, getD, set, take, length-append}
+use lib.ListN.{length, getD, set, take, drop, length-append}
 use lib.Seq.{take-suc, take-length}
 use Rattle.fields.specs.Bytes.{patch}
 use Rattle.fields.proofs.Laws.Parts.{patch-none, patch-patch-next, set-patch, length-patch}
@@ -34,6 +34,11 @@ pub put-as : {s t xs ys : List ℕ} {at p : ℕ} → xs ≡ ys → Put s at xs t
 put-as {s} {t} {xs} {ys} {at} {p} e f =
     let l : length xs ≡ length ys = ap length e in
     record { room = omega (arith, f .room); written = f .written ∙ ap (patch s at) e; offset = omega (arith, f .offset) }
+
+-- a text's beginning, and behind it the rest
+pub put-behind : {s t u xs zs : List ℕ} {at p q : ℕ}
+    → Put s at xs t p → xs ++ drop (length xs) zs ≡ zs → Put t p (drop (length xs) zs) u q → Put s at zs u q
+put-behind f e g = put-as e (put-then f g)
 
 -- what is left where at most k bytes of k + m were printed
 pub put-room : {s t xs : List ℕ} {at p : ℕ} (k m : ℕ) → Put s at xs t p → length xs ≤ k → at + (k + m) ≤ length s → p + m ≤ length t

@@ -1,20 +1,16 @@
 -- `print::averages::put_average` meets its contract: a law for each case. Assumes nothing.
 use mathlib.Core.Path.{sym, ap, _∙_}
+use native.Mathlib.Omega.{arith}
 use borrow.Author.Needs.{needs}
 use mir.Syntax.{w64}
 use mir.Val.{SFits}
 use mir.Facts.{toZ-ofZ}
 use Rattle.rule.specs.declared.Average.the-variants.{Hundredths}
 use Rattle.calls.specs.Program.{average-text}
-use Rattle.print.proofs.Laws.Puts.{put-as, put-then, put-room}
-use Rattle.print.proofs.Laws.Numbers.{signed-average, length-sign}
+use Rattle.print.proofs.Laws.Puts.{put-as, put-then}
+use Rattle.print.proofs.Laws.Numbers.{signed-average, behind-sign}
 use Rattle.print.proofs.averages.put_average.Statement.{statement}
 use Rattle.print.proofs.averages.put_average.Tie as tie
-
-put-hundredths-requires : tie.Need-put-hundredths-requires
-put-hundredths-requires c κs =
-    let sign = c .before .before .before .before in
-    put-room 1 23 (sign .put-sign .ensures) (length-sign _) (sign .before .before .before .before .before .before .pre)
 
 returns : tie.Need-returns
 returns c =
@@ -40,6 +36,7 @@ returns-3 c =
 pub put-average-spec : {M : Type 1} → statement M
 put-average-spec =
     tie.close
-    (tie.spec (λ c. search needs) (λ c κs. search needs) (λ c κs. search needs) put-hundredths-requires
+    (tie.spec (λ c. search needs) (λ c κs. search needs) (λ c κs. search needs)
+    (λ c κs. omega (arith, behind-sign))
     (λ c. search needs) (λ c κs. search needs) (λ c. search needs) (λ c κs. search needs) (λ c. search needs) returns
     (λ c. search needs) returns-2 (λ c. search needs) returns-3)
