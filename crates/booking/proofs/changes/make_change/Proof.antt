@@ -35,5 +35,5 @@ pub make-change-spec : {M : Type 1} → statement M
 make-change-spec =
     tie.close
     (tie.spec (λ c κs. search needs)
-    (λ c κs. rw (toZ-ofZ (c .before .before .before .fits .v)) (c .before .before .before .pre .fits)) apply-requires
-    (λ c. search needs) returns)
+    (λ c κs. let start = c .before .before .before in rw (toZ-ofZ (start .fits .v)) (start .pre .fits))
+    apply-requires (λ c. search needs) returns)

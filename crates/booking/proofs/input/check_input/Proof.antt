@@ -13,21 +13,19 @@ use Rattle.booking.proofs.Laws.Early.{Tests, rows-are, span-less}
 use Rattle.booking.proofs.input.check_input.Statement.{statement}
 use Rattle.booking.proofs.input.check_input.Tie as tie
 
+abbrev began : tie.After-value-ok → tie.Start
+began c = c .before .before .before .before
+
 tests : (c : tie.After-value-ok) {whole room span fits : Bool} → c .before .length-fits .result ≡ whole
-    → leb (pages-in 12 (c .before .before .before .before .args .img .now))
-    (length (c .before .before .before .before .args .scratch .now)) ≡ room
-    → ltb (c .before .before .before .before .args .s) (c .before .before .before .before .args .e) ≡ span
-    → c .value-ok .result ≡ fits
-    → Tests (c .before .before .before .before .args .v) (c .before .before .before .before .args .s)
-    (c .before .before .before .before .args .e) (c .before .before .before .before .args .img .now)
-    (c .before .before .before .before .args .scratch .now) whole room span fits
+    → leb (pages-in 12 (began c .args .img .now)) (length (began c .args .scratch .now)) ≡ room
+    → ltb (began c .args .s) (began c .args .e) ≡ span → c .value-ok .result ≡ fits
+    → Tests (began c .args .v) (began c .args .s) (began c .args .e) (began c .args .img .now) (began c .args .scratch .now) whole room span fits
 tests c a b d f =
-    let start = c .before .before .before .before in
     record {
       whole-is = sym (c .before .length-fits .ensures) ∙ a;
       room-is = b;
-      span-is = span-less _ _ (omega (arith, start .fits .e)) ∙ d;
-      fits-is = sym (rw (toZ-ofZ (start .fits .v)) at (c .value-ok .ensures)) ∙ f;
+      span-is = span-less _ _ (omega (arith, began c .fits .e)) ∙ d;
+      fits-is = sym (rw (toZ-ofZ (began c .fits .v)) at (c .value-ok .ensures)) ∙ f;
     }
 
 returns : tie.Need-returns

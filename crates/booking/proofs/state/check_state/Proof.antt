@@ -18,15 +18,19 @@ use Rattle.booking.proofs.Laws.Late.{late-21, late-22, late-23, late-24
 use Rattle.booking.proofs.state.check_state.Statement.{statement}
 use Rattle.booking.proofs.state.check_state.Tie as tie
 
-within : (c : tie.After-shared-slice-known) → Page-in (c .before .args .img .now) 0
+-- the call's start, from where its image had been found sound
+abbrev began : tie.Else1 → tie.Start
+began c = c .before .before .before
+
+within : (c : tie.Else1) → Page-in (began c .args .img .now) 0
 within c =
-    let z = sized 12 _ (c .before .pre .0) in
+    let z = sized 12 _ (began c .pre .0) in
     omega (arith, z .size, z .least)
 
-passed : (c : tie.Else1) → sound 12 (c .before .before .before .args .img .now) ≡ true
+passed : (c : tie.Else1) → sound 12 (began c .args .img .now) ≡ true
 passed c = sym (c .before .sound .ensures) ∙ not-false _ (c .if1 .left)
 
-read : (c : tie.After-read-head) → c .read-head .result ≡ head 12 (c .before .before .before .before .before .args .img .now)
+read : (c : tie.After-read-head) → c .read-head .result ≡ head 12 (began (c .before .before) .args .img .now)
 unfolding head
 read c = c .read-head .ensures ∙ ap head-of (c .before .page-at .ensures)
 
@@ -44,12 +48,15 @@ returns-3 c =
     let head = side .before .before in
     late-23 _ _ _ _ (passed (head .before .before)) (read head) (side .if2 .left) (eq-eqb _ _ (c .if3 .taken))
 
+-- where the head had been read
+abbrev headed : tie.After-effect-end → tie.After-read-head
+headed c = c .before .before .before .before .before
+
 -- where the effect ends, which is behind its start
-later : (c : tie.After-effect-end)
-    → c .before .before .before .before .before .before .before .before .before .before .args .s < c .effect-end .result
+later : (c : tie.After-effect-end) → began (headed c .before .before) .args .s < c .effect-end .result
 unfolding effect-end
 later c =
-    let start = c .before .before .before .before .before .before .before .before .before .before in
+    let start = began (headed c .before .before) in
     omega (arith, c .effect-end .ensures, start .pre .1, start .fits .e)
 
 returns-4 : tie.Need-returns-4
@@ -73,7 +80,7 @@ returns-5 c =
 lacks-pages-requires : tie.Need-lacks-pages-requires
 unfolding head
 lacks-pages-requires c κs =
-    let head = c .before .before .before .before .before in
+    let head = headed c in
     (record { sound = passed (head .before .before); shown = read head }, later c)
 
 pub check-state-spec : {M : Type 1} → statement M
@@ -82,6 +89,6 @@ check-state-spec =
     (tie.spec
     (λ c κs. c .before .pre .0)
     returns
-    (λ c κs. within (c .before .before))
-    (λ c κs. omega (arith, ap length (c .page-at .ensures) ∙ page-length _ 0 (within (c .before .before .before))))
+    (λ c κs. within c)
+    (λ c κs. omega (arith, ap length (c .page-at .ensures) ∙ page-length _ 0 (within (c .before))))
     returns-2 returns-3 (λ c κs. search needs) lacks-pages-requires returns-4 returns-5)
