@@ -10,18 +10,17 @@ use Rattle.luwhenoka.proofs.Laws.Averages.{average-fits, average-0, ave
 use Rattle.luwhenoka.proofs.averages.luw_average.Statement.{statement}
 use Rattle.luwhenoka.proofs.averages.luw_average.Tie as tie
 
-sum-fits : (c : tie.After-struct-told2) → SFits w64 (c .before .before .before .before .before .luw-instant .result .sum)
+sum-fits : (c : tie.After-luw-instant) → SFits w64 (c .luw-instant .result .sum)
 sum-fits c = search needs
 
-count-fits : (c : tie.After-struct-told2) → SFits w32 (c .before .before .before .before .before .luw-instant .result .count)
+count-fits : (c : tie.After-luw-instant) → SFits w32 (c .luw-instant .result .count)
 count-fits c = search needs
 
 returns : tie.Need-returns
 returns c =
-    let told = c .before in
-    let read = told .before .before in
+    let read = c .before .before .before in
     let asked = read .before .before .before in
-    rw (toZ-ofZ (sum-fits told), toZ-ofZ (count-fits told)) at (c .luw-average-of .ensures)
+    rw (toZ-ofZ (sum-fits asked), toZ-ofZ (count-fits asked)) at (c .luw-average-of .ensures)
     ∙ ap (λ k. average-answer 0
     (average k (record { sum = asked .luw-instant .result .sum; count = asked .luw-instant .result .count }))) (read .kind-of .ensures)
     ∙ average-0 _ _ (asked .luw-instant .ensures) (read .before .if1 .taken)

@@ -9,12 +9,15 @@ use Rattle.luwhenoka.proofs.Laws.Formats.{format-16, format-14, format-
 use Rattle.luwhenoka.proofs.formats.luw_format.Statement.{statement}
 use Rattle.luwhenoka.proofs.formats.luw_format.Tie as tie
 
--- the call's own start
+-- where the length had been tested, and the call's own start
+abbrev measured : tie.After-window-ok → tie.After-length-fits
+measured c = c .before .before
+
 abbrev began : tie.After-window-ok → tie.Start
-began c = c .before .before .before .before .before
+began c = measured c .before .before .before
 
 fits : (c : tie.Else1) → length-ok 12 (began (c .before) .args .img .now) ≡ true
-fits c = sym (c .before .before .before .length-fits .ensures) ∙ not-false _ (c .if1 .left)
+fits c = sym (measured (c .before) .length-fits .ensures) ∙ not-false _ (c .if1 .left)
 
 -- the two tests of kind and window, as one
 named : (c : tie.After-window-ok)
@@ -22,7 +25,7 @@ named : (c : tie.After-window-ok)
 named c = λ j. sym (c .before .kind-ok .ensures) j && sym (c .window-ok .ensures) j
 
 returns : tie.Need-returns
-returns c = format-16 _ _ _ (sym (c .before .before .before .length-fits .ensures) ∙ not-true _ (c .if1 .taken))
+returns c = format-16 _ _ _ (sym (measured (c .before) .length-fits .ensures) ∙ not-true _ (c .if1 .taken))
 
 returns-2 : tie.Need-returns-2
 returns-2 c = format-14 _ _ _ (fits (c .before)) (named (c .before .before) ∙ not-true _ (c .if2 .taken))

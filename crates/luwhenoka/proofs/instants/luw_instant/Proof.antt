@@ -16,9 +16,9 @@ use Rattle.luwhenoka.proofs.Laws.Instants.{instant-16, instant-12, inst
 use Rattle.luwhenoka.proofs.instants.luw_instant.Statement.{statement}
 use Rattle.luwhenoka.proofs.instants.luw_instant.Tie as tie
 
--- where the length had been found to fit, and the call's own start
-abbrev sized : tie.After-h → tie.Else1
-sized c = c .before .before .before .before
+-- where length and instant had been found to fit, and the call's own start
+abbrev timed : tie.After-h → tie.Else2
+timed c = c .before .before .before
 
 abbrev began : tie.Else1 → tie.Start
 began c = c .before .before .before
@@ -29,10 +29,10 @@ fits c = sym (c .before .length-fits .ensures) ∙ not-false _ (c .if1 .left)
 before-end : (c : tie.Else2) → began (c .before) .args .t < END
 before-end c = omega (arith, c .if2 .left)
 
-headed : (c : tie.After-h) → Open-image (began (sized c) .args .img .now) (c .h .given .0 .0)
-headed c = opened _ (fits (sized c)) (sym (c .h .given .1) ∙ c .before .before .open-head .ensures)
+headed : (c : tie.After-h) → Open-image (began (timed c .before) .args .img .now) (c .h .given .0 .0)
+headed c = opened _ (fits (timed c .before)) (sym (c .h .given .1) ∙ c .before .before .open-head .ensures)
 
-head-fits : (c : tie.After-h) → head-ok 12 (began (sized c) .args .img .now) ≡ true
+head-fits : (c : tie.After-h) → head-ok 12 (began (timed c .before) .args .img .now) ≡ true
 unfolding head-ok
 head-fits c = headed c .fit
 
@@ -60,7 +60,7 @@ returns-4 c =
     let found = c .before .before in
     let look = found .before .before in
     let head = look .before .before in
-    let end = head .before .before .before in
+    let end = timed head in
     c .accepted .ensures
     ∙ ap instant-answer
     (instant-0 _ _ (fits (end .before)) (before-end end) (head-fits head)
@@ -72,7 +72,7 @@ returns-5 c =
     let found = c .before .before in
     let look = found .before .before in
     let head = look .before .before in
-    let end = head .before .before .before in
+    let end = timed head in
     c .refused4 .ensures
     ∙ ap instant-answer
     (instant-21 _ _ (fits (end .before)) (before-end end) (head-fits head)

@@ -24,9 +24,9 @@ kept : {r : ListingAnswer} (n : ℕ) (out : List ℕ) → r ≡ record { status 
 unfolding listed
 kept n out e = ap (λ (r : ListingAnswer). record { status = r .status; runs = r .runs; output = out }) e
 
--- where the length had been found to fit, and the call's own start
-abbrev sized : tie.After-h → tie.Else1
-sized c = c .before .before .before .before
+-- where length and span had been found to fit, and the call's own start
+abbrev spanned : tie.After-h → tie.Else2
+spanned c = c .before .before .before
 
 abbrev began : tie.Else1 → tie.Start
 began c = c .before .before .before .before
@@ -38,16 +38,20 @@ ends c = omega (arith, began (c .before) .fits .b)
 fits : (c : tie.Else1) → length-ok 12 (began c .args .img .now) ≡ true
 fits c = sym (c .before .length-fits .ensures) ∙ not-false _ (c .if1 .left)
 
-headed : (c : tie.After-h) → Open-image (began (sized c) .args .img .now) (c .h .given .0 .0)
-headed c = opened _ (fits (sized c)) (sym (c .h .given .1) ∙ c .before .before .open-head .ensures)
+headed : (c : tie.After-h) → Open-image (began (spanned c .before) .args .img .now) (c .h .given .0 .0)
+headed c = opened _ (fits (spanned c .before)) (sym (c .h .given .1) ∙ c .before .before .open-head .ensures)
 
-head-fits : (c : tie.After-h) → head-ok 12 (began (sized c) .args .img .now) ≡ true
+head-fits : (c : tie.After-h) → head-ok 12 (began (spanned c .before) .args .img .now) ≡ true
 unfolding head-ok
 head-fits c = headed c .fit
 
+-- where the head had been read
+abbrev head-read : tie.After-runs → tie.After-h
+head-read c = c .before .before .before .before
+
 -- the first pass found every page fit, and this many runs
 abbrev at-first : tie.After-runs → tie.Start
-at-first c = began (sized (c .before .before .before .before))
+at-first c = began (spanned (head-read c) .before)
 
 passed : (c : tie.After-runs)
     → Counted-as (at-first c .args .img .now) (at-first c .args .a) (at-first c .args .b) (c .runs .given .0 .0)
@@ -75,7 +79,7 @@ returns-4 c =
     let told = c .before in
     let pass = told .before .before in
     let head = pass .before .before in
-    let span = head .before .before .before in
+    let span = spanned head in
     kept 21 _ (c .refused4 .ensures)
     ∙ listing-21 _ _ _ _ (fits (span .before)) (span .if2 .left) (ends span) (head-fits head)
     (uncounted _ _ _ (sym (told .enum-told2 .given .1) ∙ pass .count-runs .ensures))
@@ -84,8 +88,8 @@ returns-5 : tie.Need-returns-5
 returns-5 c =
     let test = c .before in
     let runs = test .before .before in
-    let head = runs .before .before .before .before in
-    let span = head .before .before .before in
+    let head = head-read runs in
+    let span = spanned head in
     let n = passed runs in
     kept 15 _ (c .refused5 .ensures)
     ∙ listing-15 _ _ _ _ (fits (span .before)) (span .if2 .left) (ends span) (head-fits head) (n .fit)
@@ -97,7 +101,7 @@ write-runs-requires c κs =
     let test = c .before in
     let runs = test .before .before in
     let n = passed runs in
-    (headed (runs .before .before .before .before), (n .fit, omega (arith, n .status, test .if3 .left)))
+    (headed (head-read runs), (n .fit, omega (arith, n .status, test .if3 .left)))
 
 returns-6 : tie.Need-returns-6
 unfolding listed written runs-over
@@ -105,8 +109,8 @@ returns-6 c =
     let wrote = c .before .before in
     let test = wrote .before .before in
     let runs = test .before .before in
-    let head = runs .before .before .before .before in
-    let span = head .before .before .before in
+    let head = head-read runs in
+    let span = spanned head in
     let n = passed runs in
     (λ j. record { status = 0; runs = n .status j; output = wrote .write-runs .ensures j })
     ∙ listing-0 _ _ _ _ (fits (span .before)) (span .if2 .left) (ends span) (head-fits head) (n .fit)
