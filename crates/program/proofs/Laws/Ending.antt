@@ -13,16 +13,17 @@ use Rattle.image.specs.Listing.{walk-over}
 use Rattle.calls.specs.Refusals.{first}
 use Rattle.calls.specs.Calls.{Listed, head-ok, runs-over, too-short, listing-status, listing}
 use Rattle.calls.specs.Program.{decimal, runs-text}
-use Rattle.print.specs.Written.{runs-line}
+use Rattle.print.specs.Written.{Put, runs-line}
 use Rattle.print.proofs.Laws.Numbers.{length-decimal}
 use Rattle.luwhenoka.specs.declared.ListingAnswer.{ListingAnswer}
 use Rattle.luwhenoka.specs.Answers.{listed}
 use Rattle.program.specs.Listed.{runs-at}
 use Rattle.program.specs.State.{listed-text}
 
-pub length-runs-line : (n : ℕ) → length (runs-line n) ≤ 26
+-- how far the line of the runs' number reaches at most
+pub behind-runs-line : {s t : List ℕ} {at p : ℕ} (n : ℕ) → Put s at (runs-line n) t p → p ≤ at + 26
 unfolding runs-line
-length-runs-line n = omega (arith, length-append (decimal n) (10 ∷ []), length-decimal n)
+behind-runs-line n f = omega (arith, length-append (decimal n) (10 ∷ []), length-decimal n)
 
 -- the runs that a listing returns have room: 15 turns it back else
 has-room : (w x y z : Bool) (runs size : ℕ) → z ≡ ltb size (16 * runs)

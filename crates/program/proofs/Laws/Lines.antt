@@ -11,7 +11,7 @@ use borrow.Author.Tests.{eq-eqb, ne-eqb}
 use Rattle.booking.specs.Sides.{side-of}
 use Rattle.calls.specs.Changes.{Side, entering, withdrawing}
 use Rattle.calls.specs.Calls.{Booked, book}
-use Rattle.calls.specs.Program.{booking, unread, decimal, refused-text, unread-text, Ran, ran-line}
+use Rattle.calls.specs.Program.{Line, booking, unread, decimal, refused-text, unread-text, Ran, ran-line}
 use Rattle.text.specs.declared.Parsed.{Parsed}
 use Rattle.text.specs.declared.Parsed.the-variants.{Enter, Withdraw, Unread}
 use Rattle.text.specs.Reading.{line-of}
@@ -45,6 +45,10 @@ does-as e d =
       printed = put-as (ap (λ (r : Ran). r .written) e) (d .printed);
       few = d .few;
     }
+
+pub does-line : (k : ℕ) (img : List ℕ) {l l′ : Line} {left out after : List ℕ} {at next : ℕ} → l ≡ l′
+    → Does (ran-line 12 64 k l img) left out at after next → Does (ran-line 12 64 k l′ img) left out at after next
+does-line k img e d = does-as (ap (λ l. ran-line 12 64 k l img) e) d
 
 -- what a booking does, from what the call returned
 ran-of : ℕ → Booked → Ran

@@ -7,7 +7,8 @@ use Rattle.program.proofs.pieces.begin.Tie as tie
 returns : tie.Need-returns
 returns c =
     let call = c .before .before in
-    begun (call .before .before .before .pre) (call .luw-format .ensures)
+    let start = call .before .before .before in
+    begun (start .pre) (call .luw-format .ensures)
 
 pub begin-spec : {M : Type 1} → statement M
 begin-spec = tie.close (tie.spec (λ c κs. search needs) (λ c. search needs) returns)

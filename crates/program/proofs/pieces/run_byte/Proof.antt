@@ -7,7 +7,8 @@ use Rattle.program.proofs.pieces.run_byte.Tie as tie
 returns : tie.Need-returns
 returns c =
     let end = c .before .before .before .before in
-    (goes-end (end .before .before .before .if1 .taken) (end .end-line .ensures .0), end .end-line .ensures .1)
+    let test = end .before .before .before in
+    (goes-end (test .if1 .taken) (end .end-line .ensures .0), end .end-line .ensures .1)
 
 returns-2 : tie.Need-returns-2
 returns-2 c = (goes-fed (c .before .before .if1 .left) (c .feed .ensures), within-byte)

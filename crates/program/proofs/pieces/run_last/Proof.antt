@@ -10,7 +10,8 @@ returns c = (goes-empty (c .if1 .taken), within-none)
 returns-2 : tie.Need-returns-2
 returns-2 c =
     let end = c .before .before .before .before in
-    (goes-last (end .before .before .before .if1 .left) (end .end-line .ensures .0), end .end-line .ensures .1)
+    let test = end .before .before .before in
+    (goes-last (test .if1 .left) (end .end-line .ensures .0), end .end-line .ensures .1)
 
 pub run-last-spec : {M : Type 1} → statement M
 run-last-spec = tie.close (tie.spec returns (λ c κs. search needs) (λ c. search needs) (λ c. search needs) returns-2)

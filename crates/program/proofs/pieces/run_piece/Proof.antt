@@ -18,10 +18,9 @@ loop-holds c = come-none _ _ _ _
 
 run-byte-requires : tie.Need-run-byte-requires Inv-loop μ-loop
 run-byte-requires c κs =
-    let at = c .before .before .before .before in
-    let start = at .before .before .before .before in
-    let so = at .loop .inv in
-    (omega (arith, start .pre .0, so .bounds .at, so .size), omega (arith, start .pre .1, so .bounds .number))
+    let turn = c .before .before .before in
+    let so = turn .before .loop .inv in
+    omega (arith, so .bounds, so .size)
 
 loop-again : tie.Need-loop-again Inv-loop μ-loop
 loop-again c =
