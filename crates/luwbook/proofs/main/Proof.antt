@@ -5,12 +5,13 @@ use Rattle.luwbook.proofs.main.Statement.{statement}
 use Rattle.luwbook.proofs.main.Tie as tie
 
 read-all-requires : tie.Need-read-all-requires
-read-all-requires c κs = begun (c .at-first .ensures) (c .before .before .before .begin .ensures)
+read-all-requires c κs = begun (c .at-first .ensures) (search)
 
 finish-requires : tie.Need-finish-requires
 finish-requires c κs =
     let went = or-false _ _ (c .before .if1 .left) in
-    ((went .1, went .0), c .before .before .before .before .read-all .ensures .standing (went .0))
+    let read = c .before .before .before .before in
+    ((went .1, went .0), read .read-all .ensures .standing (went .0))
 
 pub main-spec : {M : Type 1} → statement M
 main-spec =

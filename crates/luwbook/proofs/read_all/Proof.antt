@@ -1,5 +1,6 @@
 -- `luwbook::read_all` meets its contract. The measure is the turns that are left. Assumes nothing.
-use mathlib.Core.Path.{_≡_, refl, _∙_}
+use mathlib.Core.Path.{_≡_, refl}
+use native.Mathlib.Omega.{arith}
 use lib.ListN.{length}
 use borrow.Author.Needs.{needs}
 use Rattle.luwbook.specs.Reached.{Well}
@@ -18,13 +19,12 @@ loop-holds c = (refl, well-first (c .before .pre))
 
 read-some-requires : tie.Need-read-some-requires Inv-loop μ-loop
 read-some-requires c κs =
-    let so = c .before .before .before .before .loop .inv .1 in
+    let turn = c .before .before .before .before in
+    let so = turn .loop .inv .1 in
     so .standing (so .sure (c .before .before .if1 .taken))
 
 loop-again : tie.Need-loop-again Inv-loop μ-loop
-loop-again c =
-    let ran = c .before .before in
-    (ran .read-some .kept .0 ∙ ran .before .before .before .before .before .loop .inv .0, ran .read-some .ensures)
+loop-again c = (omega arith, c .before .before .read-some .ensures)
 
 pub read-all-spec : {M : Type 1} → statement M
 read-all-spec =

@@ -7,15 +7,16 @@ use Rattle.luwbook.proofs.read_some.Tie as tie
 
 take-in-requires : tie.Need-take-in-requires
 take-in-requires c κs =
-    let did = c .before .before .before .read in
+    let got = c .before .before .before in
+    let did = got .read in
     let same = did .kept .1 .0 in
     let moved = moved-as _ _ (did .result) same (record { sfits = did .ok }) (did .ensures) in
-    (omega (arith, same), (moved, c .before .before .before .before .before .before .pre))
+    (omega (arith, same), (moved, search))
 
 returns : tie.Need-returns
 returns c =
     let did = c .before .before in
-    takes-well _ _ _ _ _ (did .take-in .ensures) (did .before .before .before .before .before .before .before .pre)
+    takes-well _ _ _ _ _ (did .take-in .ensures) (search)
 
 pub read-some-spec : {M : Type 1} → statement M
 read-some-spec =

@@ -9,16 +9,20 @@ use Rattle.luwbook.proofs.run_some.Tie as tie
 returns : tie.Need-returns
 returns c = ran-failed (λ l. omega (arith, c .before .if1 .taken)) (c .stopped .ensures)
 
+-- where the piece was run
+abbrev piece-run : tie.After-out3 → tie.After-run-piece
+piece-run c = c .before .before .before .before
+
 write-first-requires : tie.Need-write-first-requires
 write-first-requires c κs =
-    let ran = c .before .before .before .before in
-    let room = ran .before .before .before .before in
-    let was = room .before .before .before .before .before .pre .1 in
+    let ran = piece-run c in
+    let start = ran .before .before .before .before .before .before .before .before .before in
+    let was = start .pre .1 in
     writable (shown (ran .before .flushed .ensures .0) (ran .run-piece .ensures .0) (was .stands) .printed) (by-piece (was .reached) _)
 
 returns-2 : tie.Need-returns-2
 returns-2 c =
-    let ran = c .before .before .before .before .before in
+    let ran = piece-run (c .before) in
     let turned = ran .before .flushed .ensures .0 in
     let went = ran .run-piece .ensures .0 in
     ran-written _ (λ g s. stood turned went s) (λ g s e. c .write-first .ensures (put-none (shown turned went s .printed) e))

@@ -14,16 +14,20 @@ returns c =
     let start = test .before .before .before in
     takes-failed _ _ _ _ (rw (toZ-ofZ (start .fits .got)) at (test .if1 .taken)) (c .stopped .ensures)
 
+-- the call's start, from where the read had not failed
+abbrev began : tie.Else1 → tie.Start
+began c = c .before .before .before
+
 returns-2 : tie.Need-returns-2
 returns-2 c =
-    let start = c .before .before .before .before .before in
+    let start = began (c .before .before) in
     takes-ended _ _ _ _ (sym (toZ-ofZ (start .fits .got)) ∙ ap (toZ w64) (c .before .if2 .taken)) (c .stopped2 .ensures)
 
 returns-3 : tie.Need-returns-3
 returns-3 c =
     let ran = c .before .before in
     let n = ran .before .before .before in
-    let start = n .before .before .before .before .before in
+    let start = began (n .before .before) in
     let fits = start .fits .got in
     takes-more _ _ _ _ _ (rw (toZ-ofZ fits) at (n .before .before .if1 .left)) (λ e. n .before .if2 .left (ap (ofZ w64) e))
     (start .pre .1 .0)
