@@ -13,7 +13,9 @@ abbrev μ-loop : tie.MeasureT-loop
 μ-loop ds ok₀ i₀ ok i = length ds - i
 
 loop-again : tie.Need-loop-again Inv-loop μ-loop
-loop-again c = tested-more (c .before .before .before .loop .inv) (c .before .before .loop-test .taken)
+loop-again c =
+    let turn = c .before .before in
+    tested-more (turn .before .loop .inv) (turn .loop-test .taken)
 
 pub all-digits-spec : {M : Type 1} → statement M
 all-digits-spec =

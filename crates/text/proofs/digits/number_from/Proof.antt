@@ -12,9 +12,11 @@ Inv-loop ds n₀ i₀ n i = Summed ds i n
 abbrev μ-loop : tie.MeasureT-loop
 μ-loop ds n₀ i₀ n i = length ds - i
 
-digit : (c : tie.After-shared-slice-known Inv-loop μ-loop)
-    → Digit (getD (c .before .before .before .args .ds .now) (c .before .before .loop .i) 0)
-digit c = summed-digit (c .before .before .loop .inv) (c .before .loop-test .taken)
+abbrev turn : tie.After-shared-slice-known Inv-loop μ-loop → tie.At-loop Inv-loop μ-loop
+turn c = c .before .before
+
+digit : (c : tie.After-shared-slice-known Inv-loop μ-loop) → Digit (getD (turn c .before .args .ds .now) (turn c .loop .i) 0)
+digit c = summed-digit (turn c .loop .inv) (c .before .loop-test .taken)
 
 mul-n : tie.Need-mul-n Inv-loop μ-loop
 mul-n c = omega (arith, summed-small (c .before .loop .inv))
@@ -26,10 +28,10 @@ cast-n : tie.Need-cast-n Inv-loop μ-loop
 cast-n c = omega (arith, digit c .most)
 
 add-n : tie.Need-add-n Inv-loop μ-loop
-add-n c = omega (arith, digit c .most, summed-small (c .before .before .loop .inv))
+add-n c = omega (arith, digit c .most, summed-small (turn c .loop .inv))
 
 loop-again : tie.Need-loop-again Inv-loop μ-loop
-loop-again c = summed-more (c .before .before .loop .inv) (c .before .loop-test .taken)
+loop-again c = summed-more (turn c .loop .inv) (c .before .loop-test .taken)
 
 returns : tie.Need-returns Inv-loop μ-loop
 returns c = (summed-all (c .before .loop .inv) (c .loop-test .left), summed-small (c .before .loop .inv))

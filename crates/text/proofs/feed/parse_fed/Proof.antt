@@ -11,7 +11,7 @@ use Rattle.text.proofs.Laws.Long.{long-unread}
 use Rattle.text.proofs.feed.parse_fed.Statement.{statement}
 use Rattle.text.proofs.feed.parse_fed.Tie as tie
 
-size : (c : tie.Start) → length (c .args .f .bytes) ≡ 36
+size : (c : tie.Else1) → length (c .before .args .f .bytes) ≡ 36
 size c = search needs
 
 returns : tie.Need-returns
@@ -19,12 +19,14 @@ unfolding line-of
 returns c line h = sym (long-unread line (fed-long h (c .if1 .taken)))
 
 returns-2 : tie.Need-returns-2
-returns-2 c line h = c .parse .ensures ∙ ap (λ l. line-from (cut-at 32 l)) (fed-line h (c .before .before .before .if1 .left))
+returns-2 c line h =
+    let short = c .before .before .before in
+    c .parse .ensures ∙ ap (λ l. line-from (cut-at 32 l)) (fed-line h (short .if1 .left))
 
 pub parse-fed-spec : {M : Type 1} → statement M
 parse-fed-spec =
     tie.close
     (tie.spec returns
-    (λ c. omega (arith, size (c .before .before)))
-    (λ c. sym (length-take-le _ _ (omega (arith, size (c .before .before .before)))))
+    (λ c. omega (arith, size (c .before)))
+    (λ c. sym (length-take-le _ _ (omega (arith, size (c .before .before)))))
     (λ c κs. search needs) returns-2)

@@ -10,7 +10,8 @@ use Rattle.text.proofs.field.value_read.Tie as tie
 returns-2 : tie.Need-returns-2
 returns-2 c =
     let sign = c .before .before in
-    let v = sign .before .before .before .before .args .v .now in
+    let start = sign .before .before .before .before in
+    let v = start .args .v .now in
     c .number-read .ensures ∙ ap number-read (lent-rest v 1) ∙ sym (value-minus v (omega arith) (sign .if2 .taken))
 
 pub value-read-spec : {M : Type 1} → statement M

@@ -12,15 +12,21 @@ returns c = sym (sign-alone _ _ _ _ (c .if1 .taken))
 
 returns-2 : tie.Need-returns-2
 unfolding side-of
-returns-2 c = c .booking .ensures ∙ sym (sign-plus _ _ _ _ (c .before .before .before .if1 .left) (c .before .if2 .taken))
+returns-2 c =
+    let sign = c .before .before in
+    c .booking .ensures ∙ sym (sign-plus _ _ _ _ (sign .before .if1 .left) (c .before .if2 .taken))
 
 returns-3 : tie.Need-returns-3
 unfolding side-of
-returns-3 c = c .booking2 .ensures ∙ sym (sign-minus _ _ _ _ (c .before .before .before .before .if1 .left) (c .before .if3 .taken))
+returns-3 c =
+    let other = c .before .before in
+    c .booking2 .ensures ∙ sym (sign-minus _ _ _ _ (other .before .before .if1 .left) (c .before .if3 .taken))
 
 returns-4 : tie.Need-returns-4
 unfolding line-of
-returns-4 c = sym (sign-other _ _ _ _ (c .before .before .before .if1 .left) (c .before .if2 .left) (c .if3 .left))
+returns-4 c =
+    let other = c .before in
+    sym (sign-other _ _ _ _ (other .before .before .if1 .left) (other .if2 .left) (c .if3 .left))
 
 pub signed-line-spec : {M : Type 1} → statement M
 signed-line-spec =

@@ -16,16 +16,18 @@ abbrev μ-loop : tie.MeasureT-loop
 
 returns : tie.Need-returns Inv-loop μ-loop
 returns c =
-    let at = c .before .before .before in
+    let turn = c .before .before in
+    let at = turn .before in
     let args = at .before .args in
-    let e = ahead-here (args .b) (args .s .now) (at .loop .i) (c .before .before .loop-test .taken) (c .if1 .taken) in
+    let e = ahead-here (args .b) (args .s .now) (at .loop .i) (turn .loop-test .taken) (c .if1 .taken) in
     record { there = omega (arith, at .loop .inv .1, e); within = at .loop .inv .0 }
 
 loop-again : tie.Need-loop-again Inv-loop μ-loop
 loop-again c =
-    let at = c .before .before .before in
+    let turn = c .before .before in
+    let at = turn .before in
     let args = at .before .args in
-    let e = ahead-more (args .b) (args .s .now) (at .loop .i) (c .before .before .loop-test .taken) (c .if1 .left) in
+    let e = ahead-more (args .b) (args .s .now) (at .loop .i) (turn .loop-test .taken) (c .if1 .left) in
     (omega arith, omega (arith, at .loop .inv .1, e))
 
 returns-2 : tie.Need-returns-2 Inv-loop μ-loop
