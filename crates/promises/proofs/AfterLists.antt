@@ -4,11 +4,15 @@ use mathlib.Core.Path.{_≡_, ap, _∙_, subst⁻¹}
 use mathlib.Core.Logic.{_⊎_}
 use mathlib.Core.List.{List}
 use lib.IntN.{ℤ}
+use Rattle.fields.specs.Bytes.{Bytes}
 use Rattle.image.specs.Images.{pages-in}
 use Rattle.calls.specs.Changes.{Side}
 use Rattle.calls.specs.Calls.{Booked, Instant, Averaged, Audited, book, instant, average-at, listing, audit}
+use Rattle.calls.specs.Accepted.{Accepted-change}
+use Rattle.calls.specs.Trace.{Step, change-made}
 use Rattle.calls.specs.Book.{book-of}
 use Rattle.calls.specs.Demands.{fixed-status}
+use Rattle.calls.proofs.Steps.{booking-step}
 use Rattle.demands.proofs.Agree.{as-the-book}
 use Rattle.demands.proofs.Traces.{reached}
 use Rattle.demands.proofs.All.{twelve}
@@ -16,7 +20,9 @@ use Rattle.luwhenoka.specs.declared.InstantAnswer.{InstantAnswer}
 use Rattle.luwhenoka.specs.declared.AverageAnswer.{AverageAnswer}
 use Rattle.luwhenoka.specs.declared.ListingAnswer.{ListingAnswer}
 use Rattle.luwhenoka.specs.Answers.{pair-of, average-answer, listed}
+use Rattle.promises.specs.Changes.{Every-change-promised}
 use Rattle.promises.specs.AfterLists.{After-lists, Instant-as, Average-as, Listing-as, Audit-as, Booking-as}
+use Rattle.promises.proofs.Changes.{every-change-promised}
 
 pub instant-as : (t : ℕ) (img : List ℕ) (r : InstantAnswer)
     → record { status = r .status; pair = pair-of r; pages = r .pages } ≡ instant 12 t img
@@ -61,3 +67,17 @@ booking-as side v s e img scratch r after left p kind window cs T =
     (n ≡ fixed-status (pages-in 12 img) side v s e scratch (book-of kind window cs))
     ⊎ ((fixed-status (pages-in 12 img) side v s e scratch (book-of kind window cs) ≡ 0) × (n ≡ 24)))
     (ap (λ (b : Booked). b .status) p) (as-the-book (reached twelve T .kept) .bookings side v s e scratch)
+
+-- what a booking does is a step, leaves what every accepted change does, and answers as the book says
+pub booking-promised : (side : Side) (v : ℤ) (s e : ℕ) (img scratch : List ℕ) (r : ℕ) (after left : List ℕ) → Bytes img
+    → record { status = r; image = after; scratch = left } ≡ book 12 side v s e img scratch
+    → Step 12 img (change-made r (record { side = side; v = v; s = s; e = e })) after
+    × ((r ≡ 0 → Accepted-change 12 side v s e img after) × After-lists img (Booking-as side v s e img scratch r))
+unfolding Every-change-promised
+booking-promised side v s e img scratch r after left b p = (
+  booking-step 12 side v s e img scratch r after left p,
+  (
+    λ z. every-change-promised side v s e img scratch after left b (rw z at p) .leaves,
+    booking-as side v s e img scratch r after left p,
+  ),
+)
