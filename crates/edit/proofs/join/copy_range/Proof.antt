@@ -21,8 +21,9 @@ loop-holds c = (omega arith, moved-none _ _ _ _ (search needs))
 loop-again : tie.Need-loop-again Inv-loop μ-loop
 unfolding slot-at
 loop-again c =
-    let now = c .before .before .before .before .before .loop in
-    let q = c .before .before .before .before .before .before .args .t3 in (
+    let at = c .before .before .before .before .before in
+    let now = at .loop in
+    let q = at .before .args .t3 in (
       omega arith,
       moved-more (now .inv .1) (passed (slot-at q (now .i))) (entry-passed (slot-at q (now .i)) (omega arith) (omega arith)) (omega arith),
     )

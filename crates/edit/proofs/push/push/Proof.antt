@@ -20,21 +20,27 @@ abbrev μ-loop : tie.MeasureT-loop
 loop-holds : tie.Need-loop-holds Inv-loop μ-loop
 loop-holds c = (omega arith, pushed-none _ _ _ (search needs))
 
+-- where the turn began
+abbrev turn : tie.After-t21 Inv-loop μ-loop → tie.At-loop Inv-loop μ-loop
+turn c = c .before .before .before
+
 combine-requires : tie.Need-combine-requires Inv-loop μ-loop
 unfolding slot-at
 combine-requires c κs =
-    let start = c .before .before .before .before in
+    let start = turn c .before in
     let p = start .args .t3 in
-    let i = c .before .before .before .loop .i in
+    let i = turn c .loop .i in
     rw (pair-passed (slot-at p i .pair) (omega arith) (omega arith))
     (rw (at-shown p i (omega arith)) at (start .pre .each i (omega arith)))
 
 loop-again : tie.Need-loop-again Inv-loop μ-loop
 unfolding slot-at
 loop-again c =
-    let args = c .before .before .before .before .before .before .before .args in
-    let now = c .before .before .before .before .before .before .loop in
-    let both = c .before .before .combine in (
+    let done = c .before .before in
+    let at = turn (done .before) in
+    let args = at .before .args in
+    let now = at .loop in
+    let both = done .combine in (
       omega arith,
       pushed-more (now .inv .1) (passed-pair (both .result))
           (pair-passed (both .result) (omega arith) (omega arith) ∙ both .ensures
