@@ -16,9 +16,11 @@ fits c = sized 12 _ (c .before .pre)
 page-long : (c : tie.After-page-at) → length (c .page-at .result .now) ≡ 512
 page-long c = ap length (c .page-at .ensures) ∙ page-length _ 0 (omega (arith, fits (c .before) .size, fits (c .before) .least))
 
+abbrev began : tie.After-head-fit → tie.Start
+began c = c .before .before .before
+
 tested : (c : tie.After-head-fit)
-    → head-fit 12 (pages-in 12 (c .before .before .before .args .img .now))
-    (page-at 12 (c .before .before .before .args .img .now) 0) ≡ c .head-fit .result
+    → head-fit 12 (pages-in 12 (began c .args .img .now)) (page-at 12 (began c .args .img .now) 0) ≡ c .head-fit .result
 unfolding pages-in
 tested c = sym (c .head-fit .ensures ∙ ap (head-fit 12 _) (c .before .page-at .ensures))
 
@@ -32,6 +34,6 @@ open-head-spec =
     (λ c κs. page-long c)
     (λ c κs. omega (arith, page-long (c .before .before)))
     (λ c.
-    opening-fit _ (tested (c .before .before) ∙ c .before .if1 .taken)
-    (c .read-head .ensures ∙ ap head-of (c .before .before .before .page-at .ensures)))
+    let test = c .before .before in
+    opening-fit _ (tested test ∙ c .before .if1 .taken) (c .read-head .ensures ∙ ap head-of (test .before .page-at .ensures)))
     (λ c. opening-unfit _ (tested (c .before) ∙ c .if1 .left)))
