@@ -3,31 +3,40 @@
 use std::hint::black_box;
 use std::time::Instant;
 
+/// The work that a column of the table holds the library against.
+#[derive(Clone, Copy, PartialEq, Eq)]
+pub enum Column {
+    Library,
+    PlainC,
+    Copying,
+    Map,
+}
+
 /// A piece of work: done once, it does `units` of what is counted, and gives a number so that nothing is left out.
 pub struct Work<'a> {
-    pub name: &'static str,
-    pub units: usize,
-    pub run: Box<dyn FnMut() -> u64 + 'a>,
+    column: Column,
+    units: usize,
+    run: Box<dyn FnMut() -> u64 + 'a>,
 }
 
 impl<'a> Work<'a> {
-    pub fn new(name: &'static str, units: usize, run: impl FnMut() -> u64 + 'a) -> Work<'a> {
-        Work { name, units, run: Box::new(run) }
+    pub fn new(column: Column, units: usize, run: impl FnMut() -> u64 + 'a) -> Work<'a> {
+        Work { column, units, run: Box::new(run) }
     }
 }
 
 /// What a work took: the least of the rounds, for each unit, and the median over the rounds of the first work's time by its
 /// own.
-pub struct Took {
-    pub name: &'static str,
-    pub nanoseconds: f64,
-    pub ratio: f64,
+struct Took {
+    column: Column,
+    nanoseconds: f64,
+    ratio: f64,
 }
 
 pub const ROUNDS: usize = 41;
 
 /// A round does each work in turn, as often as fills about a fifth of a millisecond. The first round warms and isn't counted.
-pub fn side_by_side(mut works: Vec<Work>) -> Vec<Took> {
+fn side_by_side(mut works: Vec<Work>) -> Vec<Took> {
     let repeats: Vec<usize> = works.iter_mut().map(repeats_for).collect();
     let mut times = vec![Vec::with_capacity(ROUNDS); works.len()];
     for round in 0..=ROUNDS {
@@ -45,7 +54,7 @@ pub fn side_by_side(mut works: Vec<Work>) -> Vec<Took> {
     let first = times[0].clone();
     let took = works.iter().zip(&times).map(|(work, times)| {
         let ratios = first.iter().zip(times).map(|(first, own)| first / own).collect();
-        Took { name: work.name, nanoseconds: times.iter().copied().fold(f64::MAX, f64::min), ratio: median(ratios) }
+        Took { column: work.column, nanoseconds: times.iter().copied().fold(f64::MAX, f64::min), ratio: median(ratios) }
     });
     took.collect()
 }
@@ -62,31 +71,31 @@ fn median(mut values: Vec<f64>) -> f64 {
     values[values.len() / 2]
 }
 
-// ---------------------------------------------------------------- tables
+// ---------------------------------------------------------------- the table
 
-/// A table in Markdown: the library's time for each case, and how many times as long it takes as each other work.
-pub struct Table {
-    head: bool,
-    unit: &'static str,
+/// The head of the table in Markdown.
+pub fn print_head() {
+    println!("| call and case | ns | × plain C | × copying | × map of runs |");
+    println!("|--|--|--|--|--|");
 }
 
-impl Table {
-    pub fn new(title: &str, unit: &'static str) -> Table {
-        println!("\n### {title}\n");
-        Table { head: false, unit }
-    }
+/// Measures a row and prints it: the library's time, whose work is the first, and how many times as long it takes as each
+/// other work, with that one's own time in brackets.
+pub fn row(case: &str, works: Vec<Work>) {
+    let took = side_by_side(works);
+    let cell = |column: Column| match took.iter().find(|took| took.column == column) {
+        Some(took) => format!("{:.2} ({})", took.ratio, time(took.nanoseconds)),
+        None => "–".to_string(),
+    };
+    let cells = [Column::PlainC, Column::Copying, Column::Map].map(cell);
+    println!("| {case} | {} | {} |", time(took[0].nanoseconds), cells.join(" | "));
+}
 
-    /// Measures a row; the library's work is the first.
-    pub fn row(&mut self, case: &str, works: Vec<Work>) {
-        let took = side_by_side(works);
-        if !self.head {
-            let names: Vec<String> = took[1..].iter().map(|took| format!("× {}", took.name)).collect();
-            println!("| case | ns per {} | {} |", self.unit, names.join(" | "));
-            println!("|--|--|{}", "--|".repeat(names.len()));
-            self.head = true;
-        }
-        let ratios: Vec<String> =
-            took[1..].iter().map(|took| format!("{:.2} ({:.0} ns)", took.ratio, took.nanoseconds)).collect();
-        println!("| {case} | {:.0} | {} |", took[0].nanoseconds, ratios.join(" | "));
+/// One digit after the point where there are less than three before it.
+fn time(nanoseconds: f64) -> String {
+    if nanoseconds < 100.0 {
+        format!("{nanoseconds:.1}")
+    } else {
+        format!("{nanoseconds:.0}")
     }
 }

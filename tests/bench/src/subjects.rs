@@ -39,10 +39,15 @@ pub fn instants(number: usize, seed: u64) -> Vec<u32> {
     (0..number).map(|_| random.below(RANGE)).collect()
 }
 
-pub fn fresh(n: usize) -> Vec<u8> {
+pub fn formatted(n: usize, kind: u32, window: u32) -> Vec<u8> {
     let mut image = vec![0; 512 * n];
-    assert_eq!(plain::format(&mut image, 1, 0), 0);
+    assert_eq!(plain::format(&mut image, kind, window), 0);
     image
+}
+
+/// Kind 1, window 0: what is measured.
+pub fn fresh(n: usize) -> Vec<u8> {
+    formatted(n, 1, 0)
 }
 
 /// An image of n pages after these bookings, as many of them as find pages; how many those are.
@@ -74,17 +79,23 @@ pub fn way(image: &[u8], t: u32) -> Vec<usize> {
     way
 }
 
-/// Start, count and sum of each run of the full listing.
-pub fn runs(image: &[u8]) -> Vec<(u32, i32, i64)> {
+/// The bytes of the full listing.
+pub fn listed(image: &[u8]) -> Vec<u8> {
     let mut output = vec![0; 384 * (image.len() / 512)];
     let answer = plain::listing(image, 0, END, &mut output);
     assert_eq!(answer.status, 0);
+    output.truncate(16 * answer.runs as usize);
+    output
+}
+
+/// Start, count and sum of each run of the full listing.
+fn runs(image: &[u8]) -> Vec<(u32, i32, i64)> {
     let run = |bytes: &[u8]| {
         let start = u32::from_le_bytes(bytes[0..4].try_into().expect("4 bytes"));
         let count = i32::from_le_bytes(bytes[4..8].try_into().expect("4 bytes"));
         (start, count, i64::from_le_bytes(bytes[8..16].try_into().expect("8 bytes")))
     };
-    output.chunks(16).take(answer.runs as usize).map(run).collect()
+    listed(image).chunks(16).map(run).collect()
 }
 
 /// The runs in a map by their starts: what a plain program would keep in memory.
@@ -98,6 +109,25 @@ impl RunMap {
 
     pub fn pair_at(&self, t: u32) -> (i64, i32) {
         *self.0.range(..=t).next_back().expect("a run starts at 0").1
+    }
+
+    /// The average in hundredths.
+    pub fn average_at(&self, t: u32) -> Option<i64> {
+        let (sum, count) = self.pair_at(t);
+        match plain::average_of(1, sum, count) {
+            plain::Average::Hundredths(hundredths) => Some(hundredths),
+            _ => None,
+        }
+    }
+
+    /// Writes all runs, 16 bytes each; how many they are.
+    pub fn write(&self, output: &mut [u8]) -> usize {
+        for ((start, (sum, count)), to) in self.0.iter().zip(output.chunks_exact_mut(16)) {
+            to[0..4].copy_from_slice(&start.to_le_bytes());
+            to[4..8].copy_from_slice(&count.to_le_bytes());
+            to[8..16].copy_from_slice(&sum.to_le_bytes());
+        }
+        self.0.len()
     }
 
     /// Adds v and count over [s, e) and joins what has become equal at both ends.

@@ -1,0 +1,78 @@
+/*
+ * Soundness by counting, and the audit. A page is fit at no two places, so an image is sound exactly if head and tree are
+ * fit, the free list ends after exactly its length, tree pages and free pages are all pages below the high mark but the
+ * head, and all is FF from the high mark on. Nothing has to be marked: the scratch only has to be 0 afterwards.
+ */
+#include "page.h"
+#include "peer.h"
+
+/* The number of pages below a fit inner page, or 0 if one of them is unfit. */
+static uint32_t count_below(const uint8_t *image, const uint8_t *page, const struct place *at) {
+    uint32_t entries = entry_count(page);
+    uint32_t pages = entries;
+    for (uint32_t i = 0; i < entries; i++) {
+        const uint8_t *child = image + PAGE_BYTES * child_of(page, i);
+        struct place child_at = child_place(at, page, i);
+        if (!page_fits(child, &child_at)) {
+            return 0;
+        }
+        if (child_at.level > 0) {
+            uint32_t below = count_below(image, child, &child_at);
+            if (below == 0) {
+                return 0;
+            }
+            pages += below;
+        }
+    }
+    return pages;
+}
+
+/* The number of tree pages, or 0 if one is unfit. */
+static uint32_t count_tree(const uint8_t *image, const struct head *head) {
+    const uint8_t *root = image + PAGE_BYTES * head->root;
+    struct place at = root_place(head);
+    if (!root_fits(root, &at)) {
+        return 0;
+    }
+    if (at.level == 0) {
+        return 1;
+    }
+    uint32_t below = count_below(image, root, &at);
+    return below == 0 ? 0 : below + 1;
+}
+
+/* Whether the free list ends after exactly its length, which is below n. */
+static bool free_list_fits(const uint8_t *image, const struct head *head) {
+    uint32_t number = head->first_free;
+    for (uint32_t i = 0; i < head->free_length; i++) {
+        if (number - 1 >= head->n - 1 || !free_page_fits(image + PAGE_BYTES * number)) {
+            return false;
+        }
+        number = load32(image + PAGE_BYTES * number + 4);
+    }
+    return number == 0;
+}
+
+bool is_sound(const uint8_t *image, uint32_t n, struct head *head) {
+    if (!head_fits(image, n, head)) {
+        return false;
+    }
+    uint32_t tree_pages = count_tree(image, head);
+    return tree_pages != 0
+        && (uint64_t)tree_pages + head->free_length == head->high_mark - 1
+        && free_list_fits(image, head)
+        && pages_unused(image + PAGE_BYTES * head->high_mark, n - head->high_mark);
+}
+
+uint32_t peer_audit(const uint8_t *image, size_t image_length, uint8_t *scratch, size_t scratch_length) {
+    uint32_t n = number_of_pages(image_length);
+    if (n == 0) {
+        return IMAGE_LENGTH;
+    }
+    if (scratch_length < n) {
+        return SCRATCH_SHORT;
+    }
+    memset(scratch, 0, n);
+    struct head head;
+    return is_sound(image, n, &head) ? ACCEPTED : UNSOUND;
+}
