@@ -46,6 +46,10 @@ static inline void set_pair(uint8_t *page, uint32_t i, struct pair pair) {
     memcpy(entry_bytes(page, i) + 8, &pair.count, 4);
 }
 
+static inline bool is_full(const uint8_t *page) {
+    return entry_count(page) == MOST_ENTRIES;
+}
+
 static void insert_entry(uint8_t *page, uint32_t i, uint32_t start, struct entry entry) {
     uint32_t entries = entry_count(page);
     memmove(start_bytes(page, i + 1), start_bytes(page, i), START_BYTES * (entries - i));
@@ -174,7 +178,7 @@ static void plan_cut(const struct tree *tree, uint32_t t, struct cut *cut) {
 /* The first cut: from the leaf up, each full page splits. */
 static void plan_splits(const struct tree *tree, struct cut *cut) {
     uint32_t level = 0;
-    while (cut->cuts && level < tree->head.height && entry_count(page_at(tree, cut->path.page[level])) == MOST_ENTRIES) {
+    while (cut->cuts && level < tree->head.height && is_full(page_at(tree, cut->path.page[level]))) {
         level++;
     }
     cut->splits = level;
@@ -232,7 +236,7 @@ static void cut_at(struct tree *tree, const struct path *path, uint32_t t) {
     for (uint32_t level = 0;; level++) {
         uint32_t number = path->page[level];
         uint32_t i = path->entry[level] + 1;
-        if (entry_count(page_at(tree, number)) < MOST_ENTRIES) {
+        if (!is_full(page_at(tree, number))) {
             insert_entry(page_at(tree, number), i, start, entry);
             return;
         }
@@ -329,6 +333,12 @@ static void shrink_root(struct tree *tree) {
     tree->head.height -= 1;
 }
 
+/* Whether t starts entry i of a leaf, it isn't the first, and the one before has the same pair; children are 0 in both. */
+static bool heals(uint8_t *leaf, uint32_t i, uint32_t t) {
+    return i > 0 && start_of(leaf, i) == t
+        && memcmp(entry_bytes(leaf, i), entry_bytes(leaf, i - 1), ENTRY_BYTES) == 0;
+}
+
 static void heal_at(struct tree *tree, uint32_t t) {
     if (t == END) {
         return;
@@ -337,8 +347,7 @@ static void heal_at(struct tree *tree, uint32_t t) {
     find_path(tree, t, &path);
     uint8_t *leaf = page_at(tree, path.page[0]);
     uint32_t i = path.entry[0];
-    bool heals = i > 0 && start_of(leaf, i) == t && memcmp(entry_bytes(leaf, i), entry_bytes(leaf, i - 1), ENTRY_BYTES) == 0;
-    if (!heals) {
+    if (!heals(leaf, i, t)) {
         return;
     }
     remove_entry(leaf, i);

@@ -13,38 +13,38 @@
 #define FF UINT64_MAX
 
 /*
- * The AND of 64 bytes, as words. Four vectors are folded before they meet the running AND, so that its chain of
- * dependent steps is short.
+ * The AND of a page's words from an offset on, in quarters that are folded before they meet the running AND: its chain of
+ * dependent steps is short, and the loop's own instructions are few. The offset is a multiple of 64.
  */
-static inline bool page_unused(const uint8_t *page) {
+static inline uint64_t words_from(const uint8_t *page, uint32_t from) {
+    const uint32_t quarter = (PAGE_BYTES - from) / 4;
     uint64_t all = FF;
-    for (uint32_t i = 0; i < PAGE_BYTES / 4; i += 8) {
-        const uint8_t *at = page + i;
-        all &= load64(at) & load64(at + PAGE_BYTES / 4) & load64(at + PAGE_BYTES / 2) & load64(at + 3 * (PAGE_BYTES / 4));
+    for (const uint8_t *at = page + from; at < page + from + quarter; at += 8) {
+        all &= load64(at) & load64(at + quarter) & load64(at + 2 * quarter) & load64(at + 3 * quarter);
     }
-    return all == FF;
+    return all;
 }
 
 bool pages_unused(const uint8_t *from, uint32_t pages) {
     for (uint32_t i = 0; i < pages; i++) {
-        if (!page_unused(from + PAGE_BYTES * i)) {
+        if (words_from(from + PAGE_BYTES * i, 0) != FF) {
             return false;
         }
     }
     return true;
 }
 
-/* The AND of the words from an offset of a page to its end. */
-static inline uint64_t words_to_end(const uint8_t *page, uint32_t from) {
+/* The AND of a page's words from an offset up to 64. */
+static inline uint64_t first_words(const uint8_t *page, uint32_t from) {
     uint64_t all = FF;
-    for (uint32_t at = from; at < PAGE_BYTES; at += 8) {
+    for (uint32_t at = from; at < 64; at += 8) {
         all &= load64(page + at);
     }
     return all;
 }
 
 bool free_page_fits(const uint8_t *page) {
-    return level_of(page) == FREE_LEVEL && words_to_end(page, FREE_BYTES) == FF;
+    return level_of(page) == FREE_LEVEL && (first_words(page, FREE_BYTES) & words_from(page, 64)) == FF;
 }
 
 /* ------------------------------------------------------------ the head */
@@ -60,16 +60,21 @@ bool head_fits(const uint8_t *image, uint32_t n, struct head *head) {
         && head->window <= MOST_WINDOW
         && head->changes <= MOST_CHANGES
         && load32(image + HEAD_BYTES) == UNUSED
-        && words_to_end(image, HEAD_BYTES + 4) == FF;
+        && (first_words(image, HEAD_BYTES + 4) & words_from(image, 64)) == FF;
 }
 
 /* The greatest power of two that is at most so much; 0 for 0. */
-static uint64_t power_of_two_to(uint64_t most) {
-    for (uint32_t shift = 1; shift < 64; shift *= 2) {
-        most |= most >> shift;
-    }
+static inline uint32_t power_of_two_to(uint32_t most) {
+    most |= most >> 1;
+    most |= most >> 2;
+    most |= most >> 4;
+    most |= most >> 8;
+    most |= most >> 16;
     return most - most / 2;
 }
+
+/* A power of two below MOST_VALUE. */
+#define VALUE_LIMIT 524288
 
 struct place root_place(const struct head *head) {
     struct place at;
@@ -80,8 +85,8 @@ struct place root_place(const struct head *head) {
     at.kind = head->kind;
     at.count_room = head->changes;
     at.sum_room = (uint64_t)MOST_VALUE * head->changes;
-    at.count_limit = (uint32_t)power_of_two_to(at.count_room);
-    at.sum_limit = power_of_two_to(at.sum_room);
+    at.count_limit = power_of_two_to(at.count_room);
+    at.sum_limit = (uint64_t)VALUE_LIMIT * at.count_limit;
     return at;
 }
 
@@ -98,64 +103,96 @@ static inline uint32_t below_or_unused(const uint8_t *starts, uint32_t i) {
  * one, or that one FF: then they rise up to the first FF, and all is FF from there on. The last start being below its end
  * is not FF, and the place behind it is: so the first FF is there.
  *
- * 23 neighbours are 8 and 16 with one in both, so that vectors of 4 have no rest.
+ * The 23 neighbours are two dozens with one in both, so that vectors of 4 have no rest and one loop has them all. With 24
+ * entries the place behind the last start is the first entry: still in the page, and not asked, so no branch is needed.
  */
 static inline bool starts_fit(const uint8_t *page, const struct place *at, uint32_t entries) {
     const uint8_t *starts = starts_of(page);
     uint32_t all = UNUSED;
-    for (uint32_t i = 0; i < 8; i++) {
-        all &= below_or_unused(starts, i);
-    }
-    for (uint32_t i = 7; i < 23; i++) {
-        all &= below_or_unused(starts, i);
+    for (uint32_t i = 0; i < 12; i++) {
+        all &= below_or_unused(starts, i) & below_or_unused(starts, i + 11);
     }
     return (all == UNUSED) & (start_of(page, 0) == at->start) & (start_of(page, entries - 1) < at->end)
-        & (entries == MOST_ENTRIES || start_of(page, entries) == UNUSED);
+        & ((entries == MOST_ENTRIES) | (start_of(page, entries) == UNUSED));
 }
 
-/* ------------------------------------------------------------ entries */
+/* ------------------------------------------------------------ entries: unused bytes and children */
 
-#define FF8 FF, FF, FF, FF, FF, FF, FF, FF
 #define ZERO8 0, 0, 0, 0, 0, 0, 0, 0
+#define FF8 FF, FF, FF, FF, FF, FF, FF, FF
+#define CHILD8 0, FF << 32, 0, FF << 32, 0, FF << 32, 0, FF << 32
 
-/* From word 2 x (24 - number) on: FF for the two words of each entry in use, 0 for those past the number. */
-static const uint64_t used_words[4 * MOST_ENTRIES] = {FF8, FF8, FF8, FF8, FF8, FF8, ZERO8, ZERO8, ZERO8, ZERO8, ZERO8, ZERO8};
+/*
+ * Masks for the two words of each entry, from word 2 x (24 - number) on, so that the number only moves where they are
+ * read. Unused: nothing of an entry in use, all of one past the number. Leaf: the child of an entry in use, all of one
+ * past the number.
+ */
+static const uint64_t unused_words[4 * MOST_ENTRIES] = {
+    ZERO8, ZERO8, ZERO8, ZERO8, ZERO8, ZERO8, FF8, FF8, FF8, FF8, FF8, FF8,
+};
+static const uint64_t leaf_words[4 * MOST_ENTRIES] = {
+    CHILD8, CHILD8, CHILD8, CHILD8, CHILD8, CHILD8, FF8, FF8, FF8, FF8, FF8, FF8,
+};
 
-/* Whether the gap and the entries past the number are FF; none of the first places is past it. */
-static inline bool rest_unused(const uint8_t *page, uint32_t entries, uint32_t first) {
-    const uint64_t *used = used_words + 2 * (MOST_ENTRIES - entries);
-    uint64_t all = load64(page + GAP_AT) & load64(page + GAP_AT + 8) & load64(page + GAP_AT + 16);
-    for (uint32_t i = 2 * first; i < 2 * MOST_ENTRIES; i++) {
-        all &= load64(entries_of(page) + 8 * i) | used[i];
-    }
-    return all == FF;
+static inline uint64_t gap_bits(const uint8_t *page) {
+    return ~(load64(page + GAP_AT) & load64(page + GAP_AT + 8) & load64(page + GAP_AT + 16));
 }
 
-/* Counts the children in range over all places. One that is FF isn't, so there are as many as entries. */
-static inline bool children_fit(const uint8_t *page, uint32_t entries, uint32_t lowest, uint32_t range) {
+/* Whether gap and entries past the number are FF and the children in use 0. The first `in_use` places are in use. */
+static inline bool leaf_rest_fits(const uint8_t *page, uint32_t entries, uint32_t in_use) {
+    const uint64_t *unused = unused_words + 2 * (MOST_ENTRIES - entries);
+    const uint64_t *asked = leaf_words + 2 * (MOST_ENTRIES - entries);
+    uint64_t wrong = gap_bits(page);
+    for (uint32_t i = 0; i < 2 * in_use; i++) {
+        wrong |= load64(entries_of(page) + 8 * i) & leaf_words[i];
+    }
+    for (uint32_t i = 2 * in_use; i < 2 * MOST_ENTRIES; i++) {
+        wrong |= (load64(entries_of(page) + 8 * i) & asked[i]) ^ unused[i];
+    }
+    return wrong == 0;
+}
+
+/* Whether gap and entries past the number are FF. */
+static inline bool inner_rest_fits(const uint8_t *page, uint32_t entries, uint32_t in_use) {
+    const uint64_t *unused = unused_words + 2 * (MOST_ENTRIES - entries);
+    uint64_t wrong = gap_bits(page);
+    for (uint32_t i = 2 * in_use; i < 2 * MOST_ENTRIES; i++) {
+        wrong |= ~load64(entries_of(page) + 8 * i) & unused[i];
+    }
+    return wrong == 0;
+}
+
+/* Counts the children from 1 to n - 1 over all places. One that is FF isn't there, so they are as many as the entries. */
+static inline bool children_fit(const uint8_t *page, uint32_t entries, uint32_t n) {
     const uint8_t *children = entries_of(page) + 12;
     uint32_t fit = 0;
     for (uint32_t i = 0; i < MOST_ENTRIES; i++) {
-        fit += load32(children + ENTRY_BYTES * i) - lowest <= range;
+        fit += load32(children + ENTRY_BYTES * i) - 1 <= n - 2;
     }
     return fit == entries;
 }
+
+/* ------------------------------------------------------------ entries: pairs */
 
 /*
  * A quick test of totals, exact only for rooms that are powers of two: x + limit is below 2 x limit, as a number without
  * sign, exactly if x is from -limit to limit - 1, and an OR of numbers is below a power of two exactly if each of them is.
  * One addition and one OR for the 16 bytes of an entry; no 64-bit comparison, which plain x86-64 lacks for vectors. Unused
  * places read as -1 and pass. The child's half of the second word gets a carry and is left out.
+ *
+ * Three entries a round: the loop's own instructions and its chain of ORs are a third, and the compiler keeps its vectors.
  */
 static inline bool totals_within_limits(const uint8_t *page, const struct place *at) {
-    const uint8_t *entries = entries_of(page);
+    const uint32_t third = MOST_ENTRIES / 3 * ENTRY_BYTES;
+    uint64_t sum_limit = at->sum_limit, count_limit = at->count_limit;
     uint64_t sums = 0, counts = 0;
-    for (uint32_t i = 0; i < MOST_ENTRIES; i++) {
-        sums |= load64(entries + ENTRY_BYTES * i) + at->sum_limit;
-        counts |= load64(entries + ENTRY_BYTES * i + 8) + at->count_limit;
+    for (uint32_t i = 0; i < third; i += ENTRY_BYTES) {
+        const uint8_t *one = entries_of(page) + i, *two = one + third, *three = two + third;
+        sums |= (load64(one) + sum_limit) | (load64(two) + sum_limit) | (load64(three) + sum_limit);
+        counts |= (load64(one + 8) + count_limit) | (load64(two + 8) + count_limit) | (load64(three + 8) + count_limit);
     }
-    return (sums < 2 * at->sum_limit) & ((uint32_t)counts < 2 * at->count_limit)
-        & (at->sum_limit <= at->sum_room) & (at->count_limit <= at->count_room);
+    return (sums < 2 * sum_limit) & ((uint32_t)counts < 2 * count_limit)
+        & (sum_limit <= at->sum_room) & (count_limit <= at->count_room);
 }
 
 /* The exact test, where the quick one fails: |x| <= room as one addition and one comparison without sign. */
@@ -190,21 +227,33 @@ static inline bool pairs_fit(const uint8_t *page, const struct place *at, uint32
 /* ------------------------------------------------------------ pages */
 
 /* The number of entries is compared before anything is done with it. */
-static inline bool fits(const uint8_t *page, const struct place *at, uint32_t fewest) {
-    uint32_t entries = entry_count(page);
-    if (level_of(page) != at->level || entries < fewest || entries > MOST_ENTRIES) {
+static inline bool level_and_count_fit(const uint8_t *page, const struct place *at, uint32_t fewest) {
+    return level_of(page) == at->level && entry_count(page) - fewest <= MOST_ENTRIES - fewest;
+}
+
+static inline bool rest_fits(const uint8_t *page, const struct place *at, uint32_t entries, uint32_t in_use) {
+    if (at->level == 0) {
+        return leaf_rest_fits(page, entries, in_use);
+    }
+    return inner_rest_fits(page, entries, in_use) & children_fit(page, entries, at->n);
+}
+
+/* Any place of a root may be unused. */
+bool root_fits(const uint8_t *page, const struct place *at) {
+    if (!level_and_count_fit(page, at, at->level == 0 ? 1 : 2)) {
         return false;
     }
-    bool leaf = at->level == 0;
-    bool first = starts_fit(page, at, entries) & rest_unused(page, entries, fewest < FEWEST_ENTRIES ? 0 : FEWEST_ENTRIES);
-    bool children = leaf ? children_fit(page, entries, 0, 0) : children_fit(page, entries, 1, at->n - 2);
-    return first & children && pairs_fit(page, at, entries);
+    uint32_t entries = entry_count(page);
+    bool fit = starts_fit(page, at, entries) & rest_fits(page, at, entries, 0);
+    return fit && pairs_fit(page, at, entries);
 }
 
-bool root_fits(const uint8_t *page, const struct place *at) {
-    return fits(page, at, at->level == 0 ? 1 : 2);
-}
-
+/* The same with 12 places in use. It stands here a second time so that loops have a length that is known. */
 bool page_fits(const uint8_t *page, const struct place *at) {
-    return fits(page, at, FEWEST_ENTRIES);
+    if (!level_and_count_fit(page, at, FEWEST_ENTRIES)) {
+        return false;
+    }
+    uint32_t entries = entry_count(page);
+    bool fit = starts_fit(page, at, entries) & rest_fits(page, at, entries, FEWEST_ENTRIES);
+    return fit && pairs_fit(page, at, entries);
 }

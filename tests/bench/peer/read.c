@@ -9,7 +9,10 @@ static struct peer_instant_answer no_instant(uint32_t status, uint32_t pages) {
     return answer;
 }
 
-/* Each page on the path is checked whole before it is searched. */
+/*
+ * Each page on the path is checked whole before its entry is used. The entry is looked for ahead of the check, which any
+ * bytes allow: so the processor knows the next page, and can begin with it, while it still checks this one.
+ */
 struct peer_instant_answer peer_instant(const uint8_t *image, size_t image_length, uint32_t t) {
     uint32_t n = number_of_pages(image_length);
     if (n == 0) {
@@ -24,18 +27,18 @@ struct peer_instant_answer peer_instant(const uint8_t *image, size_t image_lengt
     }
     const uint8_t *page = image + PAGE_BYTES * head.root;
     struct place at = root_place(&head);
+    uint32_t i = entry_at(page, t);
     if (!root_fits(page, &at)) {
         return no_instant(UNSOUND, 1);
     }
-    uint32_t i = entry_at(page, t);
     struct pair pair = pair_of(page, i);
     for (uint32_t pages = 2; pages <= head.height; pages++) {
         at = child_place(&at, page, i);
         page = image + PAGE_BYTES * child_of(page, i);
+        i = entry_at(page, t);
         if (!page_fits(page, &at)) {
             return no_instant(UNSOUND, pages);
         }
-        i = entry_at(page, t);
         pair = combine(head.kind, pair, pair_of(page, i));
     }
     struct peer_instant_answer answer = {ACCEPTED, head.height, pair.sum, pair.count};
@@ -100,16 +103,27 @@ static inline bool same(struct pair one, struct pair other) {
     return (one.sum == other.sum) & (one.count == other.count);
 }
 
+/* 1 if the pairs of an entry and of the one before it differ; the children of a leaf are all 0. */
+static inline uint32_t differs(const uint8_t *entry) {
+    return ((load64(entry) ^ load64(entry - 16)) | (load64(entry + 8) ^ load64(entry - 8))) != 0;
+}
+
 /*
  * Within a leaf of totals two entries give different runs exactly if their own pairs differ, whatever is added to both
- * from above: their 16 bytes are compared as two words, as the children of a leaf are all 0.
+ * from above. A leaf that is wholly met is compared over all 24 places: those past the number are equal to each other, and
+ * the first of them differs from the last entry by its child. So no branch waits for the number of entries.
  */
 static uint32_t differing_neighbours(const uint8_t *page, struct range range) {
     const uint8_t *entries = entries_of(page);
     uint32_t differing = 0;
+    if (range.from == 0 && range.to == entry_count(page)) {
+        for (uint32_t i = 1; i < MOST_ENTRIES; i++) {
+            differing += differs(entries + ENTRY_BYTES * i);
+        }
+        return differing - (range.to < MOST_ENTRIES);
+    }
     for (uint32_t i = range.from + 1; i < range.to; i++) {
-        const uint8_t *entry = entries + ENTRY_BYTES * i;
-        differing += ((load64(entry) ^ load64(entry - 16)) | (load64(entry + 8) ^ load64(entry - 8))) != 0;
+        differing += differs(entries + ENTRY_BYTES * i);
     }
     return differing;
 }
