@@ -12,17 +12,21 @@
 
 #define FF UINT64_MAX
 
+/* So many words are handled together, each with a running AND of its own. */
+#define WORDS 8
+
 /*
- * The AND of a page's words from an offset on, in quarters that are folded before they meet the running AND: its chain of
- * dependent steps is short, and the loop's own instructions are few. The offset is a multiple of 64.
+ * The AND of a page's words from an offset on, which is a multiple of 64. One running AND would be a chain in which every
+ * vector waits for the one before; eight words a round make four vectors that don't wait for each other.
  */
 static inline uint64_t words_from(const uint8_t *page, uint32_t from) {
-    const uint32_t quarter = (PAGE_BYTES - from) / 4;
-    uint64_t all = FF;
-    for (const uint8_t *at = page + from; at < page + from + quarter; at += 8) {
-        all &= load64(at) & load64(at + quarter) & load64(at + 2 * quarter) & load64(at + 3 * quarter);
+    uint64_t all[WORDS] = {FF, FF, FF, FF, FF, FF, FF, FF};
+    for (uint32_t at = from; at < PAGE_BYTES; at += 8 * WORDS) {
+        for (uint32_t j = 0; j < WORDS; j++) {
+            all[j] &= load64(page + at + 8 * j);
+        }
     }
-    return all;
+    return all[0] & all[1] & all[2] & all[3] & all[4] & all[5] & all[6] & all[7];
 }
 
 bool pages_unused(const uint8_t *from, uint32_t pages) {
