@@ -66,7 +66,7 @@ fn number(both: &mut Both, image: &[u8], page: usize) -> (usize, Vec<u8>) {
     let count = changes.wrapping_add(near).wrapping_sub(1);
     let sum = 1_000_000 * i64::from(changes) + i64::from(near) - 1;
     let small = both.random.below(n + 2);
-    match both.random.below(12) {
+    match both.random.below(13) {
         0 => (32, both.random.below(40).to_le_bytes().to_vec()),
         1 => (32, both.random.below(changes.max(1)).to_le_bytes().to_vec()),
         2 => (entry, pick(both, &[sum, -sum, i64::MIN, i64::MAX, 0, 1_000_001, -1_000_000]).to_le_bytes().to_vec()),
@@ -80,9 +80,21 @@ fn number(both: &mut Both, image: &[u8], page: usize) -> (usize, Vec<u8>) {
             let other = 512 * page + 32 + 4 * both.random.below(24) as usize;
             (512 * page + 32 + 4 * place, image[other..other + 4].to_vec())
         }
-        10 => (512 * page, image[512 * small.min(n - 1) as usize..][..512].to_vec()),
+        10 => (512 * page, shortened(&image[512 * page..][..512], pick(both, &[0, 1, 2, 11, 12, 13]))),
+        11 => (512 * page, image[512 * small.min(n - 1) as usize..][..512].to_vec()),
         _ => (512 * page, vec![0xFF; 512]),
     }
+}
+
+/// A page with so many entries, if it has more, and FF behind them: nothing but the number may be wrong.
+fn shortened(page: &[u8], entries: usize) -> Vec<u8> {
+    let mut page = page.to_vec();
+    if (entries as u32) < u32_at(&page, 4) {
+        page[4..8].copy_from_slice(&(entries as u32).to_le_bytes());
+        page[32 + 4 * entries..128].fill(0xFF);
+        page[128 + 16 * entries..].fill(0xFF);
+    }
+    page
 }
 
 fn pick<T: Copy>(both: &mut Both, from: &[T]) -> T {
