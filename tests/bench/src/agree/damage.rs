@@ -4,6 +4,7 @@ use plain::END;
 
 use super::both::{Both, Call};
 use super::loads::listings;
+use crate::subjects::{formatted, height};
 
 /// Single bytes of an image changed, one at a time.
 pub fn bytes(both: &mut Both, image: &[u8]) {
@@ -39,6 +40,40 @@ pub fn numbers(both: &mut Both, image: &[u8]) {
     }
 }
 
+/// The changes of heavy images counted lower, down to 0, so that the sums and counts along a path go over their bounds.
+pub fn bounds(both: &mut Both) {
+    for (entered, withdrawn) in [(3, 3), (1_000_000, 1_000_000), (1_000_000, -1_000_000)] {
+        let image = heavy(both, entered, withdrawn);
+        let changes = u32_at(&image, 32);
+        for lowered in 0..=changes {
+            both.set(32, &lowered.to_le_bytes());
+            both.ask(Call::Audit, both.pages(), 0);
+            for t in [5, 100, both.random.below(3_000), END - 1] {
+                both.ask(Call::Instant { t }, 0, 0);
+            }
+            let b = 1 + both.random.below(3_000);
+            both.ask(Call::Listing { a: 0, b }, 0, 384 * both.pages());
+        }
+    }
+}
+
+/// A tree of height 3 below many bookings over nearly all of the time. Where the value withdrawn isn't the one entered, every
+/// second is a withdrawal: sums grow, and counts don't.
+fn heavy(both: &mut Both, entered: i64, withdrawn: i64) -> Vec<u8> {
+    both.lend(&formatted(64, 1, 0));
+    for i in 1..=200 {
+        both.ask(Call::Enter { v: i64::from(i % 4), s: 10 * i, e: 10 * i + 5 }, 64, 0);
+    }
+    for i in 0..150 {
+        let (s, e) = (i % 3, END - i % 3);
+        let entry = entered == withdrawn || i % 2 == 0;
+        let call = if entry { Call::Enter { v: entered, s, e } } else { Call::Withdraw { v: withdrawn, s, e } };
+        both.ask(call, 64, 0);
+    }
+    assert_eq!(height(both.image()), 3);
+    both.image().to_vec()
+}
+
 fn rounds(image: &[u8]) -> usize {
     if image.len() > 50_000 {
         150
@@ -47,12 +82,14 @@ fn rounds(image: &[u8]) -> usize {
     }
 }
 
-/// The head, or any page, mostly one in use.
+/// The head, an inner page if there is one, or any page, mostly one in use.
 fn page(both: &mut Both, image: &[u8]) -> usize {
-    let used = u32_at(image, 20).max(2);
+    let (pages, used) = (image.len() / 512, u32_at(image, 20).max(2));
+    let inner: Vec<usize> = (1..pages).filter(|page| (1..=3).contains(&u32_at(image, 512 * page))).collect();
     match both.random.below(8) {
         0 => 0,
-        1 => both.random.below((image.len() / 512) as u32) as usize,
+        1 => both.random.below(pages as u32) as usize,
+        2 | 3 if !inner.is_empty() => pick(both, &inner),
         _ => both.random.below(used) as usize,
     }
 }

@@ -46,6 +46,20 @@ pub fn changes(both: &mut Both) -> Vec<Vec<u8>> {
     images
 }
 
+/// Changes in images with no page to spare: whether both cuts together find their pages is asked again and again, with
+/// pages that are full, that only become so by the first cut, and that it has split.
+pub fn without_spare_pages(both: &mut Both) {
+    for pages in [3, 4, 5, 6, 26, 27, 28, 29, 30, 31] {
+        both.lend(&formatted(pages, 1, 0));
+        for _ in 0..1_200 {
+            let (one, other) = (both.random.below(20_000), both.random.below(20_000));
+            let (v, s, e) = (i64::from(both.random.below(9)), one.min(other), one.max(other) + 1);
+            let withdrawal = both.random.below(3) == 0;
+            change(both, if withdrawal { Call::Withdraw { v, s, e } } else { Call::Enter { v, s, e } });
+        }
+    }
+}
+
 /// Enters bookings, one in eight of kind 1 withdrawn again at once; those that are left.
 fn enter(both: &mut Both, load: &Load) -> Vec<(i64, u32, u32)> {
     let mut booked = Vec::new();

@@ -12,7 +12,9 @@ use both::Both;
 pub fn compare() {
     let mut both = Both::new(1);
     let images = loads::changes(&mut both);
+    loads::without_spare_pages(&mut both);
     refusals::refusals(&mut both);
+    damage::bounds(&mut both);
     for image in &images {
         damage::bytes(&mut both, image);
         damage::numbers(&mut both, image);
