@@ -5,7 +5,7 @@
  *     early. A length that is known lets the compiler unroll and vectorise, and no loop ends in a branch that depends on
  *     the number of entries, which the processor can't predict.
  *   - Each loop has one test. Several tests in one loop made the compiler pull sums and counts apart by shuffles.
- *   - The checks are functions of their own, in a file of their own: put into their callers they were slower by a quarter.
+ *   - The checks of pages are functions of their own: inlined, instants were slower by a fifth and audits by two fifths.
  */
 #include "page.h"
 
