@@ -40,10 +40,6 @@ pub put-behind : {s t u xs zs : List ℕ} {at p q : ℕ}
     → Put s at xs t p → xs ++ drop (length xs) zs ≡ zs → Put t p (drop (length xs) zs) u q → Put s at zs u q
 put-behind f e g = put-as e (put-then f g)
 
--- what is left where at most k bytes of k + m were printed
-pub put-room : {s t xs : List ℕ} {at p : ℕ} (k m : ℕ) → Put s at xs t p → length xs ≤ k → at + (k + m) ≤ length s → p + m ≤ length t
-put-room k m f h l = omega (arith, f .offset, put-length f)
-
 -- ---- a text, byte by byte: the loop's invariant
 
 pub record Copied (s : List ℕ) (at : ℕ) (text : List ℕ) (i : ℕ) (now : List ℕ) : Type 0 where

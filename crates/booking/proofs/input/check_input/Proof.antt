@@ -19,7 +19,8 @@ began c = c .before .before .before .before
 tests : (c : tie.After-value-ok) {whole room span fits : Bool} → c .before .length-fits .result ≡ whole
     → leb (pages-in 12 (began c .args .img .now)) (length (began c .args .scratch .now)) ≡ room
     → ltb (began c .args .s) (began c .args .e) ≡ span → c .value-ok .result ≡ fits
-    → Tests (began c .args .v) (began c .args .s) (began c .args .e) (began c .args .img .now) (began c .args .scratch .now) whole room span fits
+    → Tests (began c .args .v) (began c .args .s) (began c .args .e) (began c .args .img .now) (began c .args .scratch .now)
+    whole room span fits
 tests c a b d f =
     record {
       whole-is = sym (c .before .length-fits .ensures) ∙ a;
