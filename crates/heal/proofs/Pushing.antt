@@ -44,7 +44,10 @@ module _ (kind : ℕ) (e : Entry) where
         let shown : entries (pushed-to i level X) (e .child) ≡ changed f i es = entries-at (e .child) level _ X in
         record {
           has =
-              record { tree-page = tree-at (e .child) level _ X (s .tree-page .within); inside = omega (arith, ap length shown, length-changed f i es) };
+              record {
+                tree-page = tree-at (e .child) level _ X (s .tree-page .within);
+                inside = omega (arith, ap length shown, length-changed f i es);
+              };
           combines =
               subst⁻¹ (λ x. Combinable (e .pair) (x .pair)) (ap (λ xs. at xs i) shown ∙ at-changed f i es) (s .each i h);
         }

@@ -187,9 +187,10 @@ module _ {level a b m k : ℕ} {X : Image} (s : Movable level a b m k X) where
 
       pub first-goes : Has-entry level b 0 longer
       first-goes =
+          let same : entries longer b ≡ entries X b = entries-else a _ X (other-way pages) in
           record {
             tree-page = tree-else a _ X (other-way pages) (pages .right);
-            inside = omega (arith, first-there .inside, ap length (entries-else a (tree level (inserted m e (entries X a))) X (other-way pages)));
+            inside = omega (arith, first-there .inside, ap length same);
           }
 
       pub went-left : put b (tree level (splice 0 [] (entries longer b))) longer ≡ shared level a b (m + 1) X

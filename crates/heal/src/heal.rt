@@ -14,7 +14,8 @@ ghost use Rattle.heal.specs.Healable.{Rebalanceable-if-short, rebalance-
 // The page q under the i-th entry of page p was healed: if that left it short, it is rebalanced with its sibling.
 fn rebalance_if_short(img: &mut [u8], kind: u32, p: u32, i: usize, q: u32)
     requires { ⌜ Pre-level (now img) (λ v. Rebalanceable-if-short v p i q) ⌝ }
-    ensures { λ _. ⌜ Post-level (now (img .entry)) (λ v. Rebalanceable-if-short v p i q) (λ v X. Encodes (now (img .exit)) (rebalance-if-short kind v p i q X)) ⌝ }
+    ensures { λ _. ⌜ Post-level (now (img .entry)) (λ v. Rebalanceable-if-short v p i q)
+        (λ v X. Encodes (now (img .exit)) (rebalance-if-short kind v p i q X)) ⌝ }
 {
     if entry_count_in(img, q) < HALF {
         rebalance(img, kind, p, i);

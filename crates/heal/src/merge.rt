@@ -12,7 +12,8 @@ ghost use Rattle.heal.specs.Siblings.{Mergeable, siblings-joined};
 // The two pages; the page above them stays as it is.
 fn join_siblings(img: &mut [u8], kind: u32, p: u32, l: usize)
     requires { ⌜ Pre-level (now img) (λ v. Mergeable v p l) ⌝ }
-    ensures { λ _. ⌜ Post-level (now (img .entry)) (λ v. Mergeable v p l) (λ v X. Encodes (now (img .exit)) (siblings-joined kind v p l X)) ⌝ }
+    ensures { λ _. ⌜ Post-level (now (img .entry)) (λ v. Mergeable v p l)
+        (λ v X. Encodes (now (img .exit)) (siblings-joined kind v p l X)) ⌝ }
 {
     let s = push_siblings(img, kind, p, l);
     append_all(img, s.left, s.right);

@@ -40,13 +40,15 @@ returns c X h s kind =
     let goes = removed .before .before in
     let at = goes .before .before .before in
     let e = read at X h s in
-    subst (Encodes _) (leaf-healed (start at .args .t) (start at .args .p) X (found at X h s) kind (sym (goes .before .heals .ensures X h 0 e) ∙ goes .if1 .taken))
+    let test = sym (goes .before .heals .ensures X h 0 e) ∙ goes .if1 .taken in
+    subst (Encodes _) (leaf-healed (start at .args .t) (start at .args .p) X (found at X h s) kind test)
     (removed .remove-entry .ensures X h 0 (e .has))
 
 returns-2 : tie.Need-returns-2
 returns-2 c X h s kind =
     let at = c .before .before .before in
-    subst (Encodes _) (leaf-kept (start at .args .t) (start at .args .p) X (found at X h s) kind (sym (c .before .heals .ensures X h 0 (read at X h s)) ∙ c .if1 .left)) h
+    let test = sym (c .before .heals .ensures X h 0 (read at X h s)) ∙ c .if1 .left in
+    subst (Encodes _) (leaf-kept (start at .args .t) (start at .args .p) X (found at X h s) kind test) h
 
 pub heal-leaf-spec : {M : Type 1} → statement M
 heal-leaf-spec =

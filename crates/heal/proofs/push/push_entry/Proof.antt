@@ -31,7 +31,8 @@ returns c X h v s =
     let e = read .entry-of .result in
     subst (Encodes _)
     (ap (λ r. put q (tree v (splice (args .i) (entry (e .start) r (e .child) ∷ []) es)) X) (both .combine .ensures)
-    ∙ ap (λ e. put q (tree v (splice (args .i) (with-pair (args .kind) (args .pair) e ∷ []) es)) X) (read .entry-of .ensures X h v (s .has)))
+    ∙ ap (λ e. put q (tree v (splice (args .i) (with-pair (args .kind) (args .pair) e ∷ []) es)) X)
+    (read .entry-of .ensures X h v (s .has)))
     (set .set-entry .ensures X h v (s .has))
 
 pub push-entry-spec : {M : Type 1} → statement M
