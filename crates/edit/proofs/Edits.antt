@@ -45,10 +45,6 @@ module _ (p : Page) where
       entry-list-first-slots (stored i e p) refl ∙ first-slots-stored i e p w (omega arith) (p .len)
       ∙ rw (entry-list-first-slots p refl) (set-split (first-slots (p .len) p) i e (rw (first-slots-length p) h))
 
-  pub remove-entries : (i : ℕ) → i < p .len → first-slots i p ++ drop (i + 1) (first-slots (p .len) p) ≡ splice i [] (entry-list p)
-  unfolding splice
-  remove-entries i h = rw (slots-first i (omega arith), add-one, entry-list-first-slots p refl)
-
   -- e at the slot that was made free
   pub insert-entries : (i : ℕ) (e : Entry) → i ≤ p .len
       → splice i (e ∷ []) (first-slots (i + 1) p ++ drop i (first-slots (p .len) p)) ≡ inserted i e (entry-list p)

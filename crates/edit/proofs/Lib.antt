@@ -1,4 +1,3 @@
 pub mod Slots
 pub mod Moved
 pub mod Edits
-pub mod Pushed

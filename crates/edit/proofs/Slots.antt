@@ -10,7 +10,7 @@ use lib.Signed.{mag}
 use mir.Syntax.{w32, w64}
 use mir.Val.{toZ, ofZ}
 use mir.ValLaws.{toZ-ofZ}
-use lib.Seq.{getD-set-same, getD-set-other, set-getD, set-at, ext-getD}
+use lib.Seq.{getD-set-same, getD-set-other, set-at, ext-getD}
 use Rattle.lists.specs.Lists.{listed}
 use Rattle.lists.proofs.Listed.{length-listed, getD-listed, listed-take}
 use Rattle.rule.specs.declared.Pair.{Pair}
@@ -137,20 +137,3 @@ module _ (i : ℕ) (e : Entry) (p : Page) where
   first-slots-put w h =
       first-slots-stored w h (suc i)
       ∙ rw (first-slots-more p i) (set-at (first-slots i p) (slot-at p i) [] e i (first-slots-length p i))
-
--- q as the pair of the i-th slot
-abbrev pub paired : ℕ → Pair → Page → Page
-paired i q p =
-    record {
-      level = p .level;
-      len = p .len;
-      starts = p .starts;
-      sums = set (p .sums) i (q .sum);
-      counts = set (p .counts) i (q .count);
-      children = p .children;
-    }
-
--- is a store of the whole entry, of which start and child stand there already
-pub paired-stored : (i : ℕ) (q : Pair) (p : Page) → paired i q p ≡ stored i (entry (slot-at p i .start) q (slot-at p i .child)) p
-unfolding slot-at
-paired-stored i q p = rw (set-getD (p .starts) i 0, set-getD (p .children) i 0)

@@ -1,6 +1,6 @@
 // An entry more.
+use crate::copy::copy_range;
 use crate::entry::replace;
-use crate::join::copy_range;
 use page::Entry;
 use page::Page;
 ghost use Prim.Native.Nat.{_≤_};

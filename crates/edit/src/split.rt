@@ -1,5 +1,5 @@
 // The two parts of a page that is cut in front of its k-th entry.
-use crate::join::copy_range;
+use crate::copy::copy_range;
 use page::Page;
 ghost use Prim.Native.Nat.{_≤_};
 ghost use lib.ListN.{take, drop};

@@ -1,4 +1,4 @@
-// The one loop that moves entries: room for an entry, a hole closed, a half split off and two pages joined are all made of it.
+// The one loop that moves entries: room for an entry and a half split off are both made of it.
 use page::Page;
 ghost use Prim.Native.Nat.{_+_, _≤_};
 ghost use mathlib.Core.List.{_++_};
@@ -27,12 +27,4 @@ pub(crate) fn copy_range(p: Page, kept: usize, q: Page, from: usize, end: usize)
     }
     r.len = to;
     r
-}
-
-// All entries of p, then all of q.
-pub fn append(p: Page, q: Page) -> Page
-    requires { ⌜ p .len + q .len ≤ 25 ⌝ }
-    ensures { λ r. ⌜ Has-entries (p .level) (entry-list p ++ entry-list q) r ⌝ }
-{
-    copy_range(p, p.len, q, 0, q.len)
 }

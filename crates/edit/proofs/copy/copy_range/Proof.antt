@@ -1,4 +1,4 @@
--- `edit::join::copy_range` meets its contract: each turn is one of `Moved`, the four stores one of an entry. Assumes nothing.
+-- `edit::copy::copy_range` meets its contract: each turn is one of `Moved`, the four stores one of an entry. Assumes nothing.
 use Prim.Native.Nat.{_-_, _≤_}
 use mathlib.Core.Path.{_≡_}
 use native.Mathlib.Omega.{arith}
@@ -6,8 +6,8 @@ use borrow.Author.Needs.{needs}
 use Rattle.page.specs.Decoded.{slot-at}
 use Rattle.edit.proofs.Moved.{Moved, moved-none, moved-more, moved-all}
 use Rattle.edit.proofs.Slots.{passed, entry-passed}
-use Rattle.edit.proofs.join.copy_range.Statement.{statement}
-use Rattle.edit.proofs.join.copy_range.Tie as tie
+use Rattle.edit.proofs.copy.copy_range.Statement.{statement}
+use Rattle.edit.proofs.copy.copy_range.Tie as tie
 
 abbrev Inv-loop : tie.InvT-loop
 Inv-loop kept from end q r₀ to₀ i₀ r to i = (i ≤ end) × Moved r₀ kept q from r to i
