@@ -10,7 +10,7 @@ use Rattle.page.specs.Layout.{entry-count, child-at, free-ok}
 use Rattle.page.specs.Fit.{Page-context, context-below, page-fit, most-changes}
 use Rattle.image.specs.Images.{page-at}
 use Rattle.image.specs.Sound.{tree-fit, tree-pages}
-use Rattle.fit.proofs.Laws.Paths.{Path}
+use Rattle.fit.specs.Paths.{Path}
 use Rattle.audit.specs.declared.PageCount.{PageCount}
 use Rattle.audit.specs.declared.PageCount.the-variants.{Fit, Unfit}
 

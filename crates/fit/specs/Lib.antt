@@ -1,2 +1,3 @@
 pub mod Contexts
 pub mod Limits
+pub mod Paths

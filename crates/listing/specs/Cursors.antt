@@ -11,7 +11,7 @@ use Rattle.rule.specs.Bounds.{value-or-none}
 use Rattle.page.specs.declared.Head.{Head}
 use Rattle.page.specs.Layout.{entry-count}
 use Rattle.page.specs.Fit.{Page-context, most-changes, page-fit}
-use Rattle.fit.proofs.Laws.Paths.{Path}
+use Rattle.fit.specs.Paths.{Path}
 use Rattle.listing.specs.declared.SpanQuery.{SpanQuery}
 use Rattle.listing.specs.declared.Cursor.{Cursor}
 use Rattle.listing.specs.Walks.{bytes-at, meets}

@@ -13,20 +13,10 @@ use Rattle.page.specs.declared.Head.{Head}
 use Rattle.page.specs.Layout.{entry-count, pair-at}
 use Rattle.page.specs.Fit.{Page-context, root-context, context-below, most-changes, most-height}
 use Rattle.fit.specs.Contexts.{Bounded}
+use Rattle.fit.specs.Paths.{weight, Path}
 use Rattle.fit.proofs.Laws.Pages.{PageFit}
 use Rattle.fit.proofs.Laws.Spans.{end-after, end-within}
 use Rattle.fit.proofs.Laws.Heads.{Ranges}
-
--- What the absolute counts of n entries on a path add to at most, and their sums to a million times that.
-unfoldable pub weight : Head → ℕ → ℕ
-weight h n = cond (eqb (h .kind) 1) (h .changes) n
-
--- A context under n fit entries.
-pub record Path (h : Head) (n : ℕ) (at : Page-context) : Type 0 where
-  pub level : n + at .level < most-height
-  pub span : Span (at .lo) (at .hi)
-  pub sums : at .sums ≤ most-value * weight h n
-  pub counts : at .counts ≤ weight h n
 
 -- an entry more: its own size has a bound, or all have one
 heavier : (t : Bool) (c n most x y : ℕ) → x ≤ c * cond t most n → (t ≡ true → x + y ≤ c * most) → (t ≡ false → y ≤ c)

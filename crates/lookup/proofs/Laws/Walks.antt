@@ -12,7 +12,8 @@ use Rattle.rule.proofs.Laws.{lawful}
 use Rattle.page.specs.declared.Head.{Head}
 use Rattle.page.specs.Layout.{entry-count}
 use Rattle.page.specs.Fit.{Page-context, root-context, context-below, page-fit}
-use Rattle.fit.proofs.Laws.Paths.{Path, root-path, path-bounded, below-path}
+use Rattle.fit.specs.Paths.{Path}
+use Rattle.fit.proofs.Laws.Paths.{root-path, path-bounded, below-path}
 use Rattle.image.specs.Images.{page-at}
 use Rattle.image.specs.Instant as image
 use Rattle.image.specs.Instant.{stopped, leaf-answer, above, look, look-up}
