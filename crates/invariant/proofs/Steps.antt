@@ -39,7 +39,7 @@ use Rattle.refinement.proofs.Cut.{cut-is}
 use Rattle.refinement.proofs.Order.{combine-is}
 use Rattle.refinement.proofs.Heal.{heal-is}
 use Rattle.refinement.proofs.Formed.{formed-full, formed-gapless}
-use Rattle.invariant.specs.Invariant.{Any, Bounds, Structure}
+use Rattle.invariant.specs.Invariant.{Any-pair, Bounds, Structure}
 use Rattle.invariant.proofs.To.Known.{structure-once}
 
 -- ---- the bounds of the pairs
@@ -68,11 +68,11 @@ combine-bounds kind n s e p Y f b =
     record {
       sums =
           λ k.
-          within-more (λ q. natAbs (q .sum)) Any (most-value * n + natAbs (p .sum)) (most-value * suc n) T (omega (arith, f .sum))
+          within-more (λ q. natAbs (q .sum)) Any-pair (most-value * n + natAbs (p .sum)) (most-value * suc n) T (omega (arith, f .sum))
           (combine-within (sums-bounded kind) (most-value * n) s e p tt Y (b .sums k));
       counts =
           λ k.
-          within-more (λ q. natAbs (q .count)) Any (n + natAbs (p .count)) (suc n) T (omega (arith, f .count))
+          within-more (λ q. natAbs (q .count)) Any-pair (n + natAbs (p .count)) (suc n) T (omega (arith, f .count))
           (combine-within (counts-bounded kind k) n s e p tt Y (b .counts k));
       values = λ k. combine-within (values-bounded kind k) 0 s e p (f .value k) Y (b .values k);
     }

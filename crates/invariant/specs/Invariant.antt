@@ -19,8 +19,8 @@ use Rattle.tree.specs.Conserved.{Path-bounded, held}
 use Rattle.refinement.specs.Represents.{Represents}
 
 -- nothing is asked of a pair by itself
-abbrev pub Any : Pair → Type 0
-Any p = Unit {0}
+abbrev pub Any-pair : Pair → Type 0
+Any-pair p = Unit {0}
 
 abbrev pub Value-or-none : Pair → Type 0
 Value-or-none p = value-or-none p ≡ true
@@ -28,8 +28,8 @@ Value-or-none p = value-or-none p ≡ true
 -- the pairs on every path from the root, for so many changes: "for kind 1 the absolute sums .. add to at most 1,000,000 × changes,
 -- absolute counts to at most changes; kinds 2 and 3 have (0, 0) or a value with 1"
 pub record Bounds (kind changes : ℕ) (T : Tree) : Type 0 where
-  pub sums : eqb kind 1 ≡ true → All (Path-bounded (λ p. natAbs (p .sum)) Any (most-value * changes) (T .level) 0) (T .nodes)
-  pub counts : eqb kind 1 ≡ true → All (Path-bounded (λ p. natAbs (p .count)) Any changes (T .level) 0) (T .nodes)
+  pub sums : eqb kind 1 ≡ true → All (Path-bounded (λ p. natAbs (p .sum)) Any-pair (most-value * changes) (T .level) 0) (T .nodes)
+  pub counts : eqb kind 1 ≡ true → All (Path-bounded (λ p. natAbs (p .count)) Any-pair changes (T .level) 0) (T .nodes)
   pub values : eqb kind 1 ≡ false → All (Path-bounded (λ p. 0) Value-or-none 0 (T .level) 0) (T .nodes)
 
 -- the head's numbers, but for those that tree and supply show and for the changes

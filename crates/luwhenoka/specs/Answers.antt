@@ -28,5 +28,5 @@ unfoldable pub averaged-answer : Averaged → AverageAnswer
 averaged-answer r = average-answer (r .status) (r .average)
 
 -- What a listing leaves: the status, the number of runs, and the output's bytes.
-unfoldable pub listed : ListingAnswer → List ℕ → Listed
-listed r out = record { status = r .status; runs = r .runs; output = out }
+unfoldable pub listing-answer : ListingAnswer → List ℕ → Listed
+listing-answer r out = record { status = r .status; runs = r .runs; output = out }

@@ -10,7 +10,7 @@ use Rattle.calls.specs.Calls.{format, book, instant, average-at, listing, audit
 use Rattle.luwhenoka.specs.declared.InstantAnswer.{InstantAnswer}
 use Rattle.luwhenoka.specs.declared.AverageAnswer.{AverageAnswer}
 use Rattle.luwhenoka.specs.declared.ListingAnswer.{ListingAnswer}
-use Rattle.luwhenoka.specs.Answers.{instant-answer, average-answer, averaged-answer, listed}
+use Rattle.luwhenoka.specs.Answers.{instant-answer, average-answer, averaged-answer, listing-answer}
 
 -- format of an image returned r and left it as `after`
 abbrev pub Formats : ℕ → ℕ → List ℕ → ℕ → List ℕ → Type 0
@@ -34,7 +34,7 @@ Averages-of kind sum count r = r ≡ average-answer 0 (average kind (record { su
 
 -- span listing, with the output before and after
 abbrev pub Lists : ℕ → ℕ → List ℕ → List ℕ → ListingAnswer → List ℕ → Type 0
-Lists a b img out r after = listed r after ≡ listing 12 a b img out
+Lists a b img out r after = listing-answer r after ≡ listing 12 a b img out
 
 -- audit, with the scratch before and after
 abbrev pub Audits : List ℕ → List ℕ → ℕ → List ℕ → Type 0

@@ -19,7 +19,7 @@ use Rattle.demands.proofs.All.{twelve}
 use Rattle.luwhenoka.specs.declared.InstantAnswer.{InstantAnswer}
 use Rattle.luwhenoka.specs.declared.AverageAnswer.{AverageAnswer}
 use Rattle.luwhenoka.specs.declared.ListingAnswer.{ListingAnswer}
-use Rattle.luwhenoka.specs.Answers.{pair-of, average-answer, listed}
+use Rattle.luwhenoka.specs.Answers.{pair-of, average-answer, listing-answer}
 use Rattle.promises.specs.Changes.{Every-change-promised}
 use Rattle.promises.specs.AfterLists.{After-lists, Instant-as, Average-as, Listing-as, Audit-as, Booking-as}
 use Rattle.promises.proofs.Changes.{every-change-promised}
@@ -46,7 +46,7 @@ average-as t img r p kind window cs T =
       told = λ l. p ∙ ap (λ (a : Averaged). average-answer (a .status) (a .average)) (b .averages t l);
     }
 
-pub listing-as : (a b : ℕ) (img out : List ℕ) (r : ListingAnswer) (after : List ℕ) → listed r after ≡ listing 12 a b img out
+pub listing-as : (a b : ℕ) (img out : List ℕ) (r : ListingAnswer) (after : List ℕ) → listing-answer r after ≡ listing 12 a b img out
     → After-lists img (Listing-as a b out r after)
 unfolding After-lists Listing-as
 listing-as a b img out r after p kind window cs T = p ∙ as-the-book (reached twelve T .kept) .listings a b out

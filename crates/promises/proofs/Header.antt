@@ -3,11 +3,11 @@ use mathlib.Core.Path.{_≡_, sym, ap, _∙_}
 use native.Mathlib.Omega.{arith}
 use Rattle.calls.specs.Calls.{Listed, listing}
 use Rattle.answers.proofs.Few.{few-runs}
-use Rattle.luwhenoka.specs.Answers.{listed}
+use Rattle.luwhenoka.specs.Answers.{listing-answer}
 use Rattle.promises.specs.Header.{Header-runs}
 
 pub header-runs : Header-runs
-unfolding listed
+unfolding listing-answer
 header-runs =
     record {
       runs =

@@ -16,7 +16,7 @@ use Rattle.calls.specs.Calls.{Formatted, Booked, Listed, Audited, average-at}
 use Rattle.calls.specs.Demands.{keeps-scratch, Demand-1}
 use Rattle.answers.proofs.Demand.{demand-1}
 use Rattle.luwhenoka.specs.declared.AverageAnswer.{AverageAnswer}
-use Rattle.luwhenoka.specs.Answers.{average-answer, averaged-answer, listed}
+use Rattle.luwhenoka.specs.Answers.{average-answer, averaged-answer, listing-answer}
 use Rattle.luwhenoka.specs.Promises.{Averages}
 use Rattle.promises.specs.Refusing.{Refusing}
 use Rattle.promises.proofs.Answers.{answer-status, answer-pair, answer-pages, average-status}
@@ -50,7 +50,7 @@ averaged t img r p = (refused, beyond)
         (sym (ap (λ (a : AverageAnswer). a .answer) p) ∙ e)
 
 pub refusing : Refusing
-unfolding listed
+unfolding listing-answer
 refusing =
     record {
       of-format =

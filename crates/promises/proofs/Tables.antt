@@ -3,7 +3,7 @@ use mathlib.Core.Path.{ap, subst⁻¹}
 use Rattle.calls.specs.Calls.{Formatted, Booked, Listed, Audited, instant}
 use Rattle.calls.specs.Tables.{Exactly, format-cases, book-cases, instant-cases, listing-cases, audit-cases, Pages-told, Turned-back}
 use Rattle.calls.proofs.Tables.{turned-back}
-use Rattle.luwhenoka.specs.Answers.{listed}
+use Rattle.luwhenoka.specs.Answers.{listing-answer}
 use Rattle.promises.specs.Tables.{By-status}
 use Rattle.promises.proofs.Answers.{answer-status, answer-pages, average-status}
 
@@ -11,7 +11,7 @@ abbrev rows : Turned-back 12
 rows = turned-back 12
 
 pub by-status : By-status
-unfolding listed
+unfolding listing-answer
 by-status =
     record {
       of-format =

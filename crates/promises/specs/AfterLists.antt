@@ -18,7 +18,7 @@ use Rattle.calls.specs.Demands.{fixed-status}
 use Rattle.luwhenoka.specs.declared.InstantAnswer.{InstantAnswer}
 use Rattle.luwhenoka.specs.declared.AverageAnswer.{AverageAnswer}
 use Rattle.luwhenoka.specs.declared.ListingAnswer.{ListingAnswer}
-use Rattle.luwhenoka.specs.Answers.{pair-of, average-answer, listed}
+use Rattle.luwhenoka.specs.Answers.{pair-of, average-answer, listing-answer}
 
 -- P of the book of every list that leads to the image
 unfoldable pub After-lists : List ℕ → (Book → Type 0) → Type 0
@@ -36,7 +36,7 @@ pub record Average-as (t : ℕ) (r : AverageAnswer) (B : Book) : Type 0 where
 
 -- "a listing 11 if a ≥ b, else 15 .., else 0, their number, and an output that begins with them and keeps the rest"
 unfoldable pub Listing-as : ℕ → ℕ → List ℕ → ListingAnswer → List ℕ → Book → Type 0
-Listing-as a b out r after B = listed r after ≡ listing-of (book-pair B) a b out
+Listing-as a b out r after B = listing-answer r after ≡ listing-of (book-pair B) a b out
 
 -- "an audit 17 if its scratch is too short, else 0"
 unfoldable pub Audit-as : List ℕ → List ℕ → ℕ → Book → Type 0

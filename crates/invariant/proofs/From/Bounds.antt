@@ -18,7 +18,7 @@ use Rattle.tree.specs.Conserved.{Path-bounded}
 use Rattle.fit.proofs.Laws.Pages.{PageFit, Paired}
 use Rattle.soundness.proofs.Tree.{tree-parts, tree-top}
 use Rattle.soundness.proofs.Sound.{the-head, Fit-image}
-use Rattle.invariant.specs.Invariant.{Any, Value-or-none, Bounds}
+use Rattle.invariant.specs.Invariant.{Any-pair, Value-or-none, Bounds}
 use Rattle.invariant.proofs.From.Listed.{all-listed}
 use Rattle.invariant.proofs.From.Load.{loaded, load, load-listed, tree-in}
 
@@ -51,11 +51,11 @@ module _ (half : ℕ) (h : Head) (img : List ℕ) (norm : Pair → ℕ) (Each : 
 -- ---- the three measures
 
 module _ (half : ℕ) (h : Head) where
-  sums : eqb (h .kind) 1 ≡ true → Measured half h (λ p. natAbs (p .sum)) Any (most-value * h .changes) (λ at. at .sums)
+  sums : eqb (h .kind) 1 ≡ true → Measured half h (λ p. natAbs (p .sum)) Any-pair (most-value * h .changes) (λ at. at .sums)
   unfolding context-below
   sums k = record { here = λ at p e. (tt, e .total k .sums); deeper = λ s at i. refl }
 
-  counts : eqb (h .kind) 1 ≡ true → Measured half h (λ p. natAbs (p .count)) Any (h .changes) (λ at. at .counts)
+  counts : eqb (h .kind) 1 ≡ true → Measured half h (λ p. natAbs (p .count)) Any-pair (h .changes) (λ at. at .counts)
   unfolding context-below
   counts k = record { here = λ at p e. (tt, e .total k .counts); deeper = λ s at i. refl }
 

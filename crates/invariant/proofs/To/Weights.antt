@@ -22,19 +22,19 @@ use Rattle.page.specs.declared.Head.{Head}
 use Rattle.page.specs.Fit.{Page-context, pair-ok, most-changes}
 use Rattle.tree.specs.Tree.{Node, Subtree, Nodes, Tree}
 use Rattle.tree.specs.Conserved.{Path-bounded}
-use Rattle.invariant.specs.Invariant.{Any, Value-or-none, Bounds}
+use Rattle.invariant.specs.Invariant.{Any-pair, Value-or-none, Bounds}
 
 -- An entry of level l below pairs whose absolute sums and counts add to these.
 pub record Weighed (kind changes l sums counts : ℕ) (x : Node (Subtree l)) : Type 0 where
-  pub by-sum : eqb kind 1 ≡ true → Path-bounded (λ p. natAbs (p .sum)) Any (most-value * changes) l sums x
-  pub by-count : eqb kind 1 ≡ true → Path-bounded (λ p. natAbs (p .count)) Any changes l counts x
+  pub by-sum : eqb kind 1 ≡ true → Path-bounded (λ p. natAbs (p .sum)) Any-pair (most-value * changes) l sums x
+  pub by-count : eqb kind 1 ≡ true → Path-bounded (λ p. natAbs (p .count)) Any-pair changes l counts x
   pub by-value : eqb kind 1 ≡ false → Path-bounded (λ p. 0) Value-or-none 0 l 0 x
 
 -- ---- from the three measures, and down
 
 pub weighed-all : (kind changes l sums counts : ℕ) (es : Nodes l)
-    → (eqb kind 1 ≡ true → All (Path-bounded (λ p. natAbs (p .sum)) Any (most-value * changes) l sums) es)
-    → (eqb kind 1 ≡ true → All (Path-bounded (λ p. natAbs (p .count)) Any changes l counts) es)
+    → (eqb kind 1 ≡ true → All (Path-bounded (λ p. natAbs (p .sum)) Any-pair (most-value * changes) l sums) es)
+    → (eqb kind 1 ≡ true → All (Path-bounded (λ p. natAbs (p .count)) Any-pair changes l counts) es)
     → (eqb kind 1 ≡ false → All (Path-bounded (λ p. 0) Value-or-none 0 l 0) es)
     → All (λ x. Weighed kind changes l sums counts x) es
 weighed-all kind changes l sums counts [] s c v = all-none
@@ -62,10 +62,10 @@ within-here norm Each most (suc l) above x w = (w .0, w .1)
 
 module _ (kind changes l sums counts : ℕ) (x : Node (Subtree l)) (w : Weighed kind changes l sums counts x) where
   pub sum-here : eqb kind 1 ≡ true → sums + natAbs (x .entry .pair .sum) ≤ most-value * changes
-  sum-here e = within-here (λ p. natAbs (p .sum)) Any (most-value * changes) l sums x (w .by-sum e) .1
+  sum-here e = within-here (λ p. natAbs (p .sum)) Any-pair (most-value * changes) l sums x (w .by-sum e) .1
 
   pub count-here : eqb kind 1 ≡ true → counts + natAbs (x .entry .pair .count) ≤ changes
-  count-here e = within-here (λ p. natAbs (p .count)) Any changes l counts x (w .by-count e) .1
+  count-here e = within-here (λ p. natAbs (p .count)) Any-pair changes l counts x (w .by-count e) .1
 
   pub value-here : eqb kind 1 ≡ false → value-or-none (x .entry .pair) ≡ true
   value-here e = within-here (λ p. 0) Value-or-none 0 l 0 x (w .by-value e) .0

@@ -16,7 +16,7 @@ use Rattle.calls.specs.Program.{decimal, runs-text}
 use Rattle.print.specs.Written.{Put, runs-line}
 use Rattle.print.proofs.Laws.Numbers.{length-decimal}
 use Rattle.luwhenoka.specs.declared.ListingAnswer.{ListingAnswer}
-use Rattle.luwhenoka.specs.Answers.{listed}
+use Rattle.luwhenoka.specs.Answers.{listing-answer}
 use Rattle.program.specs.Listed.{runs-at}
 use Rattle.program.specs.State.{listed-text}
 
@@ -35,9 +35,9 @@ has-room false false true z runs size e = omega arith
 has-room false false false true runs size e = omega arith
 has-room false false false false runs size e = ltb-false size (16 * runs) (sym e)
 
-module _ (a b : ℕ) (img out : List ℕ) (r : ListingAnswer) (after : List ℕ) (e : listed r after ≡ listing 12 a b img out) where
+module _ (a b : ℕ) (img out : List ℕ) (r : ListingAnswer) (after : List ℕ) (e : listing-answer r after ≡ listing 12 a b img out) where
   pub listed-room : 16 * r .runs ≤ length out
-  unfolding listed listing listing-status too-short
+  unfolding listing-answer listing listing-status too-short
   listed-room =
       let runs = length (runs-over 12 a b img) in
       omega (
@@ -48,5 +48,5 @@ module _ (a b : ℕ) (img out : List ℕ) (r : ListingAnswer) (after : List ℕ)
       )
 
   pub listed-printed : runs-line (r .runs) ++ runs-text (runs-at after 0 (r .runs)) ≡ listed-text (listing 12 a b img out)
-  unfolding listed listed-text
+  unfolding listing-answer listed-text
   listed-printed = ap listed-text e

@@ -2,13 +2,13 @@
 -- nothing.
 use borrow.Author.Needs.{needs}
 use Rattle.calls.specs.Trace.{kept}
-use Rattle.luwhenoka.specs.Answers.{listed}
+use Rattle.luwhenoka.specs.Answers.{listing-answer}
 use Rattle.promises.proofs.AfterLists.{listing-as}
 use Rattle.promises.proofs.listing.Statement.{statement}
 use Rattle.promises.proofs.listing.Tie as tie
 
 returns : tie.Need-returns
-unfolding listed
+unfolding listing-answer
 returns c = (search needs, (kept, listing-as _ _ _ _ _ _ (search needs)))
 
 pub listing-spec : {M : Type 1} → statement M

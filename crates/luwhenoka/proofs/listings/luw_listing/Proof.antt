@@ -11,7 +11,7 @@ use Rattle.image.specs.Images.{length-ok}
 use Rattle.calls.specs.Calls.{head-ok, runs-over, written}
 use Rattle.access.specs.Access.{Open-image}
 use Rattle.access.proofs.Laws.{opened, shut}
-use Rattle.luwhenoka.specs.Answers.{listed}
+use Rattle.luwhenoka.specs.Answers.{listing-answer}
 use Rattle.luwhenoka.specs.declared.ListingAnswer.{ListingAnswer}
 use Rattle.luwhenoka.proofs.Laws.Listings.{Counted-as, counted, uncounted, listing-16, listing-11, listing-head, listing-21}
 use Rattle.luwhenoka.proofs.Laws.Listings.{listing-15, listing-0}
@@ -20,8 +20,8 @@ use Rattle.luwhenoka.proofs.listings.luw_listing.Tie as tie
 
 -- what was refused, with the output as it was
 kept : {r : ListingAnswer} (n : ℕ) (out : List ℕ) → r ≡ record { status = n; runs = 0 }
-    → listed r out ≡ record { status = n; runs = 0; output = out }
-unfolding listed
+    → listing-answer r out ≡ record { status = n; runs = 0; output = out }
+unfolding listing-answer
 kept n out e = ap (λ (r : ListingAnswer). record { status = r .status; runs = r .runs; output = out }) e
 
 -- where length and span had been found to fit, and the call's own start
@@ -104,7 +104,7 @@ write-runs-requires c κs =
     (headed (head-read runs), (n .fit, omega (arith, n .status, test .if3 .left)))
 
 returns-6 : tie.Need-returns-6
-unfolding listed written runs-over
+unfolding listing-answer written runs-over
 returns-6 c =
     let wrote = c .before .before in
     let test = wrote .before .before in
