@@ -8,7 +8,7 @@ use lib.Dec.{eqb, ltb}
 use borrow.Author.Tests.{lt-ltb, le-ltb}
 use Rattle.rule.specs.Pairs.{combine, same-pair}
 use Rattle.page.specs.declared.Entry.{Entry}
-use Rattle.page.specs.Entries.{at, index-of}
+use Rattle.page.specs.Entries.{at}
 use Rattle.lists.specs.Lists.{splice}
 use Rattle.image.specs.Images.{Image, tree}
 use Rattle.steps.specs.Supply.{entries, put}

@@ -1,7 +1,7 @@
 -- What redistributing and merging leave of two siblings and of the page above them, and that it is what document 01 says. Assumes nothing.
-use mathlib.Core.Path.{_≡_, refl, sym, ap, _∙_, subst₂, subst⁻¹}
+use mathlib.Core.Path.{_≡_, sym, ap, _∙_, subst₂, subst⁻¹}
 use mathlib.Core.List.{List, [], _∷_, _++_}
-use Prim.Native.Nat.{ℕ, zero, suc, _+_, _≤_, _<_}
+use Prim.Native.Nat.{ℕ, suc, _+_, _≤_, _<_}
 use native.Mathlib.Omega.{arith}
 use native.Mathlib.Numerals.{add-one}
 use lib.ListN.{length, take, drop, length-drop, length-append}
@@ -18,7 +18,7 @@ use Rattle.store.specs.Encoding.{Encodes}
 use Rattle.store.specs.Preconditions.{Tree-page, Has-entry, Push-ready, Chain-room, Givable}
 use Rattle.store.proofs.Encoding.{tree-read}
 use Rattle.store.proofs.Supplying.{within-put}
-use Rattle.heal.specs.Siblings.{Siblings, joint-count, Redistributable, Mergeable, Two-pages, Appendable, Sharable}
+use Rattle.heal.specs.Siblings.{Siblings, joint-count, Redistributable, Two-pages, Appendable, Sharable}
 use Rattle.heal.specs.Siblings.{emptied, both-pushed, shared, siblings-shared, siblings-joined, pair-emptied}
 use Rattle.heal.proofs.Lists.{at-splice}
 use Rattle.heal.proofs.Pushing.{length-pushed}

@@ -1,7 +1,7 @@
 -- A pair combined into the entries of a page, one at a time. Assumes nothing.
 use mathlib.Core.Path.{_≡_, sym, ap, _∙_, subst, subst⁻¹}
 use mathlib.Core.List.{List, [], _∷_}
-use Prim.Native.Nat.{ℕ, suc, _+_, _≤_, _<_}
+use Prim.Native.Nat.{ℕ, _+_, _≤_, _<_}
 use native.Mathlib.Omega.{arith}
 use native.Mathlib.Numerals.{add-one}
 use lib.ListN.{length, length-map}
@@ -14,7 +14,7 @@ use Rattle.lists.specs.Lists.{splice}
 use Rattle.image.specs.Images.{Image, tree}
 use Rattle.steps.specs.Supply.{entries, put}
 use Rattle.steps.specs.Heal.{pushed}
-use Rattle.store.specs.Encoding.{Encodes, Pre, Post-level, Pre-level}
+use Rattle.store.specs.Encoding.{Encodes, Post-level, Pre-level}
 use Rattle.store.specs.Preconditions.{Push-ready}
 use Rattle.store.proofs.Encoding.{from}
 use Rattle.heal.specs.Siblings.{Entry-pushable, with-pair}

@@ -1,5 +1,4 @@
 -- `heal::push::push_down` meets its contract: the loop's invariant is that so many entries have the pair. Assumes nothing.
-use mathlib.Core.Path.{_∙_}
 use Prim.Native.Nat.{_-_}
 use native.Mathlib.Omega.{arith}
 use Rattle.store.proofs.Encoding.{from}

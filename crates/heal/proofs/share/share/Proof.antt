@@ -1,6 +1,5 @@
 -- `heal::share::share` meets its contract: the loop's invariant is that page a has so many of all. Assumes nothing.
 use Prim.Native.Nat.{_+_, _-_}
-use native.Mathlib.Omega.{arith}
 use Rattle.store.proofs.Encoding.{from}
 use Rattle.heal.proofs.Sharing.{Sharing, share-none, share-next, share-more, share-all}
 use Rattle.heal.proofs.share.share.Statement.{statement}
