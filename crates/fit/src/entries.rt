@@ -16,12 +16,12 @@ ghost use Rattle.page.specs.Fit.{children-ok, pairs-ok};
 ghost use Rattle.fit.specs.Contexts.{Compared};
 ghost use Rattle.fit.specs.Limits.{Small, allows};
 
-// Bits of a word that hold the count; the child stands above them.
+// The count is the lower half of a word, the child the upper.
 const COUNT_SPAN: u64 = 4294967296;
 
 // Top bit clear where an entry's numbers are within the limits: the bits of its sum, and those of its count with its child above them.
 // One wrapped sum or difference for each bound instead of absolute values and comparisons, and no case by kind or level: two entries
-// are tested at once (a fifth of an instant's time, a quarter of an audit's).
+// are tested at once (15% of an instant or of an audit of full pages).
 fn overstep(l: Limits, sum: u64, mark: u64) -> u64
     requires { ⌜ Small l ⌝ }
     ensures { λ r. ⌜ top-clear r ≡ allows l sum (mark % 2 ^ 32) (mark / 2 ^ 32) ⌝ }

@@ -8,7 +8,7 @@ ghost use mir.Syntax.{w64};
 ghost use mir.Val.{toZ};
 ghost use Rattle.rule.specs.Bounds.{top-clear};
 
-// The bits of many comparisons.
+// The least number whose top bit is set.
 pub const TOP_BIT: u64 = 9223372036854775808;
 
 // Top bit clear where a is at most b.

@@ -34,7 +34,7 @@ num-part-lt k s o h = lt-of-lt-of-le (num-lt (part s o k) (bytes-part s o k h)) 
     short : (k : ℕ) (s : List ℕ) (o : ℕ) → length (part s o k) ≤ k
     short k s o = unfold part in simp length-take (omega arith)
 
-unsigned : (k : ℕ) → Field (λ s o. num (part s o k)) (digits k) k (λ v. v < 256 ^ k)
+pub unsigned : (k : ℕ) → Field (λ s o. num (part s o k)) (digits k) k (λ v. v < 256 ^ k)
 unsigned k = record {
   length-bytes = length-digits k;
   bytes-bytes = bytes-digits k;

@@ -1,19 +1,19 @@
 -- The laws of the tests: `all-are` over a list, `every` over the numbers below n, and of unused bytes. Assumes nothing.
 use mathlib.Core.Path.{_≡_, refl, sym, ap, ap₂, _∙_}
 use mathlib.Core.Bool.{Bool, true, false, _&&_, and-eq-true-iff, and-true, and-assoc}
-use Prim.Native.Nat.{ℕ, zero, suc, _+_, _*_, _-_, _≤_, _<_}
+use Prim.Native.Nat.{ℕ, zero, suc, _+_, _-_, _^_, _≤_, _<_}
 use native.Mathlib.Decide.{decLt}
 use native.Mathlib.Numerals.{add-one}
 use native.Mathlib.Omega.{arith}
 use mathlib.Core.List.{List, [], _∷_, _++_}
 use lib.ListN.{length, getD, replicate, length-replicate, replicate-append-replicate}
-use lib.Dec.{eqb, lit<}
+use lib.Dec.{eqb}
 use lib.Bits.{bitAnd, and-le-l, and-le-r, and-self}
 use borrow.Author.Tests.{eqb-true, eq-eqb}
 use Rattle.fields.specs.Bytes.{Bytes, part, unused, all-are, every}
-use Rattle.fields.specs.Numbers.{digits, u32-at, u32-bytes}
+use Rattle.fields.specs.Numbers.{num, digits}
 use Rattle.fields.proofs.Laws.Parts.{length-part, part-none, part-first, part-add, part-middle}
-use Rattle.fields.proofs.Laws.Offsets.{u32}
+use Rattle.fields.proofs.Laws.Offsets.{unsigned}
 
 -- ---- all bytes of a list are b
 
@@ -56,19 +56,19 @@ agree true b f g = sym (f refl)
 agree false true f g = g refl
 agree false false f g = refl
 
--- numbers of 32 bits are all ones exactly where their `and` is
-pub and-ones : (a b : ℕ) → a ≤ 4294967295 → b ≤ 4294967295 → eqb (bitAnd a b) 4294967295 ≡ eqb a 4294967295 && eqb b 4294967295
-and-ones a b f g = agree _ _ each all
+-- numbers up to m are m exactly where their `and` is: m has ones alone
+and-ones : (m a b : ℕ) → a ≤ m → b ≤ m → eqb (bitAnd a b) m ≡ eqb a m && eqb b m
+and-ones m a b f g = agree _ _ each all
   where
-    each : eqb (bitAnd a b) 4294967295 ≡ true → (eqb a 4294967295 && eqb b 4294967295) ≡ true
+    each : eqb (bitAnd a b) m ≡ true → (eqb a m && eqb b m) ≡ true
     each h =
-        let e = eqb-true (bitAnd a b) 4294967295 h in
-        and-eq-true-iff _ _ .1 (eq-eqb a _ (omega (arith, e, and-le-l a b)), eq-eqb b _ (omega (arith, e, and-le-r a b)))
+        let e = eqb-true (bitAnd a b) m h in
+        and-eq-true-iff _ _ .1 (eq-eqb a m (omega (arith, e, and-le-l a b)), eq-eqb b m (omega (arith, e, and-le-r a b)))
 
-    all : (eqb a 4294967295 && eqb b 4294967295) ≡ true → eqb (bitAnd a b) 4294967295 ≡ true
+    all : (eqb a m && eqb b m) ≡ true → eqb (bitAnd a b) m ≡ true
     all h =
-        let k = and-eq-true-iff (eqb a 4294967295) (eqb b 4294967295) .0 h in
-        eq-eqb _ _ (ap₂ bitAnd (eqb-true a _ (k .0)) (eqb-true b _ (k .1)) ∙ and-self 4294967295)
+        let k = and-eq-true-iff (eqb a m) (eqb b m) .0 h in
+        eq-eqb _ _ (ap₂ bitAnd (eqb-true a m (k .0)) (eqb-true b m (k .1)) ∙ and-self m)
 
 pub length-unused : (n : ℕ) → length (unused n) ≡ n
 unfolding unused
@@ -93,30 +93,51 @@ pub unused-all-are : (n : ℕ) (xs : List ℕ) → length xs ≡ n → all-are 2
 unfolding unused
 unused-all-are n xs e h = all-are-true 255 xs h ∙ ap (λ k. replicate k 255) e
 
--- four bytes are FF exactly where the number there is all ones
-word-unused : (s : List ℕ) (o : ℕ) → Bytes s → o + 4 ≤ length s → eqb (u32-at s o) 4294967295 ≡ all-are 255 (part s o 4)
-word-unused s o b h = agree _ _ ones four
-  where
-    bytes : u32-bytes 4294967295 ≡ unused 4
-    bytes = unfold u32-bytes digits unused in refl
+-- ---- a loop over the words of a part, each of k bytes: m is the number of k bytes FF
 
-    ones : eqb (u32-at s o) 4294967295 ≡ true → all-are 255 (part s o 4) ≡ true
-    ones e =
-        ap (all-are 255) (sym (u32 .bytes-at s o b h) ∙ ap u32-bytes (eqb-true (u32-at s o) _ e) ∙ bytes) ∙ all-are-unused 4
+-- the `and` of the words passed is m exactly where their n bytes are FF
+pub record Ones (m : ℕ) (s : List ℕ) (a n all : ℕ) : Type 0 where
+  pub most : all ≤ m
+  pub same : eqb all m ≡ all-are 255 (part s a n)
 
-    four : all-are 255 (part s o 4) ≡ true → eqb (u32-at s o) 4294967295 ≡ true
-    four e =
-        eq-eqb _ _ (u32 .at-bytes s o 4294967295 (unused-all-are 4 (part s o 4) (length-part s o 4 h) e ∙ sym bytes) (lit< tt))
+module _ (k m : ℕ) (ff : digits k m ≡ unused k) (full : suc m ≡ 256 ^ k) where
+  below : (n : ℕ) → n < 256 ^ k → n ≤ m
+  below n h = let l : n < suc m = rw full h in omega arith
 
--- a loop over the words of a part: one word more
-pub all-are-word : (s : List ℕ) (a i : ℕ) → Bytes s → a + 4 * i + 4 ≤ length s
-    → all-are 255 (part s a (4 * (i + 1))) ≡ all-are 255 (part s a (4 * i)) && eqb (u32-at s (a + 4 * i)) 4294967295
-all-are-word s a i b h =
-    let e : 4 * (i + 1) ≡ 4 * i + 4 = omega arith in
-    ap (λ n. all-are 255 (part s a n)) e
-    ∙ ap (all-are 255) (part-add s a (4 * i) 4)
-    ∙ all-are-append 255 (part s a (4 * i)) (part s (a + 4 * i) 4)
-    ∙ ap (λ t. all-are 255 (part s a (4 * i)) && t) (sym (word-unused s (a + 4 * i) b h))
+  word-unused : (s : List ℕ) (o : ℕ) → Bytes s → o + k ≤ length s → eqb (num (part s o k)) m ≡ all-are 255 (part s o k)
+  word-unused s o b h = agree _ _ ones bytes
+    where
+      ones : eqb (num (part s o k)) m ≡ true → all-are 255 (part s o k) ≡ true
+      ones e =
+          ap (all-are 255) (sym (unsigned k .bytes-at s o b h) ∙ ap (digits k) (eqb-true (num (part s o k)) m e) ∙ ff)
+          ∙ all-are-unused k
+
+      bytes : all-are 255 (part s o k) ≡ true → eqb (num (part s o k)) m ≡ true
+      bytes e =
+          let l : m < 256 ^ k = rw (← full) (omega arith) in
+          eq-eqb _ _ (unsigned k .at-bytes s o m (unused-all-are k (part s o k) (length-part s o k h) e ∙ sym ff) l)
+
+  pub ones-none : (s : List ℕ) (a : ℕ) → Ones m s a 0 m
+  ones-none s a = record { most = omega arith; same = eq-eqb m m refl ∙ sym (all-are-none 255 s a) }
+
+  pub ones-more : {s : List ℕ} {a n all : ℕ} (next w : ℕ) → Ones m s a n all → Bytes s → a + n + k ≤ length s → next ≡ n + k
+      → w ≡ num (part s (a + n) k) → Ones m s a next (bitAnd all w)
+  ones-more {s} {a} {n} {all} next w o b h e f =
+      let v = num (part s (a + n) k) in
+      record {
+        most = omega (arith, o .most, and-le-l all w);
+        same = ap (λ x. eqb (bitAnd all x) m) f
+            ∙ and-ones m all v (o .most) (below v (unsigned k .at-fits s (a + n) b))
+            ∙ ap₂ _&&_ (o .same) (word-unused s (a + n) b h)
+            ∙ sym (all-are-append 255 (part s a n) (part s (a + n) k))
+            ∙ ap (all-are 255) (sym (part-add s a n k) ∙ ap (part s a) (sym e));
+      }
+
+-- a part in two
+pub all-are-split : (b : ℕ) (s : List ℕ) (a n m l : ℕ) → n + m ≡ l
+    → (all-are b (part s a n) && all-are b (part s (a + n) m)) ≡ all-are b (part s a l)
+all-are-split b s a n m l e =
+    sym (all-are-append b (part s a n) (part s (a + n) m)) ∙ ap (all-are b) (sym (part-add s a n m) ∙ ap (part s a) e)
 
 -- ---- p of each number below n
 

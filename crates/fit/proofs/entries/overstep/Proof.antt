@@ -41,6 +41,7 @@ returns c =
     let sum = c .before .before in
     let child = past (sum .before) in
     let args = start child .args in
+    let next = add-one (args .mark / 2 ^ 32) in
     let a = child .before .at-most .result in
     let b = child .at-most2 .result in
     let d = sum .within .result in
@@ -48,7 +49,7 @@ returns c =
     top-or (bitOr a b) (bitOr d e)
     ∙ ap₂ _&&_
     (top-or a b
-    ∙ ap₂ _&&_ (child .before .at-most .ensures) (child .at-most2 .ensures ∙ ap (λ k. leb k (args .l .past)) (add-one (args .mark / 2 ^ 32))))
+    ∙ ap₂ _&&_ (child .before .at-most .ensures) (child .at-most2 .ensures ∙ ap (λ k. leb k (args .l .past)) next))
     (top-or d e ∙ ap₂ _&&_ (sum .within .ensures) (c .at-most3 .ensures))
 
 pub overstep-spec : {M : Type 1} → statement M
