@@ -15,8 +15,7 @@ ghost use Rattle.fit.specs.Contexts.{Bounded};
 ghost use Rattle.listing.specs.Cursors.{Valid-cursor, Known-fit};
 ghost use Rattle.listing.specs.Walks.{page-check};
 
-// Whether a page is fit, if it isn't known to be. It takes the head alone: a whole query would be copied for each page, and read back
-// while its parts are still being written.
+// Whether a page is fit, if it isn't known to be.
 fn found_fit(s: &[u8], known: bool, h: Head, at: PageContext) -> bool
     requires { ⌜ length (now s) ≡ 512 ⌝ }
     requires { ⌜ Bounded at ⌝ }

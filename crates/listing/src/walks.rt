@@ -1,5 +1,5 @@
 // The walk: a page by its entries, and an inner entry by its page below. One recursion serves both passes, since a walk that
-// only counts is the same but for the output. Leaves have a loop of their own, outside the recursion.
+// only counts is the same but for the output. The bottom of the tree has a loop of its own, outside the recursion.
 use crate::Cursor;
 use crate::PageCheck;
 use crate::SpanQuery;
@@ -46,8 +46,7 @@ pub(crate) fn walk_page(
     WalkAnswer::Fit(last)
 }
 
-// One entry of a fit inner page. The page below is checked here, where its context was made, and not behind the call: handed on, the
-// context would be copied while it is still being written, which costs a sixth of a listing's time.
+// One entry of a fit inner page: the page below is checked before the walk goes on there.
 fn walk_entry(
     img: &[u8],
     out: &mut [u8],

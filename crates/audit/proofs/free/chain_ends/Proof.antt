@@ -21,38 +21,43 @@ Inv-loop img n k first left₀ p₀ left p = chain-ends 12 img k first ≡ chain
 abbrev μ-loop : tie.MeasureT-loop
 μ-loop img n k first left₀ p₀ left p = left
 
+abbrev start : tie.At-loop Inv-loop μ-loop → tie.Start Inv-loop μ-loop
+start c = c .before .before
+
+-- the turn that goes on
+abbrev turn : tie.Else1 Inv-loop μ-loop → tie.At-loop Inv-loop μ-loop
+turn c = c .before .before .before
+
 leads : (c : tie.Else1 Inv-loop μ-loop)
-    → leads-to-free 12 (c .before .before .before .before .before .args .img .now)
-    (c .before .before .before .before .before .args .n) (c .before .before .before .loop .p) ≡ true
+    → leads-to-free 12 (start (turn c) .args .img .now) (start (turn c) .args .n) (turn c .loop .p) ≡ true
 leads c = sym (c .before .leads-to-free .ensures) ∙ not-false _ (c .if1 .left)
 
-within : (c : tie.Else1 Inv-loop μ-loop)
-    → Page-in (c .before .before .before .before .before .args .img .now) (c .before .before .before .loop .p)
-within c = free-within _ _ _ (c .before .before .before .before .before .pre) (leads c)
+within : (c : tie.Else1 Inv-loop μ-loop) → Page-in (start (turn c) .args .img .now) (turn c .loop .p)
+within c = free-within _ _ _ (start (turn c) .pre) (leads c)
 
 returns : tie.Need-returns Inv-loop μ-loop
 returns c =
     let at = c .before .before .before in
-    let start = at .before .before in
+    let args = start at .args in
     let stop = sym (c .before .leads-to-free .ensures) ∙ not-true _ (c .if1 .taken) in
-    chain-stops 12 (start .args .img .now) (start .args .n) (at .loop .left) (at .loop .p) (pages-are _ _ (start .pre))
+    chain-stops 12 (args .img .now) (args .n) (at .loop .left) (at .loop .p) (pages-are _ _ (start at .pre))
     (c .before .before .loop-test .taken) stop
     ∙ sym (at .loop .inv)
 
 loop-again : tie.Need-loop-again Inv-loop μ-loop
 loop-again c =
     let test = c .before .before in
-    let at = test .before .before .before in
-    let start = at .before .before in
+    let at = turn test in
+    let args = start at .args in
     at .loop .inv
-    ∙ chain-on 12 (start .args .img .now) (start .args .n) (at .loop .left) (at .loop .p) (pages-are _ _ (start .pre))
+    ∙ chain-on 12 (args .img .now) (args .n) (at .loop .left) (at .loop .p) (pages-are _ _ (start at .pre))
     (test .before .before .loop-test .taken) (leads test)
-    ∙ ap (chain-ends 12 (start .args .img .now) (at .loop .left - 1)) (sym (c .next-of .ensures ∙ ap next-of (c .before .page-at .ensures)))
+    ∙ ap (chain-ends 12 (args .img .now) (at .loop .left - 1)) (sym (c .next-of .ensures ∙ ap next-of (c .before .page-at .ensures)))
 
 returns-2 : tie.Need-returns-2 Inv-loop μ-loop
 returns-2 c =
     let at = c .before in
-    chain-none 12 (at .before .before .args .img .now) (at .loop .left) (at .loop .p) (c .loop-test .left) ∙ sym (at .loop .inv)
+    chain-none 12 (start at .args .img .now) (at .loop .left) (at .loop .p) (c .loop-test .left) ∙ sym (at .loop .inv)
 
 pub chain-ends-spec : {M : Type 1} → statement M
 chain-ends-spec =

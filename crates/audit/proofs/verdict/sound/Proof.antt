@@ -10,33 +10,45 @@ use Rattle.audit.proofs.Verdicts.{Walked, unsound-head, root-standing, 
 use Rattle.audit.proofs.verdict.sound.Statement.{statement}
 use Rattle.audit.proofs.verdict.sound.Tie as tie
 
+abbrev start : tie.After-open-head → tie.Start
+start c = c .before .before
+
+-- the places where the head was read, the tree counted, and the count known
+abbrev read-of : tie.After-audit-page → tie.After-h
+read-of c = c .before .before .before
+
+abbrev counted : tie.After-tree → tie.After-audit-page
+counted c = c .before .before
+
+abbrev told : tie.After-adds-up → tie.After-tree
+told c = c .before .before
+
 -- what the code has found so far, in the definitions' words
-headed : (c : tie.After-h) → Open-image (c .before .before .before .before .args .img .now) (c .h .given .0 .0)
+headed : (c : tie.After-h) → Open-image (start (c .before .before) .args .img .now) (c .h .given .0 .0)
 headed c =
     let read = c .before .before in
-    opened _ (read .before .before .pre) (sym (c .h .given .1) ∙ read .open-head .ensures)
+    opened _ (start read .pre) (sym (c .h .given .1) ∙ read .open-head .ensures)
 
 walked : (c : tie.After-audit-page)
-    → Walked (c .before .before .before .before .before .before .before .args .img .now) (c .before .before .before .h .given .0 .0)
-    (c .audit-page .result)
-walked c = root-walked (headed (c .before .before .before)) (c .before .root-context .ensures) (c .audit-page .ensures)
+    → Walked (start (read-of c .before .before) .args .img .now) (read-of c .h .given .0 .0) (c .audit-page .result)
+walked c = root-walked (headed (read-of c)) (c .before .root-context .ensures) (c .audit-page .ensures)
 
 returns : tie.Need-returns
 returns c =
     let read = c .before .before in
-    unsound-head _ (read .before .before .pre) (shut _ (sym (c .enum-told .given .1) ∙ read .open-head .ensures))
+    unsound-head _ (start read .pre) (shut _ (sym (c .enum-told .given .1) ∙ read .open-head .ensures))
 
 returns-3 : tie.Need-returns-3
 returns-3 c =
-    let tree = c .before .before .before in
-    unsound-count (walked (tree .before .before)) (tree .tree .given .0 .0) (tree .tree .given .1)
+    let tree = told (c .before) in
+    unsound-count (walked (counted tree)) (tree .tree .given .0 .0) (tree .tree .given .1)
     (sym (c .before .adds-up .ensures) ∙ not-true _ (c .if1 .taken))
 
 returns-4 : tie.Need-returns-4
 returns-4 c =
     let sum = c .before .before in
-    let tree = sum .before .before .before in
-    sound-rest (walked (tree .before .before)) (tree .tree .given .0 .0) (tree .tree .given .1)
+    let tree = told (sum .before) in
+    sound-rest (walked (counted tree)) (tree .tree .given .0 .0) (tree .tree .given .1)
     (sym (sum .before .adds-up .ensures) ∙ not-false _ (sum .if1 .left))
     (c .before .chain-ends .ensures) (c .never-used .ensures)
 
@@ -48,10 +60,10 @@ sound-spec =
     (λ c κs. rw (c .root-context .ensures) (root-standing (headed (c .before .before))))
     (λ c. search needs) (λ c. search needs)
     (λ c. unsound-tree (walked (c .before .before)) (c .enum-told2 .given .1))
-    (λ c κs. omega (arith, opened-ranges (walked (c .before .before .before) .opened) .mark-least))
+    (λ c κs. omega (arith, opened-ranges (walked (counted (c .before)) .opened) .mark-least))
     returns-3
-    (λ c κs. opened-size (walked (c .before .before .before .before .before) .opened))
+    (λ c κs. opened-size (walked (counted (told (c .before))) .opened))
     (λ c κs.
-    let o = walked (c .before .before .before .before .before .before) .opened in
+    let o = walked (counted (told (c .before .before))) .opened in
     (opened-size o, omega (arith, opened-ranges o .mark-most, opened-ranges o .pages-is)))
     returns-4)

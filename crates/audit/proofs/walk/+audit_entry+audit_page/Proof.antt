@@ -91,9 +91,9 @@ pub +audit-entry+audit-page-spec : {M : Type 1} → statement M
     let w = c .before .before .before .pre .1 in
     (standing-size (w .0) (c .before .page-at .ensures), omega (arith, entry-reads (w .0) (w .1) (c .before .page-at .ensures))))
     (λ c κs.
-    let start = c .before .before .before .before in
-    let w = start .pre .1 in
     let b = c .before in
+    let start = b .before .before .before in
+    let w = start .pre .1 in
     let d = b .before .page-at .ensures in (
       omega (arith, start .pre .0, w .1 .level, below-level (w .0) (w .1) d (b .context-below .ensures) (c .child-at .ensures)),
       below-standing (w .0) (w .1) d (b .context-below .ensures) (c .child-at .ensures),
@@ -129,7 +129,9 @@ pub +audit-entry+audit-page-spec : {M : Type 1} → statement M
     leaf-counted 12 (args .h) (args .img .now) (args .at) (args .p) (c .if2 .taken)
     (tested 12 _ _ _ _ (fit .before .page-at .ensures) (fit .page-fit .ensures) (not-false _ (c .before .before .if1 .left))))
     (λ c κs.
-    standing-size (c .before .before .before .before .before .before .pre .1) (c .before .before .before .before .page-at .ensures))
+    let fit = c .before .before .before in
+    let lend = fit .before in
+    standing-size (lend .before .before .pre .1) (lend .page-at .ensures))
     (λ c. search needs)
     (λ c.
     let inner = c .before in
@@ -140,7 +142,9 @@ pub +audit-entry+audit-page-spec : {M : Type 1} → statement M
     (c .entry-count .ensures ∙ ap entry-count d))
     (λ c κs.
     let inv = c .before .loop .inv in
-    let start = c .before .before .before .before .before .before .before .before .before in
+    let inner = c .before .before .before in
+    let fit = inner .before .before .before in
+    let start = fit .before .before .before in
     (omega (arith, start .pre .0), (inv .standing, passing-inner inv (c .loop-test .taken))))
     (λ c. search needs) (λ c. search needs)
     (λ c.

@@ -10,8 +10,11 @@ use Rattle.listing.proofs.Laws.Stands.{fit-facts, combinable, lent}
 use Rattle.listing.proofs.entries.total_at.Statement.{statement}
 use Rattle.listing.proofs.entries.total_at.Tie as tie
 
+abbrev lend : tie.After-pair-at → tie.After-page-at
+lend c = c .before
+
 abbrev start : tie.After-pair-at → tie.Start
-start c = c .before .before .before .before
+start c = lend c .before .before .before
 
 -- the pair read is the page's
 read : (c : tie.After-pair-at) → c .pair-at .result ≡ pair-at 12 (bytes-at (start c .args .img .now) (start c .args .on)) (start c .args .i)

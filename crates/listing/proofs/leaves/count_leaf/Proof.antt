@@ -27,7 +27,8 @@ count-entry-requires c κs =
     let loop = c .before .before in
     let pre = loop .before .before .before .pre in
     let l = c .if1 .taken in
-    (pre .0, (entry-met _ _ _ (pre .1 .0) (loop .before .entries-met .ensures) (loop .loop .inv .after) l, (pre .1 .1 .0, turning-room (loop .loop .inv) l)))
+    let here = entry-met _ _ _ (pre .1 .0) (loop .before .entries-met .ensures) (loop .loop .inv .after) l in
+    (pre .0, (here, (pre .1 .1 .0, turning-room (loop .loop .inv) l)))
 
 loop-again : tie.Need-loop-again Inv-loop μ-loop
 loop-again c =

@@ -27,7 +27,8 @@ write-entry-requires c κs =
     let loop = inside .before .before in
     let pre = start (loop .before) .pre in
     let l = inside .if1 .taken in
-    (pre .0, (entry-met _ _ _ (pre .1 .0) (loop .before .entries-met .ensures) (loop .loop .inv .after) l, (pre .1 .1 .0, turning-room (loop .loop .inv) l)))
+    let here = entry-met _ _ _ (pre .1 .0) (loop .before .entries-met .ensures) (loop .loop .inv .after) l in
+    (pre .0, (here, (pre .1 .1 .0, turning-room (loop .loop .inv) l)))
 
 loop-again : tie.Need-loop-again Inv-loop μ-loop
 loop-again c =

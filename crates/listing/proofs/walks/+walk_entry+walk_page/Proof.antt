@@ -41,7 +41,8 @@ abbrev walk-page-below : ℕ → In 2 walk-page-kinds.ps
 walk-page-below t = and 2 walk-page-kinds.ps (falls 2 walk-page-kinds.ps _<_ μ-walk-page t) walk-page.Pre
 
 abbrev walk-page-Inv-loop : walk-page-lts.InvT-loop
-walk-page-Inv-loop img out₀ q on n met last₀ i₀ out last i = Turning (page-walk img q on) (entry-walk img q on) (q .writing) last₀ out₀ n met i last out
+walk-page-Inv-loop img out₀ q on n met last₀ i₀ out last i =
+    Turning (page-walk img q on) (entry-walk img q on) (q .writing) last₀ out₀ n met i last out
 
 abbrev walk-page-μ-loop : walk-page-lts.MeasureT-loop
 walk-page-μ-loop img out₀ q on n met last₀ i₀ out last i = n - i
@@ -50,8 +51,14 @@ pub +walk-entry+walk-page-spec : {M : Type 1} → statement M
 +walk-entry+walk-page-spec =
     close μ-walk-entry μ-walk-page
     (λ t.
-    walk-entry-lts.spec
-    (cursor-below-reads.Asked, cursor-below-reads.Learnt, check-page-reads.Asked, check-page-reads.Learnt, walk-page-below t, walk-page.Post)
+    walk-entry-lts.spec (
+      cursor-below-reads.Asked,
+      cursor-below-reads.Learnt,
+      check-page-reads.Asked,
+      check-page-reads.Learnt,
+      walk-page-below t,
+      walk-page.Post,
+    )
     (walk-entry-at t)
     walk-entry.Post
     -- cursor-below-requires
@@ -93,8 +100,14 @@ pub +walk-entry+walk-page-spec : {M : Type 1} → statement M
     let below = told .before .before .before in
     let pre = below .before .before .before .pre .1 in
     does-below (pre .1 .0) (pre .1 .1 .0) (below .cursor-below .ensures) (call .walk-page .ensures)))
-    λ t. walk-page-lts.spec
-    (walk-leaves-reads.Asked, walk-leaves-reads.Learnt, entries-met-reads.Asked, entries-met-reads.Learnt, walk-entry-below t, walk-entry.Post)
+    λ t. walk-page-lts.spec (
+      walk-leaves-reads.Asked,
+      walk-leaves-reads.Learnt,
+      entries-met-reads.Asked,
+      entries-met-reads.Learnt,
+      walk-entry-below t,
+      walk-entry.Post,
+    )
     (walk-page-at t)
     walk-page.Post walk-page-Inv-loop walk-page-μ-loop
     -- walk-leaves-requires

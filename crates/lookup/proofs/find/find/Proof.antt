@@ -17,8 +17,8 @@ loop-again c = (omega arith, omega (arith, c .before .start-at .ensures, c .if1 
 
 returns : tie.Need-returns Inv-loop μ-loop
 returns c =
-    let loop = c .before .before .before .loop in
-    searched-index (c .before .before .before .before .before .pre) (loop .i) (loop .inv .0) (loop .inv .1)
+    let at = c .before .before .before in
+    searched-index (at .before .before .pre) (at .loop .i) (at .loop .inv .0) (at .loop .inv .1)
     (λ l. omega (arith, c .before .start-at .ensures, c .if1 .taken))
 
 returns-2 : tie.Need-returns-2 Inv-loop μ-loop

@@ -12,19 +12,19 @@ use Rattle.lookup.proofs.Laws.Levels.{level-unfit, level-found, fit-sea
 use Rattle.lookup.proofs.levels.page_answer.Statement.{statement}
 use Rattle.lookup.proofs.levels.page_answer.Tie as tie
 
-tested : (c : tie.Else1)
-    → page-fit 12 (c .before .before .before .args .h) (c .before .before .before .args .at)
-    (c .before .before .before .args .s .now) ≡ true
+abbrev start : tie.Else1 → tie.Start
+start c = c .before .before .before
+
+tested : (c : tie.Else1) → page-fit 12 (start c .args .h) (start c .args .at) (start c .args .s .now) ≡ true
 tested c = sym (c .before .page-fit .ensures) ∙ not-false _ (c .if1 .left)
 
-fit : (c : tie.Else1)
-    → PageFit 12 (c .before .before .before .args .h) (c .before .before .before .args .at) (c .before .before .before .args .s .now)
+fit : (c : tie.Else1) → PageFit 12 (start c .args .h) (start c .args .at) (start c .args .s .now)
 fit c = page-fit-is _ _ _ _ .0 (tested c)
 
 -- an entry was found
 within : (c : tie.After-find) → c .find .result < 24
 within c =
-    let args = c .before .before .before .before .before .args in
+    let args = start (c .before .before) .args in
     let page = fit (c .before .before) in
     omega (arith, c .find .ensures, index-within 12 (args .s .now) (args .t) (page .most) (entry-first page (omega arith)), page .most)
 
@@ -33,8 +33,8 @@ returns c = level-unfit _ _ _ _ _ (sym (c .before .page-fit .ensures) ∙ not-tr
 
 find-requires : tie.Need-find-requires
 find-requires c κs =
-    let start = c .before .before .before .before in
-    fit-searched (fit (c .before)) (start .pre .0) (c .entry-count .ensures) (start .pre .1 .begun)
+    let pre = start (c .before) .pre in
+    fit-searched (fit (c .before)) (pre .0) (c .entry-count .ensures) (pre .1 .begun)
 
 returns-2 : tie.Need-returns-2
 returns-2 c =
@@ -51,6 +51,6 @@ pub page-answer-spec : {M : Type 1} → statement M
 page-answer-spec =
     tie.close
     (tie.spec (λ c κs. search needs) returns (λ c κs. search needs) (λ c. search needs) find-requires
-    (λ c κs. (c .before .before .before .before .before .pre .0, within c))
-    (λ c κs. (c .before .before .before .before .before .before .pre .0, within (c .before)))
+    (λ c κs. (start (c .before .before) .pre .0, within c))
+    (λ c κs. (start (c .before .before .before) .pre .0, within (c .before)))
     returns-2)

@@ -21,20 +21,32 @@ Inv-loop img h t at₀ p₀ so-far₀ pages₀ at p so-far pages = Walk img h t 
 abbrev μ-loop : tie.MeasureT-loop
 μ-loop img h t at₀ p₀ so-far₀ pages₀ at p so-far pages = at .level
 
+abbrev start : tie.At-loop Inv-loop μ-loop → tie.Start Inv-loop μ-loop
+start c = c .before .before .before
+
+-- the turn that found an entry, and one that found none
+abbrev turn : tie.After-found Inv-loop μ-loop → tie.At-loop Inv-loop μ-loop
+turn c = c .before .before .before
+
+abbrev last-turn : tie.After-enum-told Inv-loop μ-loop → tie.At-loop Inv-loop μ-loop
+last-turn c = c .before .before .before
+
+abbrev found-of : tie.After-combine Inv-loop μ-loop → tie.After-found Inv-loop μ-loop
+found-of c = c .before .before
+
 -- the entry that the page answered with
 entry : (c : tie.After-found Inv-loop μ-loop)
-    → Found 12 (c .before .before .before .before .before .before .args .h) (c .before .before .before .loop .at)
-    (c .before .before .before .before .before .before .args .t)
-    (page-at 12 (c .before .before .before .before .before .before .args .img .now) (c .before .before .before .loop .p))
+    → Found 12 (start (turn c) .args .h) (turn c .loop .at) (start (turn c) .args .t)
+    (page-at 12 (start (turn c) .args .img .now) (turn c .loop .p))
     (c .found .given .0 .0) (c .found .given .0 .1 .0) (c .found .given .0 .1 .1 .0)
 entry c = found-level _ _ _ _ _ (sym (c .found .given .1) ∙ c .before .before .level-answer .ensures)
 
 -- or that it is unfit
 unfit : (c : tie.After-enum-told Inv-loop μ-loop)
-    → page-fit 12 (c .before .before .before .before .before .before .args .h) (c .before .before .before .loop .at)
-    (page-at 12 (c .before .before .before .before .before .before .args .img .now) (c .before .before .before .loop .p)) ≡ false
+    → page-fit 12 (start (last-turn c) .args .h) (last-turn c .loop .at)
+    (page-at 12 (start (last-turn c) .args .img .now) (last-turn c .loop .p)) ≡ false
 unfit c =
-    unfit-level _ _ _ (c .before .before .before .before .before .before .args .t) _
+    unfit-level _ _ _ (start (last-turn c) .args .t) _
     (sym (c .enum-told .given .1) ∙ c .before .before .level-answer .ensures)
 
 loop-holds : tie.Need-loop-holds Inv-loop μ-loop
@@ -42,31 +54,31 @@ loop-holds c = rw (c .root-context .ensures) (walk-root (c .before .before .pre)
 
 level-answer-requires : tie.Need-level-answer-requires Inv-loop μ-loop
 level-answer-requires c κs =
-    let o = c .before .before .before .pre in
+    let o = start c .pre in
     (walk-within o (c .loop .inv), walk-met o (c .loop .inv))
 
 returns : tie.Need-returns Inv-loop μ-loop
 returns c =
-    let loop = c .before .before .before in
-    walk-unfit (loop .before .before .before .pre) (loop .loop .inv) (unfit c)
+    walk-unfit (start (last-turn c) .pre) (last-turn c .loop .inv) (unfit c)
 
 combine-requires : tie.Need-combine-requires Inv-loop μ-loop
 combine-requires c κs =
-    let loop = c .before .before .before .before in
-    walk-combinable (loop .before .before .before .pre) (loop .loop .inv) (entry (c .before))
+    let loop = turn (c .before) in
+    walk-combinable (start loop .pre) (loop .loop .inv) (entry (c .before))
 
 returns-2 : tie.Need-returns-2 Inv-loop μ-loop
 returns-2 c =
-    let found = c .before .before .before .before in
-    let loop = found .before .before .before in
-    ap (λ pair. lookup-of (Answered pair (loop .loop .pages + 1))) (c .before .before .combine .ensures)
-    ∙ walk-leaf (loop .before .before .before .pre) (loop .loop .inv) (entry found) (c .if1 .taken)
+    let combined = c .before .before in
+    let found = found-of combined in
+    let loop = turn found in
+    ap (λ pair. lookup-of (Answered pair (loop .loop .pages + 1))) (combined .combine .ensures)
+    ∙ walk-leaf (start loop .pre) (loop .loop .inv) (entry found) (c .if1 .taken)
 
 below-requires : tie.Need-below-requires Inv-loop μ-loop
 below-requires c κs =
-    let found = c .before .before .before .before in
-    let loop = found .before .before .before in
-    let o = loop .before .before .before .pre in (
+    let found = found-of (c .before .before) in
+    let loop = turn found in
+    let o = start loop .pre in (
       walk-within o (loop .loop .inv),
       (walk-number o (loop .loop .inv) (entry found), (omega (arith, c .if1 .left), walk-met o (loop .loop .inv) .bounded)),
     )
@@ -77,10 +89,11 @@ loop-less c = omega (arith, ap (λ (at : Page-context). at .level) (c .below .en
 
 loop-again : tie.Need-loop-again Inv-loop μ-loop
 loop-again c =
-    let found = c .before .before .before .before .before in
-    let loop = found .before .before .before in
-    rw (c .below .ensures, c .before .before .before .combine .ensures)
-    (walk-below (loop .before .before .before .pre) (loop .loop .inv) (entry found) (omega (arith, c .before .if1 .left)))
+    let combined = c .before .before .before in
+    let found = found-of combined in
+    let loop = turn found in
+    rw (c .below .ensures, combined .combine .ensures)
+    (walk-below (start loop .pre) (loop .loop .inv) (entry found) (omega (arith, c .before .if1 .left)))
 
 pub look-up-spec : {M : Type 1} → statement M
 look-up-spec =

@@ -14,8 +14,10 @@ use Rattle.runs.proofs.output.put_run.Tie as tie
 returns : tie.Need-returns
 returns c =
     let third = c .before .before in
-    let second = third .before .before .before .before .before in
-    let first = second .before .before .before .before .before in
+    let lent = third .before .before .before in
+    let second = lent .before .before in
+    let lent-first = second .before .before .before in
+    let first = lent-first .before .before in
     let start = first .before .before .before in
     let args = start .args in
     let o = 16 * args .at in
