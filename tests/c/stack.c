@@ -2,7 +2,9 @@
  * How much stack each call takes: it is made on a thread whose stack was filled with one byte before, and what is no longer
  * that byte afterwards was used; what an empty thread uses is taken off. The load goes up to height 4 and back.
  *
- *     cc -std=c99 -Iinclude tests/c/stack.c target/staticlib/libluwhenoka.a -lpthread -o target/stack && target/stack
+ *     cc -std=c99 -Iinclude tests/c/stack.c target/staticlib/libluwhenoka.a -lpthread -Wl,-z,now -o target/stack && target/stack
+ *
+ * -z now: else the dynamic linker looks memcpy up at its first call, on the stack that is measured, and takes 2.7 KB there.
  *
  * Ends with status 1 if a call takes more than MOST bytes, or if the load didn't go as it should.
  */
@@ -17,7 +19,7 @@
 #define PAGES 1024
 #define BOOKINGS 2000
 #define STACK (1 << 20)
-#define MOST 12288
+#define MOST 4096
 #define MARK 0xA5
 
 enum call { NOTHING, FORMAT, ENTER, INSTANT, AVERAGE, LISTING, AUDIT, WITHDRAW };
