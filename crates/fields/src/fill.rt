@@ -11,7 +11,7 @@ pub const UNUSED_BYTE: u8 = 255;
 
 // Whether the k words of eight bytes from offset a on are all FF. No exit in the loop, and one `and` a word with one comparison at the
 // end: many words are tested at once, and no tail of single bytes is left (15% of an instant or of an audit of full pages).
-fn eights_ff(s: &[u8], a: usize, k: usize) -> bool
+pub fn eights_ff(s: &[u8], a: usize, k: usize) -> bool
     requires { ⌜ a + 8 * k ≤ length (now s) ⌝ }
     ensures { λ r. ⌜ r ≡ all-are 255 (part (now (s .entry)) a (8 * k)) ⌝ }
 {
@@ -52,23 +52,15 @@ fn bytes_ff(s: &[u8], a: usize, n: usize) -> bool
     ok
 }
 
-// The same of less than eight bytes: of a start that is left over, it is one word.
-fn rest_ff(s: &[u8], a: usize, n: usize) -> bool
+// Whether the n bytes from offset a on are all FF: by words of four, then what is left. Every caller has whole words, and the compiler
+// drops the rest. Words of eight would be no faster over a run as long as the head's, whose loop the compiler then writes out in full:
+// too long to stand in the callers (8 ns of an instant).
+pub fn all_ff(s: &[u8], a: usize, n: usize) -> bool
     requires { ⌜ a + n ≤ length (now s) ⌝ }
     ensures { λ r. ⌜ r ≡ all-are 255 (part (now (s .entry)) a n) ⌝ }
 {
     let k = n / 4;
     fours_ff(s, a, k) & bytes_ff(s, a + 4 * k, n % 4)
-}
-
-// Whether the n bytes from offset a on are all FF: word by word, then what is left. Every caller has whole words of four, and the
-// compiler drops the single bytes.
-pub fn all_ff(s: &[u8], a: usize, n: usize) -> bool
-    requires { ⌜ a + n ≤ length (now s) ⌝ }
-    ensures { λ r. ⌜ r ≡ all-are 255 (part (now (s .entry)) a n) ⌝ }
-{
-    let k = n / 8;
-    eights_ff(s, a, k) & rest_ff(s, a + 8 * k, n % 8)
 }
 
 // Writes the byte b at the n offsets from a on.

@@ -1,5 +1,6 @@
 // "unused bytes are FF": "24 bytes FF" before the arrays, and "places past the number are FF".
 use fields::fill::all_ff;
+use fields::fill::eights_ff;
 use page::layout::CAPACITY;
 use page::layout::ENTRIES_OFFSET;
 use page::layout::ENTRY_BYTES;
@@ -17,7 +18,7 @@ pub(crate) fn unused_ok(s: &[u8], n: usize) -> bool
     ensures { λ r. ⌜ r ≡ unused-ok 12 (now (s .entry)) ⌝ }
 {
     let past = CAPACITY - n;
-    all_ff(s, GAP_OFFSET, GAP_BYTES)
+    eights_ff(s, GAP_OFFSET, GAP_BYTES / 8)
         & (all_ff(s, STARTS_OFFSET + START_BYTES * n, START_BYTES * past)
-            & all_ff(s, ENTRIES_OFFSET + ENTRY_BYTES * n, ENTRY_BYTES * past))
+            & eights_ff(s, ENTRIES_OFFSET + ENTRY_BYTES * n, ENTRY_BYTES / 8 * past))
 }
