@@ -95,6 +95,10 @@ some-size {img} {p = p} k same = ap length same ∙ page-length img p (some-long
 pub from : {img : List ℕ} {Ready : Image → Type 0} {A : Type 0} → Pre img Ready → ((X : Image) → Encodes img X → Ready X → A) → A
 from s f = f (s .image) (s .holds) (s .ready)
 
+-- the image that they hold is ready for something else too
+pub readied : {img : List ℕ} {Ready Other : Image → Type 0} → Pre img Ready → ((X : Image) → Encodes img X → Ready X → Other X) → Pre img Other
+readied s f = record { image = s .image; holds = s .holds; ready = f (s .image) (s .holds) (s .ready) }
+
 -- ---- what they hold then
 
 put-kept : (X : Image) (p : ℕ) (c : Cell) → Canonical 12 c → (q : ℕ) → Canonical 12 (X .page q) → Canonical 12 (put p c X .page q)

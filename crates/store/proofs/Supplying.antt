@@ -1,5 +1,4 @@
--- What a head that was read says of the image, and what taking a page, writing one, giving one back and counting a change leave.
--- Assumes nothing.
+-- What a head that was read says of the image, and what taking a page, writing one and giving one back leave. Assumes nothing.
 use Prim.Native.Nat.{ℕ, suc, _+_, _-_, _<_}
 use mathlib.Core.Path.{_≡_, refl, sym, ap, _∙_, subst}
 use mathlib.Core.Bool.{Bool, true, false, cond}
@@ -11,7 +10,7 @@ use borrow.Author.Tests.{eqb-true, eq-eqb, ne-eqb}
 use Rattle.lists.proofs.Choices.{cond-one}
 use Rattle.page.specs.declared.Head.{Head}
 use Rattle.image.specs.Images.{Image, Cell, free, next-in}
-use Rattle.steps.specs.Supply.{put, with-supply, spare, taken, given-back, with-root, count-change}
+use Rattle.steps.specs.Supply.{put, with-supply, spare, taken, given-back, with-root}
 use Rattle.store.specs.Encoding.{Encodes, Pre, Post, Any, with-head}
 use Rattle.store.specs.Preconditions.{In-image, Free, Takable}
 
@@ -115,29 +114,10 @@ put-same p {c} X h = λ j. record { head = X .head; page = λ q. still q j }
     still : (q : ℕ) → cond (eqb q p) c (X .page q) ≡ X .page q
     still q = cond-one (λ d. d ≡ X .page q) (eqb q p) (λ e. sym h ∙ ap (X .page) (sym (eqb-true q p e))) (λ e. refl)
 
--- ---- giving one back, and counting
+-- ---- giving one back
 
 pub given-back-is : (p : ℕ) (X : Image)
     → put p (free (X .head .free)) (with-head (with-supply p (X .head .chain + 1) (X .head .mark) (X .head)) X) ≡ given-back p X
 unfolding given-back
 given-back-is p X = ap (λ k. put p (free (X .head .free)) (with-head (with-supply p k (X .head .mark) (X .head)) X))
     (add-one (X .head .chain))
-
--- the head with that many changes
-abbrev with-changes : ℕ → Head → Head
-with-changes changes h =
-    record {
-      pages = h .pages;
-      height = h .height;
-      root = h .root;
-      free = h .free;
-      chain = h .chain;
-      mark = h .mark;
-      kind = h .kind;
-      window = h .window;
-      changes = changes;
-    }
-
-pub counted-is : (X : Image) → with-head (with-changes (X .head .changes + 1) (X .head)) X ≡ count-change X
-unfolding count-change
-counted-is X = ap (λ k. with-head (with-changes k (X .head)) X) (add-one (X .head .changes))

@@ -1,44 +1,26 @@
 -- `store::edits::insert_entry` meets its contract: the page that is lent comes back with one more entry. Assumes nothing.
-use mathlib.Core.List.{List}
 use native.Mathlib.Omega.{arith}
 use borrow.Author.Needs.{needs}
-use Rattle.page.specs.Entries.{inserted}
-use Rattle.page.proofs.Laws.Fits.{inserted-fit}
-use Rattle.page.proofs.Laws.Shifts.{length-inserted}
 use Rattle.store.proofs.Widths.{entry-fits}
-use Rattle.page.specs.declared.Entry.{Entry}
-use Rattle.steps.specs.Supply.{entries}
 use Rattle.store.proofs.Reading.{lent-within}
-use Rattle.store.proofs.Editing.{few-entries, entries-fit, lent-tree, lent-number, back-edited}
+use Rattle.store.proofs.Editing.{lent-sizes, back-inserted}
 use Rattle.store.proofs.edits.insert_entry.Statement.{statement}
 use Rattle.store.proofs.edits.insert_entry.Tie as tie
-
-insert-slot-requires : tie.Need-insert-slot-requires
-insert-slot-requires c κs =
-    let found = c .before in
-    let pre = found .before .before .pre in
-    let k = pre .ready .1 in
-    let within = lent-within (pre .holds) (k .tree-page) in
-    omega (arith, within, k .inside, k .room, lent-number (pre .holds) (k .tree-page) (found .page-offset .ensures))
 
 returns : tie.Need-returns
 returns c X h l k =
     let edited = c .before .before in
     let found = edited .before .before in
     let start = found .before .before in
-    let args = start .args in
-    let es : List Entry = entries X (args .p) in
-    let t = k .tree-page in
-    let o = found .page-offset .ensures in
-    let few = few-entries h t in
-    back-edited h t o (inserted (args .i) (args .e) es) (omega (arith, length-inserted (args .i) (args .e) es, k .room))
-    (inserted-fit (args .i) es (entries-fit h t) (entry-fits (args .e) _ (start .good .1 .1 .1 .0)))
-    (edited .insert-slot .kept .0)
-    (edited .insert-slot .ensures l es few (lent-tree h t o))
+    back-inserted h (k .tree-page) (found .page-offset .ensures) (edited .insert-slot .kept .0) (start .args .i) (start .args .e) (k .room)
+    (entry-fits _ _ (start .good .1 .1 .1 .0)) (edited .insert-slot .ensures)
 
 pub insert-entry-spec : {M : Type 1} → statement M
 insert-entry-spec =
     tie.close
     (tie.spec (λ c κs. search needs) (λ c. omega arith) (λ c. omega arith) (λ c. omega arith)
     (λ c. let pre = c .before .before .pre in omega (arith, lent-within (pre .holds) (pre .ready .1 .tree-page)))
-    insert-slot-requires (λ c. omega arith) returns)
+    (λ c κs.
+    let pre = c .before .before .before .pre in
+    omega (arith, pre .ready .1 .inside, pre .ready .1 .room, lent-sizes (pre .holds) (pre .ready .1 .tree-page) (c .before .page-offset .ensures)))
+    (λ c. omega arith) returns)

@@ -6,17 +6,7 @@ use Rattle.store.proofs.heads.set_head.Statement.{statement}
 use Rattle.store.proofs.heads.set_head.Tie as tie
 
 fits : (c : tie.Start) → Head-fits (c .args .h)
-fits c = record {
-  pages = omega arith;
-  height = omega arith;
-  root = omega arith;
-  free = omega arith;
-  chain = omega arith;
-  mark = omega arith;
-  kind = omega arith;
-  window = omega arith;
-  changes = omega arith;
-}
+fits c = omega arith
 
 returns : tie.Need-returns
 returns c X h s =

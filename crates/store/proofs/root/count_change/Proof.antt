@@ -1,11 +1,12 @@
 -- `store::root::count_change` meets its contract: the head that was read, with one change more. Assumes nothing.
-use mathlib.Core.Path.{refl, subst}
+use mathlib.Core.Path.{refl}
 use borrow.Author.Needs.{needs}
+use native.Mathlib.Numerals.{add-one}
 use native.Mathlib.Omega.{arith}
 use Rattle.steps.specs.Supply.{count-change}
 use Rattle.store.specs.Encoding.{Encodes}
 use Rattle.store.specs.Preconditions.{Countable}
-use Rattle.store.proofs.Supplying.{by-head, Headed, some-headed, counted-is}
+use Rattle.store.proofs.Supplying.{by-head, Headed, some-headed}
 use Rattle.store.proofs.root.count_change.Statement.{statement}
 use Rattle.store.proofs.root.count_change.Tie as tie
 
@@ -19,7 +20,7 @@ returns c X h r =
     let read = set .before .before .before in
     by-head (λ Y. Encodes (read .before .before .before .args .img .now) Y → Encodes (set .set-head .last .0) (count-change Y))
     (read .head-of .ensures X h tt)
-    (λ k. subst (Encodes _) (counted-is _) (set .set-head .ensures _ k (record { pages = refl }))) h
+    (λ k. rw (add-one (read .head-of .result .changes)) at (set .set-head .ensures _ k (record { pages = refl }))) h
 
 pub count-change-spec : {M : Type 1} → statement M
 count-change-spec =
