@@ -9,6 +9,7 @@ use borrow.Author.Tests.{eq-eqb, ne-eqb}
 use Rattle.page.specs.declared.Entry.{Entry}
 use Rattle.page.specs.Entries.{at, index-of}
 use Rattle.lists.specs.Lists.{splice}
+use Rattle.lists.proofs.Choices.{either}
 use Rattle.page.specs.Layout.{capacity}
 use Rattle.image.specs.Images.{Image, Cell, tree, entries-in}
 use Rattle.steps.specs.Supply.{entries, put, taken}
@@ -22,7 +23,7 @@ use Rattle.cut.specs.declared.SplitOutcome.{SplitOutcome}
 use Rattle.cut.specs.declared.SplitOutcome.the-variants.{Same, Split}
 use Rattle.cut.specs.Answers.{became, inserted-after, Cut-as}
 use Rattle.cut.specs.Cuttable.{Insertable, below, Page-cuttable, Entry-cuttable}
-use Rattle.cut.proofs.Splitting.{either, cut-as}
+use Rattle.cut.proofs.Splitting.{told, cut-as}
 
 -- ---- what a cutting leaves as it is: all that putting a page and taking one do
 
@@ -30,9 +31,8 @@ module _ (P : Image → Type 0) (puts : (p : ℕ) (c : Cell) (X : Image) → P X
   split-if-full-keeps : (half level : ℕ) (e : Entry) (es : List Entry) (X : Image) → P X → P (split-if-full half level e es X .image)
   unfolding split-if-full not-split split
   split-if-full-keeps half level e es X h =
-      either (λ (c : Cutting). P (c .image)) (leb (length es) (capacity half)) (not-split level e es X) (split half level e es X)
-      (puts _ _ _ h)
-      (puts _ _ _ (puts _ _ _ (takes _ h)))
+      either (λ (c : Cutting). P (c .image)) {x = not-split level e es X} {y = split half level e es X} (puts _ _ _ h)
+      (puts _ _ _ (puts _ _ _ (takes _ h))) (leb (length es) (capacity half))
 
   pub cut-keeps : (half t l : ℕ) (e : Entry) (X : Image) → P X → P (cut-entry half t l e X .image)
   unfolding cut-entry
@@ -42,8 +42,8 @@ module _ (P : Image → Type 0) (puts : (p : ℕ) (c : Cell) (X : Image) → P X
       let i : ℕ = index-of t es in
       let r : Cutting = cut-entry half t l (at es i) X in
       let k : P (r .image) = cut-keeps half t l (at es i) X h in
-      either (λ (c : Cutting). P (c .image)) (eqb (length (r .became)) 1) _ _ k
-      (split-if-full-keeps half l e (splice i (r .became) es) (r .image) k)
+      either (λ (c : Cutting). P (c .image)) k (split-if-full-keeps half l e (splice i (r .became) es) (r .image) k)
+      (eqb (length (r .became)) 1)
 
 -- ---- a leaf's entry
 
@@ -65,8 +65,8 @@ module _ (e : Entry) (t : ℕ) where
 -- ---- an inner one: it goes by what the entry of its page that has t becomes
 
 -- the level of its page
-inner : (P : ℕ → Type 0) {level : ℕ} → (level ≡ 0 → ⊥) → P (suc (level - 1)) → P level
-inner P {level} d p =
+at-inner : (P : ℕ → Type 0) {level : ℕ} → (level ≡ 0 → ⊥) → P (suc (level - 1)) → P level
+at-inner P {level} d p =
     let n : suc (level - 1) ≡ level = omega arith in
     subst P n p
 
@@ -77,39 +77,49 @@ page-cuttable {level} e {t} {X} d r =
     let n : level ≡ suc (level - 1) = omega arith in
     subst (λ l. Entry-cuttable l e t X) n r
 
--- what a search for t found in page p
-pub record Searched (p t : ℕ) (X : Image) (f : Found) : Type 0 where
-  pub index : f .index ≡ index-of t (entries X p)
-  pub entry : f .entry ≡ entry-for t p X
+-- what a search for t found in the page of e, and what it leads to
+pub record Searched (e : Entry) (level t : ℕ) (X : Image) (f : Found) : Type 0 where
+  pub inner : level ≡ 0 → ⊥
+  pub page : Page-cuttable (level - 1) (e .child) t X
+  pub below : Entry-cuttable (level - 1) (f .entry) t X
+  pub index : f .index ≡ index-of t (entries X (e .child))
+  pub entry : f .entry ≡ entry-for t (e .child) X
 
-pub searched : {img : List ℕ} {l p t : ℕ} {X : Image} {f : Found} → Page-cuttable l p t X → Encodes img X
-    → Post-level img (λ k. Searchable k p t) (λ k Y. f ≡ found-in t (entries Y p)) → Searched p t X f
+pub searched : {img : List ℕ} {level t : ℕ} {X : Image} {f : Found} (e : Entry) → (level ≡ 0 → ⊥) → Encodes img X → Entry-cuttable level e t X
+    → Post-level img (λ l. Searchable l (e .child) t) (λ l Y. f ≡ found-in t (entries Y (e .child)))
+    → Searched e level t X f
 unfolding found-in
-searched {l = l} {X = X} r h finds =
-    let e = finds X h l (r .searchable) in
-    record { index = ap (λ (g : Found). g .index) e; entry = ap (λ (g : Found). g .entry) e }
+searched {level = level} {t} {X} e d h r finds =
+    let k = page-cuttable e d r in
+    let found = finds X h (level - 1) (k .0 .searchable) in
+    record {
+      inner = d;
+      page = k .0;
+      below = subst⁻¹ (λ (g : Found). Entry-cuttable (level - 1) (g .entry) t X) found (k .1);
+      index = ap (λ (g : Found). g .index) found;
+      entry = ap (λ (g : Found). g .entry) found;
+    }
 
-module _ (e : Entry) {level t : ℕ} {X : Image} {f : Found} (d : level ≡ 0 → ⊥) (k : Searched (e .child) t X f) where
+module _ {e : Entry} {level t : ℕ} {X : Image} {f : Found} (k : Searched e level t X f) where
   abbrev under : Cutting
   under = below (level - 1) (e .child) t X
 
-  -- what it leads to can be cut, and is
-  pub found-cuttable : Entry-cuttable level e t X → Entry-cuttable (level - 1) (f .entry) t X
-  found-cuttable r = subst⁻¹ (λ x. Entry-cuttable (level - 1) x t X) (k .entry) (page-cuttable e d r .1)
-
-  pub found-cut : {g : SplitOutcome} {after : List ℕ} → Cut-as (f .entry) (cut-entry 12 t (level - 1) (f .entry) X) g after
-      → Cut-as (f .entry) under g after
-  found-cut b = cut-as (ap (λ x. cut-entry 12 t (level - 1) x X) (k .entry)) b
+  -- what it leads to is cut, with the answer that a match has told
+  pub found-cut : {g g′ : SplitOutcome} {after : List ℕ} → g ≡ g′ → Cut-as (f .entry) (cut-entry 12 t (level - 1) (f .entry) X) g after
+      → Cut-as (f .entry) under g′ after
+  found-cut same b = told same (cut-as (ap (λ x. cut-entry 12 t (level - 1) x X) (k .entry)) b)
 
   -- the entry stayed one, and so does e
   pub found-same : {after : List ℕ} → Cut-as (f .entry) under Same after → Cut-as e (cut-entry 12 t level e X) Same after
   unfolding became cut-entry
   found-same {after} b =
-      inner (λ n. Cut-as e (cut-entry 12 t n e X) Same after) d
+      at-inner (λ n. Cut-as e (cut-entry 12 t n e X) Same after) (k .inner)
       (rw (eq-eqb (length (under .became)) 1 (ap length (sym (b .becomes)))) (record { becomes = refl; holds = b .holds }))
 
-  module _ {start q : ℕ} {after : List ℕ} (b : Cut-as (f .entry) under (Split start q) after)
-      (r : Page-cuttable (level - 1) (e .child) t X) where
+  module _ {start q : ℕ} {after : List ℕ} (b : Cut-as (f .entry) under (Split start q) after) where
+    abbrev r : Page-cuttable (level - 1) (e .child) t X
+    r = k .page
+
     two : length (under .became) ≡ 2
     unfolding became
     two = ap length (sym (b .becomes))
@@ -157,6 +167,6 @@ module _ (e : Entry) {level t : ℕ} {X : Image} {f : Found} (d : level ≡ 0 �
         → Cut-as e (cut-entry 12 t level e X) g then
     unfolding cut-entry
     found-two {g} {then} m =
-        inner (λ n. Cut-as e (cut-entry 12 t n e X) g then) d
+        at-inner (λ n. Cut-as e (cut-entry 12 t n e X) g then) (k .inner)
         (rw (ne-eqb (length (under .became)) 1 (λ one. omega (arith, two)))
         (cut-as (λ j. split-if-full 12 (level - 1) e (gained j) (under .image)) m))

@@ -10,6 +10,7 @@ use lib.Dec.{eqb}
 use borrow.Author.Tests.{eq-eqb, ne-eqb, le-leb, lt-leb}
 use Rattle.rule.specs.Pairs.{none}
 use Rattle.rule.specs.Time.{END}
+use Rattle.lists.proofs.Choices.{either}
 use Rattle.page.specs.declared.Entry.{Entry}
 use Rattle.page.specs.declared.Head.{Head}
 use Rattle.page.specs.declared.Page.{Page}
@@ -24,7 +25,7 @@ use Rattle.cut.specs.declared.SplitOutcome.{SplitOutcome}
 use Rattle.cut.specs.declared.SplitOutcome.the-variants.{Same, Split}
 use Rattle.cut.specs.Answers.{became, Cut-as}
 use Rattle.cut.specs.Cuttable.{Entry-cuttable, Root-growable, from-root, Root-cuttable}
-use Rattle.cut.proofs.Splitting.{either, has-tree}
+use Rattle.cut.proofs.Splitting.{has-tree}
 use Rattle.cut.proofs.Cutting.{cut-keeps}
 
 pub cut-end : (t : ℕ) (X : Image) → END ≤ t → cut 12 t X ≡ X
@@ -46,7 +47,7 @@ grown-two r n = rw (ne-eqb (length (r .became)) 1 n)
 -- no cutting alters the height
 height-taken : (h : ℕ) (X : Image) → X .head .height ≡ h → taken X .head .height ≡ h
 unfolding taken with-supply
-height-taken h X e = either (λ (k : Head). k .height ≡ h) (eqb (X .head .chain) 0) _ _ e e
+height-taken h X e = either (λ (k : Head). k .height ≡ h) e e (eqb (X .head .chain) 0)
 
 height-kept : (half t l : ℕ) (e : Entry) (X : Image) → cut-entry half t l e X .image .head .height ≡ X .head .height
 unfolding put

@@ -5,7 +5,7 @@ use mathlib.Core.Bool.{Bool, true, false, cond}
 use mathlib.Core.List.{List, [], _∷_}
 use native.Mathlib.Numerals.{add-one}
 use native.Mathlib.Omega.{arith}
-use lib.ListN.{length, take, drop, length-append, length-drop}
+use lib.ListN.{length, take, drop, length-drop}
 use lib.Seq.{length-take-le}
 use borrow.Author.Tests.{le-leb, lt-leb}
 use Rattle.page.specs.declared.Entry.{Entry}
@@ -24,11 +24,6 @@ use Rattle.store.proofs.Supplying.{within-taken}
 use Rattle.cut.specs.declared.SplitOutcome.{SplitOutcome}
 use Rattle.cut.specs.declared.SplitOutcome.the-variants.{Same, Split}
 use Rattle.cut.specs.Answers.{became, inserted-after, Cut-as}
-
--- what holds of both holds of either
-pub either : {A : Type 0} (P : A → Type 0) (b : Bool) (x y : A) → P x → P y → P (cond b x y)
-either P true x y p q = p
-either P false x y p q = q
 
 -- the answer that a match has told, and the same cutting in other words
 pub told : {e : Entry} {c : Cutting} {g g′ : SplitOutcome} {after : List ℕ} → g ≡ g′ → Cut-as e c g after → Cut-as e c g′ after
@@ -83,10 +78,6 @@ module _ (e : Entry) (level : ℕ) (es : List Entry) (X : Image) {after : List �
   halved-as many m = cut-as (ap (decided e level es X) (sym (lt-leb (length es) (capacity 12) many))) m
 
 -- ---- an entry that becomes two
-
-pub length-inserted : {A : Type 0} (i : ℕ) (x : A) (xs : List A) → i ≤ length xs → length (inserted i x xs) ≡ suc (length xs)
-unfolding inserted
-length-inserted i x xs h = omega (arith, length-append (take i xs) (x ∷ drop i xs), length-take-le i xs h, length-drop i xs)
 
 -- the new one stands behind its old one, with the same pair
 pub inserted-after-is : (i start child : ℕ) (es : List Entry) {new : Entry} → i < length es → new ≡ entry start (at es i .pair) child

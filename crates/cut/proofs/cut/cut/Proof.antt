@@ -7,7 +7,7 @@ use Rattle.rule.specs.Time.{END}
 use Rattle.image.specs.Images.{Image}
 use Rattle.steps.specs.Cut.{root-entry}
 use Rattle.store.specs.Encoding.{Encodes}
-use Rattle.store.proofs.Encoding.{from}
+use Rattle.store.proofs.Encoding.{from, readied}
 use Rattle.cut.specs.Answers.{Cut-as}
 use Rattle.cut.specs.Cuttable.{Entry-cuttable, from-root, Root-cuttable, Cuttable}
 use Rattle.cut.proofs.Splitting.{told}
@@ -53,7 +53,7 @@ returns c X h r =
     subst (Encodes _) (sym (cut-end t X (omega (arith, c .if1 .taken)))) h
 
 cut-entry-requires : tie.Need-cut-entry-requires
-cut-entry-requires c κs = from (started c .pre) (λ X h r. record { image = X; holds = h; ready = ready c X h r })
+cut-entry-requires c κs = readied (started c .pre) (ready c)
 
 returns-2 : tie.Need-returns-2
 returns-2 c X h r =

@@ -1,44 +1,31 @@
 -- `cut_entry` calls itself on the entry of the page below and meets its contract: the level falls. Assumes nothing.
-use Prim.Native.Nat.{ℕ, _<_}
+use Prim.Native.Nat.{ℕ}
 use native.Mathlib.Omega.{arith}
 use borrow.Author.Needs.{needs}
-use borrow.Fn.Kinds.{In}
-use borrow.Fn.PlainCycle.{Measures, is, falls, and}
-use Rattle.cut.proofs.Splitting.{told}
-use Rattle.cut.proofs.Cutting.{leaf-as, page-cuttable, searched, found-cuttable, found-cut, found-same, found-insertable, found-two}
+use borrow.Fn.PlainCycle.{Measures}
+use Rattle.lists.proofs.Cycles.{at-measure, below-measure}
+use Rattle.store.proofs.Encoding.{from, readied}
+use Rattle.cut.proofs.Cutting.{leaf-as, page-cuttable, searched, found-cut, found-same, found-insertable, found-two}
 use Rattle.cut.proofs.entries.cut_entry.Reads as cut-entry
 use Rattle.cut.proofs.entries.cut_entry.Kinds as cut-entry-kinds
 use Rattle.cut.proofs.entries.+cut_entry.Lts-cut_entry as cut-entry-lts
-use Rattle.cut.proofs.entries.cut_leaf_entry.Reads as cut-leaf-entry-reads
-use Rattle.cut.proofs.split.insert_after.Reads as insert-after-reads
-use Rattle.store.proofs.entries.find_entry.Reads as find-entry-reads
+use Rattle.cut.proofs.entries.cut_leaf_entry.Reads as leaf
+use Rattle.cut.proofs.split.insert_after.Reads as insert-after
+use Rattle.store.proofs.entries.find_entry.Reads as find-entry
 use Rattle.cut.proofs.entries.+cut_entry.{statement}
 use Rattle.cut.proofs.entries.+cut_entry.Tie.{close}
 
 abbrev μ-cut-entry : Measures 1 cut-entry-kinds.ps ℕ
 μ-cut-entry κs a = a .1 .0
 
--- what it is given at the measure t, and what a call of it asks below t
-abbrev cut-entry-at : ℕ → In 1 cut-entry-kinds.ps
-cut-entry-at t = and 1 cut-entry-kinds.ps (is 1 cut-entry-kinds.ps μ-cut-entry t) cut-entry.Pre
-
-abbrev cut-entry-below : ℕ → In 1 cut-entry-kinds.ps
-cut-entry-below t = and 1 cut-entry-kinds.ps (falls 1 cut-entry-kinds.ps _<_ μ-cut-entry t) cut-entry.Pre
-
 pub +cut-entry-spec : {M : Type 1} → statement M
 +cut-entry-spec =
     close μ-cut-entry
     (λ t.
-    cut-entry-lts.spec (
-      cut-leaf-entry-reads.Asked,
-      cut-leaf-entry-reads.Learnt,
-      find-entry-reads.Asked,
-      find-entry-reads.Learnt,
-      cut-entry-below t,
-      cut-entry.Post,
-      insert-after-reads.Asked,
-      insert-after-reads.Learnt,
-    ) (cut-entry-at t) cut-entry.Post
+    let below = below-measure 1 cut-entry-kinds.ps μ-cut-entry cut-entry.Pre t in
+    cut-entry-lts.spec
+    (leaf.Asked, leaf.Learnt, find-entry.Asked, find-entry.Learnt, below, cut-entry.Post, insert-after.Asked, insert-after.Learnt)
+    (at-measure 1 cut-entry-kinds.ps μ-cut-entry cut-entry.Pre t) cut-entry.Post
     -- cut-leaf-entry-requires
     (λ c κs. search needs)
     -- returns
@@ -48,20 +35,16 @@ pub +cut-entry-spec : {M : Type 1} → statement M
     (λ c κs.
     let else = c .before in
     let start = else .before .before in
-    let s = start .pre .1 in
-    record { image = _; holds = s .holds; ready = (_, page-cuttable (start .args .e) (else .if1 .left) (s .ready) .0 .searchable) })
+    readied (start .pre .1) (λ X h r. (_, page-cuttable (start .args .e) (else .if1 .left) r .0 .searchable)))
     -- sub-cut-entry
     (λ c. omega arith)
     -- cut-entry-requires
     (λ c κs.
     let found = c .before in
     let else = found .before .before in
-    let start = else .before .before in
-    let s = start .pre .1 in
-    let d = else .if1 .left in
-    let k = searched (page-cuttable (start .args .e) d (s .ready) .0) (s .holds) (found .find-entry .ensures) in (
-      omega (arith, start .pre .0, d),
-      record { image = _; holds = s .holds; ready = found-cuttable (start .args .e) d k (s .ready) },
+    let start = else .before .before in (
+      omega (arith, start .pre .0, else .if1 .left),
+      readied (start .pre .1) (λ X h r. searched (start .args .e) (else .if1 .left) h r (found .find-entry .ensures) .below),
     ))
     -- enum-known-start, enum-told, same-length
     (λ c. search needs) (λ c. search needs) (λ c. search needs)
@@ -71,11 +54,8 @@ pub +cut-entry-spec : {M : Type 1} → statement M
     let call = answer .before .before in
     let found = call .before .before in
     let else = found .before .before in
-    let e = else .before .before .args .e in
-    let d = else .if1 .left in
-    let k = searched (page-cuttable e d r .0) h (found .find-entry .ensures) in
-    let b = call .cut-entry .ensures X h (found-cuttable e d k r) in
-    found-same e d k (told (c .enum-told .given .1) (found-cut e d k b)))
+    let k = searched (else .before .before .args .e) (else .if1 .left) h r (found .find-entry .ensures) in
+    found-same k (found-cut k (c .enum-told .given .1) (call .cut-entry .ensures X h (k .below))))
     -- insert-after-requires
     (λ c κs.
     let known = c .before .before in
@@ -84,13 +64,11 @@ pub +cut-entry-spec : {M : Type 1} → statement M
     let found = call .before .before in
     let else = found .before .before in
     let start = else .before .before in
-    let s = start .pre .1 in
-    let e = start .args .e in
-    let d = else .if1 .left in
-    let r = page-cuttable e d (s .ready) .0 in
-    let k = searched r (s .holds) (found .find-entry .ensures) in
-    let b = told (known .start .given .1) (found-cut e d k (call .cut-entry .ensures _ (s .holds) (found-cuttable e d k (s .ready)))) in
-    record { image = _; holds = b .holds; ready = (_, found-insertable e d k b r) })
+    from (start .pre .1)
+    (λ X h r.
+    let k = searched (start .args .e) (else .if1 .left) h r (found .find-entry .ensures) in
+    let b = found-cut k (known .start .given .1) (call .cut-entry .ensures X h (k .below)) in
+    record { image = _; holds = b .holds; ready = (_, found-insertable k b) }))
     -- same-length-2
     (λ c. search needs)
     -- returns-3
@@ -101,9 +79,6 @@ pub +cut-entry-spec : {M : Type 1} → statement M
     let call = answer .before .before in
     let found = call .before .before in
     let else = found .before .before in
-    let e = else .before .before .args .e in
-    let d = else .if1 .left in
-    let page = page-cuttable e d r .0 in
-    let k = searched page h (found .find-entry .ensures) in
-    let b = told (known .start .given .1) (found-cut e d k (call .cut-entry .ensures X h (found-cuttable e d k r))) in
-    found-two e d k b page (inserted .insert-after .ensures _ (b .holds) _ (found-insertable e d k b page))))
+    let k = searched (else .before .before .args .e) (else .if1 .left) h r (found .find-entry .ensures) in
+    let b = found-cut k (known .start .given .1) (call .cut-entry .ensures X h (k .below)) in
+    found-two k b (inserted .insert-after .ensures _ (b .holds) _ (found-insertable k b))))

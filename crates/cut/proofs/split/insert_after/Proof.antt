@@ -12,10 +12,12 @@ use Rattle.steps.specs.Supply.{entries, put}
 use Rattle.steps.specs.Cut.{split-if-full}
 use Rattle.store.specs.Encoding.{Encodes}
 use Rattle.store.specs.Preconditions.{Has-room}
-use Rattle.store.proofs.Encoding.{from}
-use Rattle.cut.specs.Answers.{inserted-after}
+use Rattle.store.proofs.Encoding.{from, readied}
+use Rattle.cut.specs.declared.SplitOutcome.{SplitOutcome}
+use Rattle.cut.specs.Answers.{inserted-after, Cut-as}
 use Rattle.cut.specs.Cuttable.{Has-place, Splittable, Insertable}
-use Rattle.cut.proofs.Splitting.{cut-as, length-inserted, inserted-after-is, saved-as, halved-as}
+use Rattle.page.proofs.Laws.Shifts.{length-inserted}
+use Rattle.cut.proofs.Splitting.{cut-as, inserted-after-is, saved-as, halved-as}
 use Rattle.cut.proofs.split.insert_after.Statement.{statement}
 use Rattle.cut.proofs.split.insert_after.Tie as tie
 
@@ -45,72 +47,58 @@ module _ (c : tie.After-entry-count-in) {X : Image} (h : Encodes (began c .args 
   place = record { tree-page = r .has-entry .tree-page; inside = omega (arith, r .has-entry .inside) }
 
   longer : length (inserted (i + 1) new (entries X p)) ≡ suc (length (entries X p))
-  longer = length-inserted (i + 1) new (entries X p) (place .inside)
+  longer = length-inserted (i + 1) new (entries X p)
 
   gained : inserted (i + 1) new (entries X p) ≡ inserted-after i (began c .args .start) (began c .args .child) (entries X p)
   gained =
       inserted-after-is i (began c .args .start) (began c .args .child) (entries X p) (r .has-entry .inside)
       (ap (λ e. entry (began c .args .start) (e .pair) (began c .args .child)) (read c .entry-of .ensures X h l (r .has-entry)))
 
-  fits : i < 24
-  fits = omega (arith, r .has-entry .inside, count)
+  -- what is done to the page with the new one is done as asked
+  asked : {out : SplitOutcome} {after : List ℕ}
+      → Cut-as (began c .args .e) (split-if-full 12 l (began c .args .e) (inserted (i + 1) new (entries X p)) X) out after
+      → Cut-as (began c .args .e)
+      (split-if-full 12 l (began c .args .e) (inserted-after i (began c .args .start) (began c .args .child) (entries X p)) X) out after
+  asked = cut-as (λ j. split-if-full 12 l (began c .args .e) (gained j) X)
 
-module _ (c : tie.Then1) {X : Image} (h : Encodes (began (c .before) .args .img .now) X) {l : ℕ}
-    (r : Insertable l (began (c .before) .args .e .child) (began (c .before) .args .i) X) where
-  room : Has-room l (began (c .before) .args .e .child) (began (c .before) .args .i + 1) X
-  room =
-      let s = place (c .before) h r in
-      record { tree-page = s .tree-page; inside = s .inside; room = omega (arith, count (c .before) h r, c .if1 .taken) }
+  room : c .entry-count-in .result < 24 → Has-room l p (i + 1) X
+  room less = record { tree-page = place .tree-page; inside = place .inside; room = omega (arith, count) }
 
-module _ (c : tie.Else1) {X : Image} (h : Encodes (began (c .before) .args .img .now) X) {l : ℕ}
-    (r : Insertable l (began (c .before) .args .e .child) (began (c .before) .args .i) X) where
-  splittable : Splittable l (began (c .before) .args .e .child) (began (c .before) .args .i + 1) X
-  splittable =
-      let n = count (c .before) h r in
-      record {
-        place = place (c .before) h r;
-        low = r .low;
-        full = omega (arith, c .if1 .left);
-        takable = r .room (omega (arith, c .if1 .left));
-      }
+  splittable : 24 ≤ c .entry-count-in .result → Splittable l p (i + 1) X
+  splittable full =
+      let n = count in
+      record { place = place; low = r .low; full = omega arith; takable = r .room (omega arith) }
 
-add-insert-entry : tie.Need-add-insert-entry
-add-insert-entry c = from (began (c .before .before) .pre) (λ X h r. omega (arith, fits (c .before .before) h (r .1)))
-
-insert-entry-requires : tie.Need-insert-entry-requires
-insert-entry-requires c κs =
-    let test = c .before in
-    from (began (test .before) .pre) (λ X h r. record { image = X; holds = h; ready = (r .0, room test h (r .1)) })
+fits : (c : tie.After-entry-count-in) → began c .args .i < 24
+fits c = from (began c .pre) (λ X h r. omega (arith, r .1 .has-entry .inside, count c h (r .1)))
 
 returns : tie.Need-returns
 returns c X h l r =
     let inserted = c .before .before in
     let test = inserted .before .before in
-    let counted = test .before in
-    cut-as (λ j. split-if-full 12 l (began counted .args .e) (gained counted h r j) X)
-    (saved-as (began counted .args .e) l _ X (omega (arith, longer counted h r, room test h r .room))
-    (inserted .insert-entry .ensures X h l (room test h r)))
-
-add-split : tie.Need-add-split
-add-split c = from (began (c .before .before) .pre) (λ X h r. omega (arith, fits (c .before .before) h (r .1)))
-
-split-requires : tie.Need-split-requires
-split-requires c κs =
-    let test = c .before in
-    from (began (test .before) .pre) (λ X h r. record { image = X; holds = h; ready = (r .0, splittable test h (r .1)) })
+    let k = room (test .before) h r (test .if1 .taken) in
+    asked (test .before) h r
+    (saved-as _ l _ X (omega (arith, longer (test .before) h r, k .room)) (inserted .insert-entry .ensures X h l k))
 
 returns-2 : tie.Need-returns-2
 returns-2 c X h l r =
     let halved = c .before .before in
     let test = halved .before .before in
-    let counted = test .before in
-    cut-as (λ j. split-if-full 12 l (began counted .args .e) (gained counted h r j) X)
-    (halved-as (began counted .args .e) l _ X (omega (arith, longer counted h r, splittable test h r .full))
-    (halved .split .ensures X h l (splittable test h r)))
+    let k = splittable (test .before) h r (test .if1 .left) in
+    asked (test .before) h r
+    (halved-as _ l _ X (omega (arith, longer (test .before) h r, k .full)) (halved .split .ensures X h l k))
 
 pub insert-after-spec : {M : Type 1} → statement M
 insert-after-spec =
     tie.close
     (tie.spec (λ c κs. search needs) (λ c κs. search needs)
-    add-insert-entry insert-entry-requires (λ c. search needs) returns
-    add-split split-requires (λ c. search needs) returns-2)
+    (λ c. omega (arith, fits (c .before .before)))
+    (λ c κs.
+    let test = c .before in
+    readied (began (test .before) .pre) (λ X h r. (_, room (test .before) h (r .1) (test .if1 .taken))))
+    (λ c. search needs) returns
+    (λ c. omega (arith, fits (c .before .before)))
+    (λ c κs.
+    let test = c .before in
+    readied (began (test .before) .pre) (λ X h r. (_, splittable (test .before) h (r .1) (test .if1 .left))))
+    (λ c. search needs) returns-2)

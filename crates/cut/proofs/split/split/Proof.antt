@@ -17,7 +17,8 @@ use Rattle.store.specs.Preconditions.{In-image}
 use Rattle.store.proofs.Encoding.{from}
 use Rattle.store.proofs.Supplying.{within-put, within-taken}
 use Rattle.cut.specs.Cuttable.{Splittable}
-use Rattle.cut.proofs.Splitting.{left-len, right-len, spare-within, length-inserted, split-as}
+use Rattle.page.proofs.Laws.Shifts.{length-inserted}
+use Rattle.cut.proofs.Splitting.{left-len, right-len, spare-within, split-as}
 use Rattle.cut.proofs.split.split.Statement.{statement}
 use Rattle.cut.proofs.split.split.Tie as tie
 
@@ -50,7 +51,7 @@ module _ (c : tie.After-take) {X : Image} (h : Encodes (began c .args .img .now)
 
   many : length es ≡ 25
   many =
-      omega (arith, length-inserted (began c .args .i) (began c .args .new) (entries X (began c .args .e .child)) (r .place .inside), r .full)
+      omega (arith, length-inserted (began c .args .i) (began c .args .new) (entries X (began c .args .e .child)), r .full)
 
   spared : c .take .result ≡ spare X
   spared = c .take .ensures X h (r .takable) .0
