@@ -1,12 +1,12 @@
 -- The cycle of `combine_page` and `combine_entry` meets its contracts. A page's measure is 2·level + 1, an entry's 2·level: the level falls
 -- from an entry to the page below. The loop's invariant: the entries passed have sent below what they send. Assumes nothing.
 use mathlib.Core.Path.{sym, _∙_, subst}
-use Prim.Native.Nat.{ℕ, _+_, _*_, _-_, _<_}
+use Prim.Native.Nat.{ℕ, _+_, _*_, _-_}
 use native.Mathlib.Omega.{arith}
 use borrow.Author.Needs.{needs}
 use borrow.Author.Tests.{not-true, not-false}
-use borrow.Fn.Kinds.{In}
-use borrow.Fn.PlainCycle.{Measures, is, falls, and}
+use borrow.Fn.PlainCycle.{Measures}
+use Rattle.lists.proofs.Cycles.{at-measure, below-measure}
 use Rattle.store.specs.Encoding.{Encodes}
 use Rattle.combine_span.proofs.Laws.{sent-inside, sent-apart, combinable-below, sent-below}
 use Rattle.combine_span.proofs.Sent as turns
@@ -16,12 +16,12 @@ use Rattle.combine_span.proofs.pages.+combine_entry+combine_page.Lts-co
 use Rattle.combine_span.proofs.pages.combine_page.Reads as combine-page
 use Rattle.combine_span.proofs.pages.combine_page.Kinds as combine-page-kinds
 use Rattle.combine_span.proofs.pages.+combine_entry+combine_page.Lts-combine_page as combine-page-lts
-use Rattle.combine_span.proofs.entries.inside.Reads as inside-reads
-use Rattle.combine_span.proofs.entries.take_effect.Reads as take-effect-reads
-use Rattle.rule.proofs.time.overlaps.Reads as overlaps-reads
-use Rattle.store.proofs.entries.entry_count_in.Reads as entry-count-in-reads
-use Rattle.store.proofs.entries.entry_end.Reads as entry-end-reads
-use Rattle.store.proofs.entries.entry_of.Reads as entry-of-reads
+use Rattle.combine_span.proofs.entries.inside.Reads as inside
+use Rattle.combine_span.proofs.entries.take_effect.Reads as take-effect
+use Rattle.rule.proofs.time.overlaps.Reads as overlaps
+use Rattle.store.proofs.entries.entry_count_in.Reads as entry-count-in
+use Rattle.store.proofs.entries.entry_end.Reads as entry-end
+use Rattle.store.proofs.entries.entry_of.Reads as entry-of
 use Rattle.combine_span.proofs.pages.+combine_entry+combine_page.{statement}
 use Rattle.combine_span.proofs.pages.+combine_entry+combine_page.Tie.{close}
 
@@ -30,19 +30,6 @@ abbrev μ-combine-entry : Measures 1 combine-entry-kinds.ps ℕ
 
 abbrev μ-combine-page : Measures 1 combine-page-kinds.ps ℕ
 μ-combine-page κs a = 2 * a .1 .1 .0 + 1
-
--- what each is given at the measure t, and what a call of it asks below t
-abbrev combine-entry-at : ℕ → In 1 combine-entry-kinds.ps
-combine-entry-at t = and 1 combine-entry-kinds.ps (is 1 combine-entry-kinds.ps μ-combine-entry t) combine-entry.Pre
-
-abbrev combine-entry-below : ℕ → In 1 combine-entry-kinds.ps
-combine-entry-below t = and 1 combine-entry-kinds.ps (falls 1 combine-entry-kinds.ps _<_ μ-combine-entry t) combine-entry.Pre
-
-abbrev combine-page-at : ℕ → In 1 combine-page-kinds.ps
-combine-page-at t = and 1 combine-page-kinds.ps (is 1 combine-page-kinds.ps μ-combine-page t) combine-page.Pre
-
-abbrev combine-page-below : ℕ → In 1 combine-page-kinds.ps
-combine-page-below t = and 1 combine-page-kinds.ps (falls 1 combine-page-kinds.ps _<_ μ-combine-page t) combine-page.Pre
 
 abbrev Inv-loop : combine-page-lts.InvT-loop
 Inv-loop img₀ q level hi p n i₀ img i = turns.Sending q level hi p img₀ n i img
@@ -54,14 +41,9 @@ pub +combine-entry+combine-page-spec : {M : Type 1} → statement M
 +combine-entry+combine-page-spec =
     close μ-combine-entry μ-combine-page
     (λ t.
-    combine-entry-lts.spec (
-      inside-reads.Asked,
-      inside-reads.Learnt,
-      overlaps-reads.Asked,
-      overlaps-reads.Learnt,
-      combine-page-below t,
-      combine-page.Post,
-    ) (combine-entry-at t) combine-entry.Post
+    let below = below-measure 1 combine-page-kinds.ps μ-combine-page combine-page.Pre t in
+    combine-entry-lts.spec (inside.Asked, inside.Learnt, overlaps.Asked, overlaps.Learnt, below, combine-page.Post)
+    (at-measure 1 combine-entry-kinds.ps μ-combine-entry combine-entry.Pre t) combine-entry.Post
     -- inside-requires
     (λ c κs. search needs)
     -- returns
@@ -99,17 +81,17 @@ pub +combine-entry+combine-page-spec : {M : Type 1} → statement M
     subst (Encodes _) (sent-below _ _ _ _ X some apart meets)
     (call .combine-page .ensures X h (combinable-below _ _ _ _ X some apart meets r))))
     λ t. combine-page-lts.spec (
-      take-effect-reads.Asked,
-      take-effect-reads.Learnt,
-      entry-count-in-reads.Asked,
-      entry-count-in-reads.Learnt,
-      entry-of-reads.Asked,
-      entry-of-reads.Learnt,
-      entry-end-reads.Asked,
-      entry-end-reads.Learnt,
-      combine-entry-below t,
+      take-effect.Asked,
+      take-effect.Learnt,
+      entry-count-in.Asked,
+      entry-count-in.Learnt,
+      entry-of.Asked,
+      entry-of.Learnt,
+      entry-end.Asked,
+      entry-end.Learnt,
+      below-measure 1 combine-entry-kinds.ps μ-combine-entry combine-entry.Pre t,
       combine-entry.Post,
-    ) (combine-page-at t) combine-page.Post Inv-loop μ-loop
+    ) (at-measure 1 combine-page-kinds.ps μ-combine-page combine-page.Pre t) combine-page.Post Inv-loop μ-loop
     -- take-effect-requires
     (λ c κs.
     let leaf = c .before in
