@@ -1,8 +1,9 @@
 -- The way down and back up: what a page asks of its child, and what it leaves. Assumes nothing.
-use mathlib.Core.Path.{_≡_, sym, ap, _∙_, subst, subst⁻¹}
+use mathlib.Core.Path.{_≡_, sym, ap, subst, subst⁻¹}
 use mathlib.Core.Bool.{true, cond}
 use Prim.Native.Nat.{ℕ, suc, _-_, _≤_, _<_}
 use native.Mathlib.Omega.{arith}
+use mathlib.Core.List.{List}
 use lib.ListN.{length}
 use borrow.Author.Tests.{lt-ltb, le-ltb}
 use Rattle.rule.specs.Pairs.{combine}
@@ -10,6 +11,7 @@ use Rattle.image.specs.Images.{Image}
 use Rattle.steps.specs.Supply.{entries}
 use Rattle.steps.specs.Heal.{short, rebalance, heal-page}
 use Rattle.store.specs.declared.Found.{Found}
+use Rattle.store.specs.Encoding.{Encodes, Post-level}
 use Rattle.store.specs.Preconditions.{Searchable, found-in}
 use Rattle.heal.specs.Healable.{Rebalanceable, Rebalanceable-if-short, rebalance-if-short, Inner-healable, Page-healable}
 
@@ -34,38 +36,33 @@ module _ (q : ℕ) {n : ℕ} (X : Image) (has : n ≡ length (entries X q)) wher
 
 -- ---- the level of a page: a leaf, or one above its child page
 
-pub leaf-ready : (kind t p : ℕ) (X : Image) {level : ℕ} → level ≡ 0 → Page-healable kind t level p X → Searchable 0 p t X
+pub leaf-ready : (kind : ℕ) {t p level : ℕ} {X : Image} → level ≡ 0 → Page-healable kind t level p X → Searchable 0 p t X
 unfolding Page-healable
-leaf-ready kind t p X e r = subst (λ l. Page-healable kind t l p X) e r
+leaf-ready kind {t} {p} {X = X} e r = subst (λ l. Page-healable kind t l p X) e r
 
-module _ (kind t p : ℕ) (X : Image) {level : ℕ} (e : level ≡ 0 → ⊥) where
-  pub inner : Page-healable kind t level p X → Inner-healable kind t (level - 1) p (λ q Y. Page-healable kind t (level - 1) q Y) X
-  unfolding Page-healable
-  inner r =
-      let above : level ≡ suc (level - 1) = omega arith in
-      subst (λ l. Page-healable kind t l p X) above r
+pub inner : {kind t p level : ℕ} {X : Image} → (level ≡ 0 → ⊥) → Page-healable kind t level p X
+    → Inner-healable kind t (level - 1) p (λ q Y. Page-healable kind t (level - 1) q Y) X
+unfolding Page-healable
+inner {kind} {t} {p} {level} {X} e r =
+    let above : level ≡ suc (level - 1) = omega arith in
+    subst (λ l. Page-healable kind t l p X) above r
 
-  -- ---- by what was found in the page: the index of the entry that has t, and its child page
+-- by what was found in the page, the index of the entry that has t and its child page: what that one asks, what it leaves, and what the
+-- page becomes
+pub record Found-inner (kind t level p : ℕ) (X : Image) (f : Found) : Type 0 where
+  pub below : Page-healable kind t (level - 1) (f .entry .child) X
+  pub rebalances : Rebalanceable-if-short (level - 1) p (f .index) (f .entry .child)
+      (heal-page 12 (combine kind) t (level - 1) (f .entry .child) X)
+  pub done : rebalance-if-short kind (level - 1) p (f .index) (f .entry .child)
+      (heal-page 12 (combine kind) t (level - 1) (f .entry .child) X)
+      ≡ heal-page 12 (combine kind) t level p X
 
-  module _ {f : Found} (g : f ≡ found-in t (entries X p)) where
-    abbrev left : ℕ → Image
-    left q = heal-page 12 (combine kind) t (level - 1) q X
-
-    pub inner-below : Page-healable kind t level p X → Page-healable kind t (level - 1) (f .entry .child) X
-    unfolding found-in
-    inner-below r = subst⁻¹ (λ (m : Found). Page-healable kind t (level - 1) (m .entry .child) X) g (inner r .below)
-
-    pub inner-rebalances : Page-healable kind t level p X
-        → Rebalanceable-if-short (level - 1) p (f .index) (f .entry .child) (left (f .entry .child))
-    unfolding found-in
-    inner-rebalances r =
-        subst⁻¹ (λ (m : Found). Rebalanceable-if-short (level - 1) p (m .index) (m .entry .child) (left (m .entry .child))) g
-        (inner r .rebalances)
-
-    pub inner-done : rebalance-if-short kind (level - 1) p (f .index) (f .entry .child) (left (f .entry .child))
-        ≡ heal-page 12 (combine kind) t level p X
-    unfolding heal-page rebalance-if-short found-in
-    inner-done =
-        let above : suc (level - 1) ≡ level = omega arith in
-        ap (λ (m : Found). rebalance-if-short kind (level - 1) p (m .index) (m .entry .child) (left (m .entry .child))) g
-        ∙ ap (λ l. heal-page 12 (combine kind) t l p X) above
+pub found-inner : {img : List ℕ} {kind t p level : ℕ} {X : Image} {f : Found} → (level ≡ 0 → ⊥) → Encodes img X
+    → Page-healable kind t level p X
+    → Post-level img (λ v. Searchable v p t) (λ v Y. f ≡ found-in t (entries Y p)) → Found-inner kind t level p X f
+unfolding heal-page rebalance-if-short found-in
+found-inner {kind = kind} {t} {p} {level} {X} e h r finds =
+    let above : suc (level - 1) ≡ level = omega arith in
+    let k = inner e r in
+    subst⁻¹ (Found-inner kind t level p X) (finds X h _ (k .searchable))
+    (record { below = k .below; rebalances = k .rebalances; done = ap (λ l. heal-page 12 (combine kind) t l p X) above })

@@ -235,6 +235,25 @@ module _ {level a b m k : ℕ} {X : Image} (s : Movable level a b m k X) where
           ∙ ap (λ x. put b (tree level (inserted 0 x (entries X b))) shorter) same
           ∙ (λ j. put b (tree level (gets j)) (put a (tree level (keeps j)) X))
 
+-- an entry is read; a page is edited, and then the other
+module _ {Reads Edits Then Start : ℕ → Image → Type 0} {img mid : List ℕ} {e : Entry} {here : Image → Entry} {to : ℕ → Image → Image}
+    (read : Post-level img Reads (λ v X. e ≡ here X)) (edit : Post-level img Edits (λ v X. Encodes mid (to v X)))
+    (has : (v : ℕ) (X : Image) → Start v X → Reads v X) (can : (v : ℕ) (X : Image) → Start v X → Edits v X)
+    (next : (v : ℕ) (X : Image) → Start v X → e ≡ here X → Then v (to v X)) where
+  pub then-other : Pre-level img Start → Pre-level mid Then
+  then-other pre =
+      from pre
+      (λ X h s.
+      let (v, start) = s in
+      record { image = _; holds = edit X h v (can v X start); ready = (v, next v X start (read X h v (has v X start))) })
+
+  pub both-edited : {after : List ℕ} {other both : ℕ → Image → Image}
+      → ((v : ℕ) (X : Image) → Start v X → e ≡ here X → other v (to v X) ≡ both v X)
+      → Post-level mid Then (λ v X. Encodes after (other v X)) → Post-level img Start (λ v X. Encodes after (both v X))
+  both-edited {after} done last X h v s =
+      let r = read X h v (has v X s) in
+      subst (Encodes after) (done v X s r) (last _ (edit X h v (can v X s)) v (next v X s r))
+
 -- ---- the loop: page a has m of all, and is to have k
 
 module _ (a b k : ℕ) where

@@ -9,7 +9,7 @@ use Rattle.image.specs.Images.{Image}
 use Rattle.steps.specs.Supply.{entries}
 use Rattle.store.specs.Encoding.{Encodes}
 use Rattle.store.specs.Preconditions.{Tree-page}
-use Rattle.store.proofs.Encoding.{from}
+use Rattle.store.proofs.Encoding.{readied}
 use Rattle.heal.specs.Healable.{Collapsible, Collapsible-if-single}
 use Rattle.heal.proofs.Roots.{read-root, read-len, collapsed-low, collapsed-wide, collapsed-collapse-root}
 use Rattle.heal.proofs.collapse.collapse_if_single.Statement.{statement}
@@ -50,13 +50,13 @@ module _ (c : tie.After-entry-count-in) (X : Image) (h : Encodes (start (high c)
 
 entry-count-in-requires : tie.Need-entry-count-in-requires
 entry-count-in-requires c κs =
-    from (start (c .before) .pre) (λ X h s. record { image = X; holds = h; ready = (_, root (c .before) X h s) })
+    readied (start (c .before) .pre) (λ X h s. (_, root (c .before) X h s))
 
 collapse-root-requires : tie.Need-collapse-root-requires
 collapse-root-requires c κs =
     let one = c .before in
     let read = one .before in
-    from (start (high read) .pre) (λ X h s. record { image = X; holds = h; ready = collapses read X h s (one .if2 .taken) })
+    readied (start (high read) .pre) (λ X h s. collapses read X h s (one .if2 .taken))
 
 returns-2 : tie.Need-returns-2
 returns-2 c X h s =

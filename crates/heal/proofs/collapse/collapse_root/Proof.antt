@@ -12,7 +12,7 @@ use Rattle.steps.specs.Supply.{entries, put, given-back}
 use Rattle.steps.specs.Heal.{pushed}
 use Rattle.store.specs.Encoding.{Encodes, Post}
 use Rattle.store.specs.Preconditions.{Has-entry, Push-ready, Givable}
-use Rattle.store.proofs.Encoding.{from}
+use Rattle.store.proofs.Encoding.{from, readied}
 use Rattle.store.proofs.Chains.{then, some-then}
 use Rattle.heal.specs.Healable.{Collapsible}
 use Rattle.heal.proofs.Roots.{read-entry, givable-put, collapse-root-is}
@@ -46,11 +46,11 @@ module _ (c : tie.After-entry-of) (X : Image) (h : Encodes (start (read c) .args
 
 entry-of-requires : tie.Need-entry-of-requires
 entry-of-requires c κs =
-    from (start (c .before) .pre) (λ X h s. record { image = X; holds = h; ready = (_, root (c .before) X h s) })
+    readied (start (c .before) .pre) (λ X h s. (_, root (c .before) X h s))
 
 push-down-requires : tie.Need-push-down-requires
 push-down-requires c κs =
-    from (start (read (c .before)) .pre) (λ X h s. record { image = X; holds = h; ready = (_, child (c .before) X h s) })
+    readied (start (read (c .before)) .pre) (λ X h s. (_, child (c .before) X h s))
 
 -- ---- what is written
 

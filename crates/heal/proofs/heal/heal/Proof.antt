@@ -8,7 +8,7 @@ use Rattle.page.specs.declared.Head.{Head}
 use Rattle.image.specs.Images.{Image}
 use Rattle.steps.specs.Heal.{heal-page}
 use Rattle.store.specs.Encoding.{Encodes}
-use Rattle.store.proofs.Encoding.{from}
+use Rattle.store.proofs.Encoding.{from, readied}
 use Rattle.heal.specs.Healable.{Page-healable, Collapsible-if-single, Healable}
 use Rattle.heal.proofs.Roots.{healed-is}
 use Rattle.heal.proofs.heal.heal.Statement.{statement}
@@ -46,7 +46,7 @@ module _ (c : tie.After-head-of) (X : Image) (h : Encodes (start c .args .img .n
 heal-page-requires : tie.Need-heal-page-requires
 heal-page-requires c κs =
     let read = c .before .before in
-    from (start read .pre) (λ X h s. record { image = X; holds = h; ready = page read X h s })
+    readied (start read .pre) (λ X h s. page read X h s)
 
 abbrev healed : tie.After-collapse-if-single-arg → tie.After-heal-page
 healed c = c .before .before .before

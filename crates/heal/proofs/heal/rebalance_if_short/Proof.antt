@@ -2,13 +2,13 @@
 use mathlib.Core.Path.{subst}
 use borrow.Author.Needs.{needs}
 use Rattle.store.specs.Encoding.{Encodes}
-use Rattle.store.proofs.Encoding.{from}
+use Rattle.store.proofs.Encoding.{from, readied}
 use Rattle.heal.proofs.Paths.{rebalances-rebalanceable, if-short-rebalanced, if-short-kept}
 use Rattle.heal.proofs.heal.rebalance_if_short.Statement.{statement}
 use Rattle.heal.proofs.heal.rebalance_if_short.Tie as tie
 
 entry-count-in-requires : tie.Need-entry-count-in-requires
-entry-count-in-requires c κs = from (c .before .before .pre) (λ X h s. record { image = X; holds = h; ready = (_, s .1 .tree-page) })
+entry-count-in-requires c κs = readied (c .before .before .pre) (λ X h s. (_, s .1 .tree-page))
 
 rebalance-requires : tie.Need-rebalance-requires
 rebalance-requires c κs =

@@ -5,7 +5,7 @@ use Rattle.image.specs.Images.{Image}
 use Rattle.steps.specs.Supply.{entries}
 use Rattle.store.specs.Encoding.{Encodes}
 use Rattle.store.specs.Preconditions.{Searchable, found-in}
-use Rattle.store.proofs.Encoding.{from}
+use Rattle.store.proofs.Encoding.{readied}
 use Rattle.heal.specs.Healable.{Entry-read}
 use Rattle.heal.proofs.Leaves.{found-read, leaf-kept, leaf-healed}
 use Rattle.heal.proofs.leaf.heal_leaf.Statement.{statement}
@@ -26,13 +26,13 @@ module _ (c : tie.After-find-entry) (X : Image) (h : Encodes (start c .args .img
 heals-requires : tie.Need-heals-requires
 heals-requires c κs =
     let at = c .before in
-    from (start at .pre) (λ X h s. record { image = X; holds = h; ready = (_, read at X h s) })
+    readied (start at .pre) (λ X h s. (_, read at X h s))
 
 remove-entry-requires : tie.Need-remove-entry-requires
 remove-entry-requires c κs =
     let tested = c .before .before in
     let at = tested .before .before in
-    from (start at .pre) (λ X h s. record { image = X; holds = h; ready = (_, read at X h s .has) })
+    readied (start at .pre) (λ X h s. (_, read at X h s .has))
 
 returns : tie.Need-returns
 returns c X h s kind =

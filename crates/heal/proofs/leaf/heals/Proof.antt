@@ -5,7 +5,7 @@ use Prim.Native.Nat.{ℕ, _-_}
 use Rattle.image.specs.Images.{Image}
 use Rattle.steps.specs.Supply.{entries}
 use Rattle.store.specs.Preconditions.{Has-entry}
-use Rattle.store.proofs.Encoding.{from}
+use Rattle.store.proofs.Encoding.{readied}
 use Rattle.heal.specs.Healable.{Entry-read}
 use Rattle.heal.proofs.Leaves.{heals-first, heals-later}
 use Rattle.heal.proofs.leaf.heals.Statement.{statement}
@@ -25,7 +25,7 @@ returns c X h v s =
     heals-first (args .t) (args .i) (entries X (args .p)) (c .if1 .taken)
 
 entry-of-requires : tie.Need-entry-of-requires
-entry-of-requires c κs = from (start c .pre) (λ X h s. record { image = X; holds = h; ready = (_, before c (s .1)) })
+entry-of-requires c κs = readied (start c .pre) (λ X h s. (_, before c (s .1)))
 
 returns-2 : tie.Need-returns-2
 returns-2 c X h v s =

@@ -1,7 +1,7 @@
 -- `heal::push::push_down` meets its contract: the loop's invariant is that so many entries have the pair. Assumes nothing.
 use Prim.Native.Nat.{_-_}
 use native.Mathlib.Omega.{arith}
-use Rattle.store.proofs.Encoding.{from}
+use Rattle.store.proofs.Encoding.{readied}
 use Rattle.heal.proofs.Pushing.{Pushing, none, next, more, all}
 use Rattle.heal.proofs.push.push_down.Statement.{statement}
 use Rattle.heal.proofs.push.push_down.Tie as tie
@@ -16,7 +16,7 @@ abbrev start : tie.After-entry-count-in Inv-loop μ-loop → tie.Start Inv-loop 
 start c = c .before .before .before
 
 entry-count-in-requires : tie.Need-entry-count-in-requires Inv-loop μ-loop
-entry-count-in-requires c κs = from (c .before .before .pre) (λ X h s. record { image = X; holds = h; ready = (_, s .1 .tree-page) })
+entry-count-in-requires c κs = readied (c .before .before .pre) (λ X h s. (_, s .1 .tree-page))
 
 loop-holds : tie.Need-loop-holds Inv-loop μ-loop
 loop-holds c = none _ _ (λ X h v s. c .entry-count-in .ensures X h v (s .tree-page) .0)

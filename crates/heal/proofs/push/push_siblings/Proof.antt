@@ -12,7 +12,7 @@ use Rattle.steps.specs.Supply.{entries, put}
 use Rattle.steps.specs.Heal.{pushed}
 use Rattle.store.specs.Encoding.{Encodes}
 use Rattle.store.specs.Preconditions.{Push-ready}
-use Rattle.store.proofs.Encoding.{from}
+use Rattle.store.proofs.Encoding.{from, readied}
 use Rattle.heal.specs.Siblings.{Siblings}
 use Rattle.heal.proofs.Outcomes.{push-else, pushed-else, next-fits}
 use Rattle.heal.proofs.push.push_siblings.Statement.{statement}
@@ -77,7 +77,7 @@ module _ (c : tie.After-entry-of2) (X : Image) (h : Encodes (start (first c) .ar
 push-down-requires : tie.Need-push-down-requires
 push-down-requires c κs =
     let at = c .before in
-    from (start (first at) .pre) (λ X h s. record { image = X; holds = h; ready = (_, left-ready at X h (s .1)) })
+    readied (start (first at) .pre) (λ X h s. (_, left-ready at X h (s .1)))
 
 abbrev halved : tie.After-push-down-arg2 → tie.After-push-down
 halved c = c .before .before .before

@@ -10,7 +10,7 @@ use Rattle.steps.specs.Supply.{entries}
 use Rattle.steps.specs.Heal.{sibling}
 use Rattle.store.specs.Encoding.{Encodes}
 use Rattle.store.specs.Preconditions.{Tree-page}
-use Rattle.store.proofs.Encoding.{from}
+use Rattle.store.proofs.Encoding.{from, readied}
 use Rattle.heal.specs.Healable.{Rebalanceable}
 use Rattle.heal.proofs.Rebalancing.{rebalance-sibling, rebalance-entry, rebalance-redistributable, rebalance-mergeable}
 use Rattle.heal.proofs.Rebalancing.{rebalance-redistributed, rebalance-merged}
@@ -22,7 +22,7 @@ begin c = c .before .before .before
 
 entry-of-requires : tie.Need-entry-of-requires
 entry-of-requires c κs =
-    from (begin c .pre) (λ X h s. record { image = X; holds = h; ready = (_, rebalance-entry (s .1) (c .sibling .ensures)) })
+    readied (begin c .pre) (λ X h s. (_, rebalance-entry (s .1) (c .sibling .ensures)))
 
 -- ---- the sibling, of every image that the bytes encode
 
@@ -53,7 +53,7 @@ module _ (c : tie.After-entry-count-in) (X : Image) (h : Encodes (start (asked c
 
 entry-count-in-requires : tie.Need-entry-count-in-requires
 entry-count-in-requires c κs =
-    from (start (c .before) .pre) (λ X h s. record { image = X; holds = h; ready = (_, tree-page (c .before) X h (s .1)) })
+    readied (start (c .before) .pre) (λ X h s. (_, tree-page (c .before) X h (s .1)))
 
 redistribute-requires : tie.Need-redistribute-requires
 redistribute-requires c κs =

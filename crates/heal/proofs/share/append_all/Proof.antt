@@ -1,7 +1,7 @@
 -- `heal::share::append_all` meets its contract: the loop's invariant is that so many entries stand behind those of page a. Assumes nothing.
 use Prim.Native.Nat.{_-_}
 use native.Mathlib.Omega.{arith}
-use Rattle.store.proofs.Encoding.{from}
+use Rattle.store.proofs.Encoding.{readied}
 use Rattle.heal.proofs.Sharing.{Appending, append-none, append-has, append-room, append-fits, append-more, append-all}
 use Rattle.heal.proofs.share.append_all.Statement.{statement}
 use Rattle.heal.proofs.share.append_all.Tie as tie
@@ -13,14 +13,14 @@ abbrev μ-loop : tie.MeasureT-loop
 μ-loop img₀ a b m n i₀ img i = n - i
 
 entry-count-in-requires : tie.Need-entry-count-in-requires Inv-loop μ-loop
-entry-count-in-requires c κs = from (c .before .before .pre) (λ X h s. record { image = X; holds = h; ready = (_, s .1 .pages .left) })
+entry-count-in-requires c κs = readied (c .before .before .pre) (λ X h s. (_, s .1 .pages .left))
 
 abbrev begin : tie.After-entry-count-in Inv-loop μ-loop → tie.Start Inv-loop μ-loop
 begin c = c .before .before .before
 
 entry-count-in-requires-2 : tie.Need-entry-count-in-requires-2 Inv-loop μ-loop
 entry-count-in-requires-2 c κs =
-    from (begin (c .before) .pre) (λ X h s. record { image = X; holds = h; ready = (_, s .1 .pages .right) })
+    readied (begin (c .before) .pre) (λ X h s. (_, s .1 .pages .right))
 
 loop-holds : tie.Need-loop-holds Inv-loop μ-loop
 loop-holds c =

@@ -1,6 +1,6 @@
 -- `heal::share::share` meets its contract: the loop's invariant is that page a has so many of all. Assumes nothing.
 use Prim.Native.Nat.{_+_, _-_}
-use Rattle.store.proofs.Encoding.{from}
+use Rattle.store.proofs.Encoding.{readied}
 use Rattle.heal.proofs.Sharing.{Sharing, share-none, share-next, share-more, share-all}
 use Rattle.heal.proofs.share.share.Statement.{statement}
 use Rattle.heal.proofs.share.share.Tie as tie
@@ -15,7 +15,7 @@ abbrev start : tie.After-entry-count-in Inv-loop μ-loop → tie.Start Inv-loop 
 start c = c .before .before .before
 
 entry-count-in-requires : tie.Need-entry-count-in-requires Inv-loop μ-loop
-entry-count-in-requires c κs = from (c .before .before .pre) (λ X h s. record { image = X; holds = h; ready = (_, s .1 .pages .left) })
+entry-count-in-requires c κs = readied (c .before .before .pre) (λ X h s. (_, s .1 .pages .left))
 
 loop-holds : tie.Need-loop-holds Inv-loop μ-loop
 loop-holds c = share-none _ _ _ (λ X h v s. c .entry-count-in .ensures X h v (s .pages .left) .0)
