@@ -1,6 +1,6 @@
 -- From an entry of a sound image to the page below: what may be read there, and where the count goes on. Assumes nothing.
 use Prim.Native.Nat.{ℕ, zero, suc, _+_, _*_, _-_, _≤_, _<_}
-use mathlib.Core.Path.{_≡_, refl, sym, ap, _∙_, subst⁻¹}
+use mathlib.Core.Path.{_≡_, refl, sym, ap, _∙_, subst, subst⁻¹}
 use mathlib.Core.Bool.{Bool, true, false, cond}
 use mathlib.Core.List.{List}
 use native.Mathlib.Omega.{arith}
@@ -94,23 +94,6 @@ entry-leads {img} (suc l) {p} k i lt begun =
       fit = tree-parts 12 (k .head) img l (k .at) p (k .fit) .1 i lt;
     }
 
-module _ {img : List ℕ} {t l p : ℕ} (k : Fit-from img t l p) {m : Found} (e : m ≡ found-in t (entries (image-of 12 img) p)) where
-  pub found-most : m .count ≤ 24
-  unfolding found-in
-  found-most = omega (arith, ap (λ (n : Found). n .count) e, number-read k, page-is-fit k .most)
-
-  pub found-leads : Leads img t l (m .entry)
-  unfolding found-in
-  found-leads =
-      let s = page-at 12 img p in
-      let i = index-of t (entries-of 12 s) in
-      let f = page-is-fit k in
-      let r : i < entry-count s = index-within 12 s t (f .most) (entry-first f (omega arith)) in
-      let same : m .entry ≡ entry-at 12 s i =
-      ap (λ (n : Found). n .entry) e
-      ∙ (ap (λ es. entry-in es (index-of t es)) (entries-read k) ∙ at-entries-of 12 s i r (omega (arith, f .most))) in
-      subst⁻¹ (Leads img t l) same (entry-leads l k i r (index-started 12 s t (f .most) (omega (arith, f .first, k .begun))))
-
 -- ---- an entry
 
 pub leads-low : (img : List ℕ) (t l : ℕ) (e : Entry) → Leads img t l e → l ≤ most-height
@@ -119,21 +102,11 @@ leads-low img t zero e k = omega arith
 leads-low img t (suc l) e k = omega (arith, k .low)
 
 -- an inner one
-pub leads-on : (img : List ℕ) (t l : ℕ) (e : Entry) → Leads img t l e → ¬ (l ≡ 0) → Fit-from img t (l - 1) (e .child)
+pub leads-on : {img : List ℕ} {t l : ℕ} (e : Entry) → Leads img t l e → ¬ (l ≡ 0) → Fit-from img t (l - 1) (e .child)
 unfolding Leads
-leads-on img t zero e k h = absurd (h refl)
-leads-on img t (suc l) e k h =
-    let d : suc l - 1 ≡ l = omega arith in
-    subst⁻¹ (λ n. Fit-from img t n (e .child)) d k
-
--- what is read there: any search that find_entry's contract allows
-module _ {img : List ℕ} {t l p : ℕ} (k : Fit-from img t l p) where
-  pub fit-some : Pre-level img (λ v. Searchable v p t)
-  fit-some = record { image = image-of 12 img; holds = k .holds; ready = (l, fit-searchable k) }
-
-  pub fit-found : {f : Found} → Post-level img (λ v. Searchable v p t) (λ v X. f ≡ found-in t (entries X p))
-      → f ≡ found-in t (entries (image-of 12 img) p)
-  fit-found each = each (image-of 12 img) (k .holds) l (fit-searchable k)
+leads-on {img} {t} {l} e k h =
+    let above : l ≡ suc (l - 1) = omega arith in
+    subst (λ n. Leads img t n e) above k
 
 -- for a later instant too
 pub later-fit : {img : List ℕ} {s t l p : ℕ} → Fit-from img s l p → s < t → Fit-from img t l p
@@ -151,6 +124,55 @@ later-fit k lt =
       fit = k .fit;
     }
 
+pub fit-some : {img : List ℕ} {t l p : ℕ} → Fit-from img t l p → Pre-level img (λ v. Searchable v p t)
+fit-some {img} {l = l} k = record { image = image-of 12 img; holds = k .holds; ready = (l, fit-searchable k) }
+
+-- what was found in its page: any search that find_entry's contract allows
+pub record Found-below (img : List ℕ) (t l : ℕ) (e : Entry) (m : Found) : Type 0 where
+  pub inner : ¬ (l ≡ 0)
+  pub page : Fit-from img t (l - 1) (e .child)
+  pub is : m ≡ found-in t (entries (image-of 12 img) (e .child))
+
+abbrev Finds : List ℕ → ℕ → ℕ → Found → Type 0
+Finds img t p m = Post-level img (λ v. Searchable v p t) (λ v X. m ≡ found-in t (entries X p))
+
+found-at : {img : List ℕ} {t l : ℕ} {m : Found} (e : Entry) → ¬ (l ≡ 0) → Fit-from img t (l - 1) (e .child) → Finds img t (e .child) m
+    → Found-below img t l e m
+found-at {img} {l = l} e h k each = record { inner = h; page = k; is = each (image-of 12 img) (k .holds) (l - 1) (fit-searchable k) }
+
+pub found-below : {img : List ℕ} {t l : ℕ} {m : Found} (e : Entry) → Leads img t l e → ¬ (l ≡ 0) → Finds img t (e .child) m
+    → Found-below img t l e m
+found-below e k h each = found-at e h (leads-on e k h) each
+
+-- and for a later instant
+abbrev pub Both-below : List ℕ → ℕ → ℕ → ℕ → Entry → Found → Found → Type 0
+Both-below img s t l e m n = Found-below img s l e m × Found-below img t l e n
+
+pub both-below : {img : List ℕ} {s t l : ℕ} {m n : Found} (e : Entry) → Leads img s l e × (s < t) → ¬ (l ≡ 0) → Finds img s (e .child) m
+    → Finds img t (e .child) n
+    → Both-below img s t l e m n
+both-below e k h first second =
+    let page = leads-on e (k .0) h in
+    (found-at e h page first, found-at e h (later-fit page (k .1)) second)
+
+module _ {img : List ℕ} {t l : ℕ} {e : Entry} {m : Found} (k : Found-below img t l e m) where
+  pub found-most : m .count ≤ 24
+  unfolding found-in
+  found-most = omega (arith, ap (λ (n : Found). n .count) (k .is), number-read (k .page), page-is-fit (k .page) .most)
+
+  pub found-leads : Leads img t (l - 1) (m .entry)
+  unfolding found-in
+  found-leads =
+      let s = page-at 12 img (e .child) in
+      let i = index-of t (entries-of 12 s) in
+      let f = page-is-fit (k .page) in
+      let r : i < entry-count s = index-within 12 s t (f .most) (entry-first f (omega arith)) in
+      let same : m .entry ≡ entry-at 12 s i =
+      ap (λ (n : Found). n .entry) (k .is)
+      ∙ (ap (λ es. entry-in es (index-of t es)) (entries-read (k .page)) ∙ at-entries-of 12 s i r (omega (arith, f .most))) in
+      subst⁻¹ (Leads img t (l - 1)) same
+      (entry-leads (l - 1) (k .page) i r (index-started 12 s t (f .most) (omega (arith, f .first, k .page .begun))))
+
 -- ---- the counts, level by level
 
 module _ (half t : ℕ) (X : Image) where
@@ -159,12 +181,12 @@ module _ (half t : ℕ) (X : Image) where
   one-leaf zero e z h = h
   one-leaf (suc l) e z h = absurd (omega arith)
 
-  pub one-inner : (l : ℕ) (e : Entry) {m : Found} {n r : Need} → ¬ (l ≡ 0) → m ≡ found-in t (entries X (e .child))
+  inner-one : (l : ℕ) (e : Entry) {m : Found} {n r : Need} → ¬ (l ≡ 0) → m ≡ found-in t (entries X (e .child))
       → n ≡ one-cut half t (l - 1) (m .entry) X
       → r ≡ page-need half (m .count) n → r ≡ one-cut half t l e X
   unfolding one-cut found-in
-  one-inner zero e z a b c = absurd (z refl)
-  one-inner (suc l) e {m = m} z a b c =
+  inner-one zero e z a b c = absurd (z refl)
+  inner-one (suc l) e {m = m} z a b c =
       let d : suc l - 1 ≡ l = omega arith in
       c
       ∙ (ap (page-need half (m .count)) (b ∙ ap (λ i. one-cut half t i (m .entry) X) d)
@@ -181,44 +203,22 @@ module _ (half s t : ℕ) (X : Image) where
   both-leaf zero e z a b c = c ∙ (λ j. add-needs (a j) (b j))
   both-leaf (suc l) e z a b c = absurd (omega arith)
 
-  -- the two go on to the same entry
-  pub both-same : (l : ℕ) (e : Entry) {m k : Found} {n r : Need} → ¬ (l ≡ 0) → m ≡ found-in s (entries X (e .child))
+  -- the two go on to the same entry, or part there
+  inner-both : (l : ℕ) (e : Entry) {m k : Found} {n r : Need} → ¬ (l ≡ 0) → m ≡ found-in s (entries X (e .child))
       → k ≡ found-in t (entries X (e .child))
-      → m .index ≡ k .index → n ≡ both-cuts half s t (l - 1) (m .entry) X → r ≡ page-need half (m .count) n → r ≡ both-cuts half s t l e X
+      → n ≡ cond (eqb (m .index) (k .index)) (both-cuts half s t (l - 1) (m .entry) X)
+      (parted-cuts half s t (l - 1) (m .entry) (k .entry) X)
+      → r ≡ page-need half (m .count) n → r ≡ both-cuts half s t l e X
   unfolding both-cuts found-in
-  both-same zero e z a b h c d = absurd (z refl)
-  both-same (suc l) e {m = m} z a b h c d =
-      let es = entries X (e .child) in
+  inner-both zero e z a b c d = absurd (z refl)
+  inner-both (suc l) e {m} z a b c d =
       let v : suc l - 1 ≡ l = omega arith in
-      let w : index-of s es ≡ index-of t es = sym (ap (λ (y : Found). y .index) a) ∙ (h ∙ ap (λ (y : Found). y .index) b) in
       d
-      ∙ (ap (page-need half (m .count)) (c ∙ ap (λ i. both-cuts half s t i (m .entry) X) v)
-      ∙ (ap (λ (y : Found). page-need half (y .count) (both-cuts half s t l (y .entry) X)) a
-      ∙ ap
-      (λ g. page-need half (length es)
-      (cond g (both-cuts half s t l (entry-in es (index-of s es)) X)
-      (parted-cuts half s t l (entry-in es (index-of s es)) (entry-in es (index-of t es)) X)))
-      (sym (eq-eqb (index-of s es) (index-of t es) w))))
-
-  -- or part there
-  pub both-apart : (l : ℕ) (e : Entry) {m k : Found} {n r : Need} → ¬ (l ≡ 0) → m ≡ found-in s (entries X (e .child))
-      → k ≡ found-in t (entries X (e .child))
-      → ¬ (m .index ≡ k .index) → n ≡ parted-cuts half s t (l - 1) (m .entry) (k .entry) X → r ≡ page-need half (m .count) n
-      → r ≡ both-cuts half s t l e X
-  unfolding both-cuts found-in
-  both-apart zero e z a b h c d = absurd (z refl)
-  both-apart (suc l) e {m} {k} z a b h c d =
-      let es = entries X (e .child) in
-      let v : suc l - 1 ≡ l = omega arith in
-      let w : ¬ (index-of s es ≡ index-of t es) = λ q. h (ap (λ (y : Found). y .index) a ∙ (q ∙ sym (ap (λ (y : Found). y .index) b))) in
-      d
-      ∙ (ap (page-need half (m .count)) (c ∙ ap (λ i. parted-cuts half s t i (m .entry) (k .entry) X) v)
-      ∙ ((λ j. page-need half (a j .count) (parted-cuts half s t l (a j .entry) (b j .entry) X))
-      ∙ ap
-      (λ g. page-need half (length es)
-      (cond g (both-cuts half s t l (entry-in es (index-of s es)) X)
-      (parted-cuts half s t l (entry-in es (index-of s es)) (entry-in es (index-of t es)) X)))
-      (sym (ne-eqb (index-of s es) (index-of t es) w))))
+      ∙ ap (page-need half (m .count)) c
+      ∙ (λ j.
+      page-need half (a j .count)
+      (cond (eqb (a j .index) (b j .index)) (both-cuts half s t (v j) (a j .entry) X)
+      (parted-cuts half s t (v j) (a j .entry) (b j .entry) X)))
 
 -- ---- no count is large
 
@@ -285,9 +285,40 @@ unfolding leaf-need
 small-leaf t e h =
     record { adds = omega (arith, ap (λ (m : Need). m .adds) h, leaf-adds t e); pages = omega (arith, ap (λ (m : Need). m .pages) h) }
 
-pub small-apart : (half s t : ℕ) (X : Image) (l : ℕ) (x y : Entry) {n : Need} → l ≤ most-height → n ≡ parted-cuts half s t l x y X → Small n
+small-apart : (half s t : ℕ) (X : Image) (l : ℕ) (x y : Entry) {n : Need} → l ≤ most-height → n ≡ parted-cuts half s t l x y X → Small n
 unfolding add-needs
 small-apart half s t X l x y low h =
     let c = one-most half s X l x in
     let d = one-most half t X l y in
     record { adds = omega (arith, ap (λ (m : Need). m .adds) h); pages = omega (arith, ap (λ (m : Need). m .pages) h) }
+
+-- ---- where the counts go on, by what was found
+
+module _ {img : List ℕ} {t l : ℕ} {e : Entry} {m : Found} (k : Found-below img t l e m) {n : Need}
+    (h : n ≡ one-cut 12 t (l - 1) (m .entry) (image-of 12 img)) where
+  pub one-small : Small n
+  one-small = small-one 12 (image-of 12 img) (l - 1) (m .entry) (omega (arith, k .page .low)) t h
+
+  pub one-inner : {r : Need} → r ≡ page-need 12 (m .count) n → r ≡ one-cut 12 t l e (image-of 12 img)
+  one-inner = inner-one 12 t (image-of 12 img) l e (k .inner) (k .is) h
+
+module _ {img : List ℕ} {s t l : ℕ} {e : Entry} {m m′ : Found} (k : Both-below img s t l e m m′) where
+  abbrev X : Image
+  X = image-of 12 img
+
+  abbrev on : Bool → Need
+  on b = cond b (both-cuts 12 s t (l - 1) (m .entry) X) (parted-cuts 12 s t (l - 1) (m .entry) (m′ .entry) X)
+
+  module _ {n : Need} (h : n ≡ both-cuts 12 s t (l - 1) (m .entry) X) where
+    pub same-small : Small n
+    same-small = small-both 12 X (l - 1) (m .entry) (omega (arith, k .0 .page .low)) s t h
+
+    pub same-inner : {r : Need} → m .index ≡ m′ .index → r ≡ page-need 12 (m .count) n → r ≡ both-cuts 12 s t l e X
+    same-inner same = inner-both 12 s t X l e (k .0 .inner) (k .0 .is) (k .1 .is) (h ∙ ap on (sym (eq-eqb (m .index) (m′ .index) same)))
+
+  module _ {n : Need} (h : n ≡ parted-cuts 12 s t (l - 1) (m .entry) (m′ .entry) X) where
+    pub apart-small : Small n
+    apart-small = small-apart 12 s t X (l - 1) (m .entry) (m′ .entry) (omega (arith, k .0 .page .low)) h
+
+    pub apart-inner : {r : Need} → ¬ (m .index ≡ m′ .index) → r ≡ page-need 12 (m .count) n → r ≡ both-cuts 12 s t l e X
+    apart-inner other = inner-both 12 s t X l e (k .0 .inner) (k .0 .is) (k .1 .is) (h ∙ ap on (sym (ne-eqb (m .index) (m′ .index) other)))

@@ -1,52 +1,66 @@
 -- `page_need::walk::both_cuts` meets its contract. The level falls. Assumes nothing.
-use Prim.Native.Nat.{ℕ, _-_, _<_}
+use Prim.Native.Nat.{ℕ}
 use native.Mathlib.Omega.{arith}
 use borrow.Author.Needs.{needs}
 use borrow.Fn.Kinds.{In}
-use borrow.Fn.PlainCycle.{Measures, is, falls, and}
+use borrow.Fn.PlainCycle.{Measures}
+use Rattle.lists.proofs.Cycles.{at-measure, below-measure}
 use Rattle.image.specs.Images.{image-of}
-use Rattle.page_need.proofs.Below.{fit-some, fit-found, found-most, found-leads, leads-on, later-fit, both-leaf, both-same}
-use Rattle.page_need.proofs.Below.{both-apart}
-use Rattle.page_need.proofs.Below.{small-leaf, small-both, small-apart}
+use Rattle.page_need.proofs.Below.{fit-some, leads-on, later-fit, Both-below, both-below, found-most, found-leads, small-leaf, both-leaf}
+use Rattle.page_need.proofs.Below.{same-small, same-inner, apart-small, apart-inner}
 use Rattle.page_need.proofs.walk.both_cuts.Reads as both-cuts
 use Rattle.page_need.proofs.walk.both_cuts.Kinds as both-cuts-kinds
 use Rattle.page_need.proofs.walk.+both_cuts.Lts-both_cuts as both-cuts-lts
-use Rattle.page_need.proofs.parts.leaf_need.Reads as leaf-need-reads
-use Rattle.page_need.proofs.parts.page_need.Reads as page-need-reads
-use Rattle.page_need.proofs.parts.add_needs.Reads as add-needs-reads
-use Rattle.page_need.proofs.walk.parted_cuts.Reads as parted-cuts-reads
-use Rattle.store.proofs.entries.find_entry.Reads as find-entry-reads
+use Rattle.page_need.proofs.parts.leaf_need.Reads as leaf-need
+use Rattle.page_need.proofs.parts.page_need.Reads as page-need
+use Rattle.page_need.proofs.parts.add_needs.Reads as add-needs
+use Rattle.page_need.proofs.walk.parted_cuts.Reads as parted-cuts
+use Rattle.store.proofs.entries.find_entry.Reads as find-entry
 use Rattle.page_need.proofs.walk.+both_cuts.{statement}
 use Rattle.page_need.proofs.walk.+both_cuts.Tie.{close}
 
 abbrev μ-both-cuts : Measures 1 both-cuts-kinds.ps ℕ
 μ-both-cuts κs a = a .1 .1 .1 .0
 
--- what it is given at the measure t, and what a call of it asks below t
-abbrev both-cuts-at : ℕ → In 1 both-cuts-kinds.ps
-both-cuts-at t = and 1 both-cuts-kinds.ps (is 1 both-cuts-kinds.ps μ-both-cuts t) both-cuts.Pre
+-- what it knows of the functions that it calls, itself among them below the measure
+abbrev known : ℕ → both-cuts-lts.Claims
+known n = (
+  leaf-need.Asked,
+  leaf-need.Learnt,
+  add-needs.Asked,
+  add-needs.Learnt,
+  find-entry.Asked,
+  find-entry.Learnt,
+  below-measure 1 both-cuts-kinds.ps μ-both-cuts both-cuts.Pre n,
+  both-cuts.Post,
+  page-need.Asked,
+  page-need.Learnt,
+  parted-cuts.Asked,
+  parted-cuts.Learnt,
+)
 
-abbrev both-cuts-below : ℕ → In 1 both-cuts-kinds.ps
-both-cuts-below t = and 1 both-cuts-kinds.ps (falls 1 both-cuts-kinds.ps _<_ μ-both-cuts t) both-cuts.Pre
+abbrev given : ℕ → In 1 both-cuts-kinds.ps
+given n = at-measure 1 both-cuts-kinds.ps μ-both-cuts both-cuts.Pre n
+
+-- where the page under the entry had been searched for both instants, and the start
+abbrev Searched : ℕ → Type 0
+Searched n = both-cuts-lts.After-find-entry2 (known n) (given n) both-cuts.Post
+
+abbrev began : (n : ℕ) → Searched n → both-cuts-lts.Start (known n) (given n) both-cuts.Post
+began n c = let first = c .before in first .before .before .before
+
+below : (n : ℕ) (c : Searched n)
+    → Both-below (began n c .args .img .now) (began n c .args .s) (began n c .args .t) (began n c .args .level) (began n c .args .e)
+    (c .before .find-entry .result) (c .find-entry2 .result)
+below n c =
+    let first = c .before in
+    both-below (began n c .args .e) (began n c .pre .1) (first .before .if1 .left) (first .find-entry .ensures) (c .find-entry2 .ensures)
 
 pub +both-cuts-spec : {M : Type 1} → statement M
 +both-cuts-spec =
     close μ-both-cuts
-    (λ t.
-    both-cuts-lts.spec (
-      leaf-need-reads.Asked,
-      leaf-need-reads.Learnt,
-      add-needs-reads.Asked,
-      add-needs-reads.Learnt,
-      find-entry-reads.Asked,
-      find-entry-reads.Learnt,
-      both-cuts-below t,
-      both-cuts.Post,
-      page-need-reads.Asked,
-      page-need-reads.Learnt,
-      parted-cuts-reads.Asked,
-      parted-cuts-reads.Learnt,
-    ) (both-cuts-at t) both-cuts.Post
+    (λ n.
+    both-cuts-lts.spec (known n) (given n) both-cuts.Post
     (λ c κs. search needs) (λ c κs. search needs)
     (λ c κs.
     let leaf = c .before .before in
@@ -60,87 +74,38 @@ pub +both-cuts-spec : {M : Type 1} → statement M
     (second .before .leaf-need .ensures) (second .leaf-need2 .ensures)
     (c .add-needs .ensures))
     -- find-entry-requires
-    (λ c κs.
-    let start = c .before .before in
-    let args = start .args in
-    fit-some (leads-on (args .img .now) (args .s) (args .level) (args .e) (start .pre .1 .0) (c .if1 .left)))
+    (λ c κs. let start = c .before .before in fit-some (leads-on (start .args .e) (start .pre .1 .0) (c .if1 .left)))
     -- find-entry-requires-2
     (λ c κs.
-    let else = c .before in
-    let start = else .before .before in
-    let args = start .args in
-    let k = leads-on (args .img .now) (args .s) (args .level) (args .e) (start .pre .1 .0) (else .if1 .left) in
-    fit-some (later-fit k (start .pre .1 .1)))
+    let start = c .before .before .before in
+    fit-some (later-fit (leads-on (start .args .e) (start .pre .1 .0) (c .before .if1 .left)) (start .pre .1 .1)))
     -- sub-both-cuts
-    (λ c. let second = c .before .before .before in omega (arith, second .before .before .if1 .left))
+    (λ c. omega (arith, below n (c .before .before .before) .0 .inner))
     -- both-cuts-requires
     (λ c κs.
     let second = c .before .before .before in
-    let first = second .before in
-    let else = first .before in
-    let start = else .before .before in
-    let args = start .args in
-    let k = leads-on (args .img .now) (args .s) (args .level) (args .e) (start .pre .1 .0) (else .if1 .left) in
-    (omega (arith, start .pre .0, else .if1 .left), (found-leads k (fit-found k (first .find-entry .ensures)), start .pre .1 .1)))
+    let k = below n second .0 in
+    let pre = began n second .pre in
+    (omega (arith, pre .0, k .inner), (found-leads k, pre .1 .1)))
     -- page-need-requires
     (λ c κs.
     let same = c .before in
-    let second = same .before .before .before in
-    let first = second .before in
-    let else = first .before in
-    let start = else .before .before in
-    let args = start .args in
-    let k = leads-on (args .img .now) (args .s) (args .level) (args .e) (start .pre .1 .0) (else .if1 .left) in (
-      found-most k (fit-found k (first .find-entry .ensures)),
-      small-both 12 (image-of 12 (args .img .now)) (args .level - 1) (first .find-entry .result .entry) (omega (arith, k .low))
-          (args .s) (args .t) (c .both-cuts .ensures),
-    ))
+    let k = below n (same .before .before .before) in
+    (found-most (k .0), same-small k (c .both-cuts .ensures)))
     -- returns-2
     (λ c.
     let same = c .before .before in
-    let second = same .before .before .before in
-    let first = second .before in
-    let else = first .before in
-    let start = else .before .before in
-    let args = start .args in
-    let k = leads-on (args .img .now) (args .s) (args .level) (args .e) (start .pre .1 .0) (else .if1 .left) in
-    both-same 12 (args .s) (args .t) (image-of 12 (args .img .now)) (args .level) (args .e) (else .if1 .left)
-    (fit-found k (first .find-entry .ensures)) (fit-found (later-fit k (start .pre .1 .1)) (second .find-entry2 .ensures))
-    (same .if2 .taken) (c .before .both-cuts .ensures) (c .page-need .ensures))
+    same-inner (below n (same .before .before .before)) (c .before .both-cuts .ensures) (same .if2 .taken) (c .page-need .ensures))
     -- sub-parted-cuts
-    (λ c. let second = c .before .before .before in omega (arith, second .before .before .if1 .left))
+    (λ c. omega (arith, below n (c .before .before .before) .0 .inner))
     -- parted-cuts-requires
-    (λ c κs.
-    let second = c .before .before .before in
-    let first = second .before in
-    let else = first .before in
-    let start = else .before .before in
-    let args = start .args in
-    let k = leads-on (args .img .now) (args .s) (args .level) (args .e) (start .pre .1 .0) (else .if1 .left) in
-    let j = later-fit k (start .pre .1 .1) in
-    (found-leads k (fit-found k (first .find-entry .ensures)), found-leads j (fit-found j (second .find-entry2 .ensures))))
+    (λ c κs. let k = below n (c .before .before .before) in (found-leads (k .0), found-leads (k .1)))
     -- page-need-requires-2
     (λ c κs.
     let other = c .before in
-    let second = other .before .before .before in
-    let first = second .before in
-    let else = first .before in
-    let start = else .before .before in
-    let args = start .args in
-    let k = leads-on (args .img .now) (args .s) (args .level) (args .e) (start .pre .1 .0) (else .if1 .left) in (
-      found-most k (fit-found k (first .find-entry .ensures)),
-      small-apart 12 (args .s) (args .t) (image-of 12 (args .img .now)) (args .level - 1) (first .find-entry .result .entry)
-          (second .find-entry2 .result .entry) (omega (arith, k .low)) (c .parted-cuts .ensures),
-    ))
+    let k = below n (other .before .before .before) in
+    (found-most (k .0), apart-small k (c .parted-cuts .ensures)))
     -- returns-3
     (λ c.
     let other = c .before .before in
-    let second = other .before .before .before in
-    let first = second .before in
-    let else = first .before in
-    let start = else .before .before in
-    let args = start .args in
-    let k = leads-on (args .img .now) (args .s) (args .level) (args .e) (start .pre .1 .0) (else .if1 .left) in
-    both-apart 12 (args .s) (args .t) (image-of 12 (args .img .now)) (args .level) (args .e) (else .if1 .left)
-    (fit-found k (first .find-entry .ensures)) (fit-found (later-fit k (start .pre .1 .1)) (second .find-entry2 .ensures))
-    (other .if2 .left) (c .before .parted-cuts .ensures) (c .page-need2 .ensures)))
+    apart-inner (below n (other .before .before .before)) (c .before .parted-cuts .ensures) (other .if2 .left) (c .page-need2 .ensures)))
