@@ -3,6 +3,7 @@ use fields::fill::UNUSED_BYTE;
 use fields::fill::fill;
 use page::Head;
 use page::Page;
+use page::layout::HALF;
 use page::layout::LEAST_MARK;
 use page::layout::PAGE_BYTES;
 use page::layout::SLOTS;
@@ -38,7 +39,7 @@ fn write_fresh_head(img: &mut [u8], pages: u32, kind: u32, window: u32)
         window,
         changes: 0,
     };
-    write_head_at(img, h)
+    write_head_at(HALF, img, h)
 }
 
 // Writes the root on page 1: "a leaf with entry 0, (0, 0)".
@@ -58,7 +59,7 @@ fn write_fresh_root(img: &mut [u8])
         counts,
         children,
     };
-    write_page_at(img, 1, root)
+    write_page_at(HALF, img, 1, root)
 }
 
 // "Format leaves height 1, changes 0, high mark 2, no chain and root 1, a leaf with entry 0, (0, 0)."

@@ -1,4 +1,5 @@
 // A page of the image: its bytes, lent on.
+use page::layout::HALF;
 use page::layout::PAGE_BYTES;
 use page::pages::page_offset;
 ghost use mathlib.Core.Path.{_≡_};
@@ -10,7 +11,7 @@ pub fn page_at(img: &[u8], p: u32) -> &[u8]
     requires { ⌜ Page-in (now img) p ⌝ }
     ensures { λ r. ⌜ now r ≡ page-at 12 (now (img .entry)) p ⌝ }
 {
-    let a = page_offset(p);
+    let a = page_offset(HALF, p);
     let e = a + PAGE_BYTES;
     &img[a..e]
 }

@@ -7,6 +7,7 @@ use page::Head;
 use page::PageContext;
 use page::at::child_at;
 use page::at::entry_count;
+use page::layout::HALF;
 ghost use mathlib.Core.Path.{_≡_};
 ghost use Rattle.audit.specs.Walks.{Standing, Inner, page-count, page-count-below};
 
@@ -45,5 +46,5 @@ fn audit_entry(img: &[u8], h: Head, at: PageContext, p: u32, i: usize) -> PageCo
 {
     let s = page_at(img, p);
     let below = context_below(s, at, i);
-    audit_page(img, h, below, child_at(s, i))
+    audit_page(img, h, below, child_at(HALF, s, i))
 }

@@ -4,6 +4,7 @@ use page::PageContext;
 use page::at::entry_count;
 use page::at::pair_at;
 use page::at::start_at;
+use page::layout::HALF;
 use rule::limits::END;
 use rule::numbers::magnitude;
 ghost use mathlib.Core.Path.{_≡_};
@@ -48,7 +49,7 @@ pub fn context_below(s: &[u8], at: PageContext, i: usize) -> PageContext
     requires { ⌜ (1 ≤ at .level) × Bounded at ⌝ }
     ensures { λ r. ⌜ r ≡ context-below 12 (now (s .entry)) at i ⌝ }
 {
-    let p = pair_at(s, i);
+    let p = pair_at(HALF, s, i);
     PageContext {
         level: at.level - 1,
         is_root: false,

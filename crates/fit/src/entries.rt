@@ -5,6 +5,7 @@ use page::Head;
 use page::PageContext;
 use page::at::count_and_child_at;
 use page::at::sum_bits_at;
+use page::layout::HALF;
 use rule::top_bits::TOP_BIT;
 use rule::top_bits::at_most;
 use rule::top_bits::within;
@@ -41,7 +42,7 @@ pub(crate) fn entries_ok(s: &[u8], n: usize, h: Head, at: PageContext) -> bool
     let mut over = 0;
     let mut i = 0;
     while i < n {
-        over = over | overstep(l, sum_bits_at(s, i), count_and_child_at(s, i));
+        over = over | overstep(l, sum_bits_at(HALF, s, i), count_and_child_at(HALF, s, i));
         i += 1;
     }
     over < TOP_BIT

@@ -6,6 +6,7 @@ use fit::contexts::context_below;
 use page::at::child_at;
 use page::at::pair_at;
 use page::at::start_at;
+use page::layout::HALF;
 use rule::Pair;
 use rule::combine::combine;
 ghost use mathlib.Core.Path.{_≡_};
@@ -37,7 +38,7 @@ pub(crate) fn total_at(img: &[u8], q: SpanQuery, on: Cursor, i: usize) -> Pair
     ensures { λ r. ⌜ r ≡ cursor-below q (bytes-at (now (img .entry)) on) on i .above ⌝ }
 {
     let above = on.above;
-    combine(q.head.kind, above, pair_at(page_at(img, on.page), i))
+    combine(q.head.kind, above, pair_at(HALF, page_at(img, on.page), i))
 }
 
 // The page below the i-th entry of an inner page.
@@ -51,7 +52,7 @@ pub(crate) fn cursor_below(img: &[u8], q: SpanQuery, on: Cursor, i: usize) -> Cu
     let at = on.at;
     Cursor {
         at: context_below(s, at, i),
-        page: child_at(s, i),
+        page: child_at(HALF, s, i),
         above: total_at(img, q, on, i),
     }
 }

@@ -9,6 +9,7 @@ use page::PageContext;
 use page::at::child_at;
 use page::at::entry_count;
 use page::at::pair_at;
+use page::layout::HALF;
 ghost use mathlib.Core.Path.{_≡_};
 ghost use Prim.Native.Nat.{_≤_, _<_};
 ghost use lib.ListN.{length};
@@ -29,7 +30,7 @@ fn page_answer(s: &[u8], h: Head, at: PageContext, t: u32) -> LevelAnswer
         return LevelAnswer::Unfit;
     }
     let i = find(s, entry_count(s) as usize, t);
-    LevelAnswer::Entry(pair_at(s, i), child_at(s, i), i)
+    LevelAnswer::Entry(pair_at(HALF, s, i), child_at(HALF, s, i), i)
 }
 
 // The answer of page p of the image.

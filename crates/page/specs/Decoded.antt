@@ -21,7 +21,7 @@ unfoldable pub entry-list : Page → List Entry
 entry-list p = listed (p .len) (λ i. slot-at p i)
 
 -- What reading a page gives: all of it where its count of entries is one that a page can have.
-pub record Read (p : Page) (s : List ℕ) : Type 0 where
+pub record Read (half : ℕ) (p : Page) (s : List ℕ) : Type 0 where
   pub level : p .level ≡ level-of s
   pub len : p .len ≡ entry-count s
-  pub entries : entry-count s ≤ capacity 12 → entry-list p ≡ entries-of 12 s
+  pub entries : entry-count s ≤ capacity half → entry-list p ≡ entries-of half s

@@ -7,6 +7,6 @@ use Rattle.page.specs.declared.Entry.{Entry}
 use Rattle.page.specs.Layout.{capacity, tree-bytes}
 
 -- bytes of a tree page become those of the same level with other entries, whatever the level and the entries are
-abbrev pub Edits : List ℕ → List ℕ → (List Entry → List Entry) → Type 0
-Edits before after to =
-    (level : ℕ) (es : List Entry) → length es ≤ capacity 12 → before ≡ tree-bytes 12 level es → after ≡ tree-bytes 12 level (to es)
+abbrev pub Edits : ℕ → List ℕ → List ℕ → (List Entry → List Entry) → Type 0
+Edits half before after to =
+    (level : ℕ) (es : List Entry) → length es ≤ capacity half → before ≡ tree-bytes half level es → after ≡ tree-bytes half level (to es)

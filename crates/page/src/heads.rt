@@ -8,9 +8,9 @@ use super::layout::HEAD_HEIGHT;
 use super::layout::HEAD_KIND;
 use super::layout::HEAD_MARK;
 use super::layout::HEAD_PAGES;
-use super::layout::HEAD_REST;
 use super::layout::HEAD_ROOT;
 use super::layout::HEAD_WINDOW;
+use super::layout::page_size;
 use fields::fill::UNUSED_BYTE;
 use fields::fill::fill;
 use fields::read::get_u32;
@@ -22,7 +22,7 @@ ghost use lib.ListN.{length};
 ghost use Rattle.fields.specs.Bytes.{patch};
 ghost use Rattle.fields.specs.Numbers.{u32-bytes};
 ghost use Rattle.lists.specs.Lists.{concat-map};
-ghost use Rattle.page.specs.Layout.{head-of, head-numbers, head-bytes};
+ghost use Rattle.page.specs.Layout.{page-size, head-of, head-numbers, head-bytes};
 
 // The head's numbers.
 pub fn read_head(s: &[u8]) -> Head
@@ -63,10 +63,10 @@ pub fn write_numbers(s: &mut [u8], h: Head)
 }
 
 // Writes the head: its numbers, the rest unused.
-pub(crate) fn write_head(s: &mut [u8], h: Head)
-    requires { ⌜ length (now s) ≡ 512 ⌝ }
-    ensures { λ _. ⌜ now (s .exit) ≡ head-bytes 12 h ⌝ }
+pub(crate) fn write_head(half: usize, s: &mut [u8], h: Head)
+    requires { ⌜ (length (now s) ≡ page-size half) × (36 ≤ length (now s)) ⌝ }
+    ensures { λ _. ⌜ now (s .exit) ≡ head-bytes half h ⌝ }
 {
     write_numbers(s, h);
-    fill(s, HEAD_BYTES, HEAD_REST, UNUSED_BYTE);
+    fill(s, HEAD_BYTES, page_size(half) - HEAD_BYTES, UNUSED_BYTE);
 }

@@ -1,18 +1,14 @@
 // Where the numbers of a page stand. Document 01, "The page"; docs/FORMAT.md.
 // All that follows from the capacity of a page is derived here: half of it is the one number that differs between chips.
+ghost use mathlib.Core.Path.{_≡_};
+ghost use Prim.Native.Nat.{_<_, _^_};
+ghost use Rattle.page.specs.Layout.{capacity, start-offset, entry-offset, page-size};
 
-// "it has 12 to 24 entries"
-pub const HALF: usize = 12;
+// Half of the greatest capacity: "it has 12 to 24 entries"
+pub const MOST_HALF: usize = 12;
 
-pub const CAPACITY: usize = 2 * HALF;
-
-// The same, as the count of entries of a page has them.
-pub const FEWEST_ENTRIES: u32 = HALF as u32;
-
-pub const MOST_ENTRIES: u32 = CAPACITY as u32;
-
-// Entries of a decoded page: one more than a written page has, for the entry that makes it split.
-pub const SLOTS: usize = CAPACITY + 1;
+// Entries of a decoded page, of whatever capacity: one more than a written page has, for the entry that makes it split.
+pub const SLOTS: usize = 2 * MOST_HALF + 1;
 
 // A tree page: level and count of entries, unused bytes, starts, entries.
 pub const LEVEL_OFFSET: usize = 0;
@@ -25,16 +21,10 @@ pub const STARTS_OFFSET: usize = 32;
 
 pub const START_BYTES: usize = 4;
 
-pub const ENTRIES_OFFSET: usize = STARTS_OFFSET + START_BYTES * CAPACITY;
-
 pub const ENTRY_BYTES: usize = 16;
 
-pub const PAGE_BYTES: usize = ENTRIES_OFFSET + ENTRY_BYTES * CAPACITY;
-
-// The unused bytes before the starts, and all bytes behind the two numbers.
+// The unused bytes before the starts.
 pub const GAP_BYTES: usize = STARTS_OFFSET - GAP_OFFSET;
-
-pub const BODY_BYTES: usize = PAGE_BYTES - GAP_OFFSET;
 
 // Within an entry: sum, count, child.
 pub const COUNT_IN_ENTRY: usize = 8;
@@ -67,8 +57,6 @@ pub const HEAD_CHANGES: usize = 32;
 
 pub const HEAD_BYTES: usize = 36;
 
-pub const HEAD_REST: usize = PAGE_BYTES - HEAD_BYTES;
-
 // "The image is n pages of 512 bytes, n from 2 to 1,024."
 pub const FEWEST_PAGES: usize = 2;
 
@@ -78,3 +66,52 @@ pub const MOST_PAGES: usize = 1024;
 pub const MOST_HEIGHT: u32 = 4;
 
 pub const LEAST_MARK: u32 = 2;
+
+// At document 01's capacity.
+pub const HALF: usize = MOST_HALF;
+
+pub const CAPACITY: usize = 2 * HALF;
+
+pub const FEWEST_ENTRIES: u32 = HALF as u32;
+
+pub const MOST_ENTRIES: u32 = CAPACITY as u32;
+
+pub const ENTRIES_OFFSET: usize = STARTS_OFFSET + START_BYTES * CAPACITY;
+
+pub const PAGE_BYTES: usize = ENTRIES_OFFSET + ENTRY_BYTES * CAPACITY;
+
+pub const BODY_BYTES: usize = PAGE_BYTES - GAP_OFFSET;
+
+pub const HEAD_REST: usize = PAGE_BYTES - HEAD_BYTES;
+
+// How many entries a page has at most.
+pub fn capacity(half: usize) -> usize
+    requires { ⌜ capacity half < 2 ^ 64 ⌝ }
+    ensures { λ r. ⌜ r ≡ capacity half ⌝ }
+{
+    2 * half
+}
+
+// Where the start of the i-th entry stands.
+pub fn start_offset(i: usize) -> usize
+    requires { ⌜ start-offset i < 2 ^ 64 ⌝ }
+    ensures { λ r. ⌜ r ≡ start-offset i ⌝ }
+{
+    STARTS_OFFSET + START_BYTES * i
+}
+
+// Where the sum, the count and the child of the i-th entry stand: behind all starts.
+pub fn entry_offset(half: usize, i: usize) -> usize
+    requires { ⌜ entry-offset half i < 2 ^ 64 ⌝ }
+    ensures { λ r. ⌜ r ≡ entry-offset half i ⌝ }
+{
+    STARTS_OFFSET + START_BYTES * capacity(half) + ENTRY_BYTES * i
+}
+
+// The bytes of a page.
+pub fn page_size(half: usize) -> usize
+    requires { ⌜ page-size half < 2 ^ 64 ⌝ }
+    ensures { λ r. ⌜ r ≡ page-size half ⌝ }
+{
+    STARTS_OFFSET + (START_BYTES + ENTRY_BYTES) * capacity(half)
+}

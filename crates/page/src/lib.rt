@@ -1,10 +1,10 @@
 // A page of the image: the head, a tree page, a free page.
-// Document 01, "The page"; docs/FORMAT.md has the fields' offsets. A tree page, by its bytes:
-//     0    4       level (u32, leaf 0)
-//     4    4       count of entries (u32), at most 24
-//     8    24      unused, FF
-//     32   24 × 4  starts (u32)
-//     128  24 × 16 entries: sum (i64), count (i32), child (u32, 0 in a leaf)
+// Document 01, "The page"; docs/FORMAT.md has the fields' offsets. A tree page of capacity K, by its bytes:
+//     0         4       level (u32, leaf 0)
+//     4         4       count of entries (u32), at most K
+//     8         24      unused, FF
+//     32        4 × K   starts (u32)
+//     32 + 4K   16 × K  entries: sum (i64), count (i32), child (u32, 0 in a leaf)
 // A free page has 255 as its level and its next page at 4; the head has nine u32. All other bytes are FF.
 use layout::SLOTS;
 use rule::Pair;

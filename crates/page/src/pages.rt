@@ -3,46 +3,47 @@ use super::Head;
 use super::Page;
 use super::blank::write_free;
 use super::heads::write_head;
-use super::layout::PAGE_BYTES;
+use super::layout::page_size;
 use super::write::write_page;
 ghost use mathlib.Core.Path.{_≡_};
 ghost use Prim.Native.Nat.{_+_, _*_, _≤_};
 ghost use lib.ListN.{length};
 ghost use Rattle.fields.specs.Bytes.{patch};
-ghost use Rattle.page.specs.Layout.{tree-bytes, free-bytes, head-bytes};
+ghost use Rattle.page.specs.Layout.{capacity, page-size, tree-bytes, free-bytes, head-bytes};
 ghost use Rattle.page.specs.Decoded.{entry-list};
 
 // Where page p begins.
-pub fn page_offset(p: u32) -> usize
-    ensures { λ r. ⌜ r ≡ 512 * p ⌝ }
+pub fn page_offset(half: usize, p: u32) -> usize
+    requires { ⌜ half ≤ 12 ⌝ }
+    ensures { λ r. ⌜ r ≡ page-size half * p ⌝ }
 {
-    PAGE_BYTES * p as usize
+    page_size(half) * p as usize
 }
 
 // Writes the head.
-pub fn write_head_at(img: &mut [u8], h: Head)
-    requires { ⌜ 512 ≤ length (now img) ⌝ }
-    ensures { λ _. ⌜ now (img .exit) ≡ patch (now (img .entry)) 0 (head-bytes 12 h) ⌝ }
+pub fn write_head_at(half: usize, img: &mut [u8], h: Head)
+    requires { ⌜ (page-size half ≤ length (now img)) × (36 ≤ page-size half) ⌝ }
+    ensures { λ _. ⌜ now (img .exit) ≡ patch (now (img .entry)) 0 (head-bytes half h) ⌝ }
 {
-    write_head(&mut img[0..PAGE_BYTES], h)
+    write_head(half, &mut img[0..page_size(half)], h)
 }
 
 // Writes a tree page as page p.
-pub fn write_page_at(img: &mut [u8], p: u32, page: Page)
-    requires { ⌜ (512 * p + 512 ≤ length (now img)) × (page .len ≤ 24) ⌝ }
-    ensures { λ _. ⌜ now (img .exit) ≡ patch (now (img .entry)) (512 * p) (tree-bytes 12 (page .level) (entry-list page)) ⌝ }
+pub fn write_page_at(half: usize, img: &mut [u8], p: u32, page: Page)
+    requires { ⌜ (half ≤ 12) × (page-size half * p + page-size half ≤ length (now img)) × (page .len ≤ capacity half) ⌝ }
+    ensures { λ _. ⌜ now (img .exit) ≡ patch (now (img .entry)) (page-size half * p) (tree-bytes half (page .level) (entry-list page)) ⌝ }
 {
-    let a = page_offset(p);
-    let e = a + PAGE_BYTES;
-    write_page(&mut img[a..e], page)
+    let a = page_offset(half, p);
+    let e = a + page_size(half);
+    write_page(half, &mut img[a..e], page)
 }
 
 // Writes a free page as page p.
-pub fn write_free_at(img: &mut [u8], p: u32, next: u32)
-    requires { ⌜ 512 * p + 512 ≤ length (now img) ⌝ }
-    ensures { λ _. ⌜ now (img .exit) ≡ patch (now (img .entry)) (512 * p) (free-bytes 12 next) ⌝ }
+pub fn write_free_at(half: usize, img: &mut [u8], p: u32, next: u32)
+    requires { ⌜ (half ≤ 12) × (page-size half * p + page-size half ≤ length (now img)) ⌝ }
+    ensures { λ _. ⌜ now (img .exit) ≡ patch (now (img .entry)) (page-size half * p) (free-bytes half next) ⌝ }
 {
-    let a = page_offset(p);
-    let e = a + PAGE_BYTES;
-    write_free(&mut img[a..e], next)
+    let a = page_offset(half, p);
+    let e = a + page_size(half);
+    write_free(half, &mut img[a..e], next)
 }

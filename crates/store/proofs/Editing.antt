@@ -1,7 +1,7 @@
 -- A tree page that is lent to be edited in place, as the 512 bytes from its offset a on: what it shows, and what the image's bytes encode
 -- once it came back with other entries. Assumes nothing.
 use Prim.Native.Nat.{ℕ, _+_, _*_, _-_, _≤_, _<_, _^_}
-use mathlib.Core.Path.{_≡_, sym, ap, subst, _∙_}
+use mathlib.Core.Path.{_≡_, refl, sym, ap, subst, _∙_}
 use mathlib.Core.List.{List, [], _∷_}
 use native.Mathlib.Omega.{arith}
 use lib.ListN.{length}
@@ -40,7 +40,7 @@ module _ {img : List ℕ} {X : Image} {l p : ℕ} (h : Encodes img X) (t : Tree-
     lent = midOf a (a + 512 - a) img
 
     lent-tree : lent ≡ tree-bytes 12 l (entries X p)
-    lent-tree = lent-page img p o ∙ holds-page h (t .within) ∙ tree-written (t .page)
+    lent-tree = lent-page img 512 p o refl ∙ holds-page h (t .within) ∙ tree-written (t .page)
 
     -- how long it is, and how many entries it has
     pub lent-sizes : (length lent ≡ 512) × ((entry-count lent ≡ length (entries X p)) × (length (entries X p) ≤ 24))
@@ -58,7 +58,7 @@ module _ {img : List ℕ} {X : Image} {l p : ℕ} (h : Encodes img X) (t : Tree-
           let w = t .within in
           let k : Canonical 12 (tree l (entries X p)) = subst (Canonical 12) (t .page) (h .sized-kept p (w .least) (w .below)) in
           holds-put h (tree l fs) w (canonical-edited 12 l (entries X p) fs k few (omega arith) fit)
-          (back-page img p o (lent-within h t) kept e)
+          (back-page img 512 p o refl (lent-within h t) kept e)
 
       pub back-set : {i : ℕ} {e : Entry} → i < length (entries X p) → Entry-fits e → ys ≡ with-entry 12 i e lent
           → Encodes (putMid a (a + 512 - a) img ys) (put p (tree l (splice i (e ∷ []) (entries X p))) X)
@@ -68,14 +68,14 @@ module _ {img : List ℕ} {X : Image} {l p : ℕ} (h : Encodes img X) (t : Tree-
           back-edited (splice i (e ∷ []) es) (omega (arith, length-splice-one i e es inside)) (set-fit i es entries-fit fit)
           (same ∙ tree-set 12 l es e i inside few lent-tree)
 
-      pub back-inserted : (i : ℕ) (e : Entry) → length (entries X p) < 24 → Entry-fits e → Edits lent ys (inserted i e)
+      pub back-inserted : (i : ℕ) (e : Entry) → length (entries X p) < 24 → Entry-fits e → Edits 12 lent ys (inserted i e)
           → Encodes (putMid a (a + 512 - a) img ys) (put p (tree l (inserted i e (entries X p))) X)
       back-inserted i e room fit edits =
           let es : List Entry = entries X p in
           back-edited (inserted i e es) (omega (arith, length-inserted i e es)) (inserted-fit i es entries-fit fit)
           (edits l es few-entries lent-tree)
 
-      pub back-removed : (i : ℕ) → i < length (entries X p) → Edits lent ys (splice i [])
+      pub back-removed : (i : ℕ) → i < length (entries X p) → Edits 12 lent ys (splice i [])
           → Encodes (putMid a (a + 512 - a) img ys) (put p (tree l (splice i [] (entries X p))) X)
       back-removed i inside edits =
           let es : List Entry = entries X p in

@@ -76,7 +76,7 @@ module _ {img : List ℕ} {X : Image} (h : Encodes img X) where
         ap entry-count (holds-page (t .within) ∙ tree-written (t .page)) ∙ number-of-tree 12 l es (omega arith) (omega arith) in
         record { level = c .0; entries = c .1; len = n; few = omega arith }
 
-    pub holds-tree : {r : Page} → Read r (part img (512 * p) 512) → Loaded l (entries X p) r
+    pub holds-tree : {r : Page} → Read 12 r (part img (512 * p) 512) → Loaded l (entries X p) r
     holds-tree read =
         let b = tree-read in
         record {

@@ -1,5 +1,6 @@
 // Edits of a tree page in place, on its bytes: a change neither decodes nor writes back what it does not change.
 use page::Entry;
+use page::layout::HALF;
 use page::layout::PAGE_BYTES;
 use page::pages::page_offset;
 use page::slots::insert_slot;
@@ -19,9 +20,9 @@ pub fn set_entry(img: &mut [u8], p: u32, i: usize, e: Entry)
     ensures { λ _. ⌜ Post-level (now (img .entry)) (λ l. Has-entry l p i)
         (λ l X. Encodes (now (img .exit)) (put p (tree l (splice i (e ∷ []) (entries X p))) X)) ⌝ }
 {
-    let a = page_offset(p);
+    let a = page_offset(HALF, p);
     let b = a + PAGE_BYTES;
-    set_slot(&mut img[a..b], i, e)
+    set_slot(HALF, &mut img[a..b], i, e)
 }
 
 // e becomes the i-th entry of page p, which has room for it: those from there on move up by a slot.
@@ -30,9 +31,9 @@ pub fn insert_entry(img: &mut [u8], p: u32, i: usize, e: Entry)
     ensures { λ _. ⌜ Post-level (now (img .entry)) (λ l. Has-room l p i)
         (λ l X. Encodes (now (img .exit)) (put p (tree l (inserted i e (entries X p))) X)) ⌝ }
 {
-    let a = page_offset(p);
+    let a = page_offset(HALF, p);
     let b = a + PAGE_BYTES;
-    insert_slot(&mut img[a..b], i, e)
+    insert_slot(HALF, &mut img[a..b], i, e)
 }
 
 // Page p loses its i-th entry: those behind it move down by a slot, and the last slot is unused then.
@@ -41,7 +42,7 @@ pub fn remove_entry(img: &mut [u8], p: u32, i: usize)
     ensures { λ _. ⌜ Post-level (now (img .entry)) (λ l. Has-entry l p i)
         (λ l X. Encodes (now (img .exit)) (put p (tree l (splice i [] (entries X p))) X)) ⌝ }
 {
-    let a = page_offset(p);
+    let a = page_offset(HALF, p);
     let b = a + PAGE_BYTES;
-    remove_slot(&mut img[a..b], i)
+    remove_slot(HALF, &mut img[a..b], i)
 }

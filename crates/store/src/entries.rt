@@ -6,6 +6,7 @@ use lookup::find::find;
 use page::Entry;
 use page::at::entry_at;
 use page::at::entry_count;
+use page::layout::HALF;
 ghost use mathlib.Core.Path.{_≡_};
 ghost use Prim.Native.Nat.{suc, _≤_};
 ghost use lib.ListN.{length, drop};
@@ -28,7 +29,7 @@ pub fn entry_of(img: &[u8], p: u32, i: usize) -> Entry
     requires { ⌜ Pre-level (now img) (λ l. Has-entry l p i) ⌝ }
     ensures { λ r. ⌜ Post-level (now (img .entry)) (λ l. Has-entry l p i) (λ l X. r ≡ at (entries X p) i) ⌝ }
 {
-    entry_at(page_at(img, p), i)
+    entry_at(HALF, page_at(img, p), i)
 }
 
 // Where the i-th entry of page p ends, if the page ends at hi.
@@ -50,6 +51,6 @@ pub fn find_entry(img: &[u8], p: u32, t: u32) -> Found
     Found {
         count: n,
         index: i,
-        entry: entry_at(s, i),
+        entry: entry_at(HALF, s, i),
     }
 }

@@ -2,6 +2,7 @@
 use access::pages::page_at;
 use page::Page;
 use page::at::next_of;
+use page::layout::HALF;
 use page::pages::write_free_at;
 use page::pages::write_page_at;
 use page::read::read_page;
@@ -18,7 +19,7 @@ pub fn load(img: &[u8], p: u32) -> Page
     requires { ⌜ Pre (now img) (In-image p) ⌝ }
     ensures { λ r. ⌜ Post-level (now (img .entry)) (λ l. Tree-page l p) (λ l X. Loaded l (entries X p) r) ⌝ }
 {
-    read_page(page_at(img, p))
+    read_page(HALF, page_at(img, p))
 }
 
 // The page behind the free page p in the chain, 0 at its end.
@@ -36,7 +37,7 @@ pub fn save(img: &mut [u8], p: u32, page: Page)
     ensures { λ _. ⌜ Post (now (img .entry)) (In-image p)
         (λ X. Encodes (now (img .exit)) (put p (tree (page .level) (entry-list page)) X)) ⌝ }
 {
-    write_page_at(img, p, page)
+    write_page_at(HALF, img, p, page)
 }
 
 // Page p becomes a free page.
@@ -44,5 +45,5 @@ pub(crate) fn set_free(img: &mut [u8], p: u32, next: u32)
     requires { ⌜ Pre (now img) (In-image p) ⌝ }
     ensures { λ _. ⌜ Post (now (img .entry)) (In-image p) (λ X. Encodes (now (img .exit)) (put p (free next) X)) ⌝ }
 {
-    write_free_at(img, p, next)
+    write_free_at(HALF, img, p, next)
 }

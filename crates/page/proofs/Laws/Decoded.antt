@@ -22,11 +22,11 @@ module _ (p : Page) where
   at-shown i h = getD-listed (p .len) (λ j. slot-at p j) no-entry i h
 
   -- a page whose arrays have what stands in s shows the entries of s
-  pub shown-entries : (s : List ℕ) → p .len ≡ entry-count s → ((i : ℕ) → i < capacity 12 → slot-at p i ≡ entry-at 12 s i)
-      → entry-count s ≤ capacity 12 → entry-list p ≡ entries-of 12 s
+  pub shown-entries : (half : ℕ) (s : List ℕ) → p .len ≡ entry-count s → ((i : ℕ) → i < capacity half → slot-at p i ≡ entry-at half s i)
+      → entry-count s ≤ capacity half → entry-list p ≡ entries-of half s
   unfolding entry-list entries-of
-  shown-entries s e f h =
+  shown-entries half s e f h =
       let n : ℕ = entry-count s in
       ap (λ k. listed k (λ i. slot-at p i)) e
-      ∙ listed-same n (λ i. slot-at p i) (λ i. entry-at 12 s i) (λ i l. f i (omega arith))
-      ∙ ap (λ k. listed k (λ i. entry-at 12 s i)) (sym (min-eq-left h))
+      ∙ listed-same n (λ i. slot-at p i) (λ i. entry-at half s i) (λ i l. f i (omega arith))
+      ∙ ap (λ k. listed k (λ i. entry-at half s i)) (sym (min-eq-left h))

@@ -66,5 +66,7 @@ chain-ends-spec =
     (λ c κs. c .before .before .before .pre)
     returns
     (λ c κs. within c)
-    (λ c κs. ap length (c .page-at .ensures) ∙ page-length _ _ (within (c .before)))
+    (λ c κs.
+    let size : length (c .page-at .result .now) ≡ 512 = ap length (c .page-at .ensures) ∙ page-length _ _ (within (c .before)) in
+    omega arith)
     (λ c. omega arith) (λ c. omega arith) loop-again returns-2)

@@ -131,7 +131,7 @@ pub +audit-entry+audit-page-spec : {M : Type 1} → statement M
     (λ c κs.
     let fit = c .before .before .before in
     let lend = fit .before in
-    standing-size (lend .before .before .pre .1) (lend .page-at .ensures))
+    omega (arith, standing-size (lend .before .before .pre .1) (lend .page-at .ensures)))
     (λ c. search needs)
     (λ c.
     let inner = c .before in

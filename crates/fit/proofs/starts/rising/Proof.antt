@@ -32,7 +32,7 @@ rising-spec =
     (tie.spec Inv-loop μ-loop
     (λ c. passed-none _ _)
     (λ c. omega arith)
-    (λ c κs. (omega arith, omega arith))
+    (λ c κs. omega arith)
     (λ c. omega arith)
-    (λ c κs. (omega arith, omega arith))
+    (λ c κs. omega arith)
     (λ c. omega arith) (λ c. omega arith) loop-again returns)

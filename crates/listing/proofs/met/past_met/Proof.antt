@@ -35,5 +35,5 @@ past-met-spec =
     (tie.spec Inv-loop μ-loop
     (λ c. (omega arith, λ k l m. absurd (omega arith)))
     (λ c. omega arith)
-    (λ c κs. (omega arith, omega arith))
+    (λ c κs. omega arith)
     returns (λ c. omega arith) (λ c. omega arith) loop-again returns-2)

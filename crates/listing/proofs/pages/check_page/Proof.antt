@@ -1,6 +1,7 @@
 -- `listing::pages::check_page` meets its contract: the page is fit, or not. Assumes nothing.
 use mathlib.Core.Path.{_≡_, ap, _∙_}
 use lib.ListN.{length}
+use native.Mathlib.Omega.{arith}
 use borrow.Author.Needs.{needs}
 use Rattle.listing.specs.Walks.{page-check}
 use Rattle.listing.proofs.Laws.Stands.{page-length, sits-bounded}
@@ -28,4 +29,4 @@ returns-2 c = rw (← (c .before .before .page-at .ensures), ← (c .before .fou
 pub check-page-spec : {M : Type 1} → statement M
 check-page-spec =
     tie.close
-    (tie.spec (λ c κs. search needs) found-fit-requires (λ c κs. size (c .before .before)) (λ c. search needs) returns returns-2)
+    (tie.spec (λ c κs. search needs) found-fit-requires (λ c κs. omega (arith, size (c .before .before))) (λ c. search needs) returns returns-2)

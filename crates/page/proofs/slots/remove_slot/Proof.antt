@@ -9,26 +9,26 @@ use lib.ListN.{length}
 use Rattle.lists.specs.Lists.{splice}
 use Rattle.page.specs.declared.Entry.{Entry}
 use Rattle.page.specs.Entries.{at, no-entry}
-use Rattle.page.specs.Layout.{entry-at, with-entry, without-entry, tree-bytes}
+use Rattle.page.specs.Layout.{capacity, page-size, entry-at, with-entry, without-entry, tree-bytes}
 use Rattle.page.proofs.Laws.Shifts.{closed, closed-none, closed-more, closed-all, length-closed, length-removed}
 use Rattle.page.proofs.Laws.Trees.{page-bytes, page-copied, page-dropped, page-whole, tree-numbered, tree-count}
 use Rattle.page.proofs.slots.remove_slot.Statement.{statement}
 use Rattle.page.proofs.slots.remove_slot.Tie as tie
 
 -- the page once those up to the j-th moved down
-record Closed (before : List ℕ) (n i j : ℕ) (s : List ℕ) : Type 0 where
+record Closed (half : ℕ) (before : List ℕ) (n i j : ℕ) (s : List ℕ) : Type 0 where
   from : i ≤ j
   within : j ≤ n
-  few : n < 24
-  size : length s ≡ 512
-  bytes : (level : ℕ) (es : List Entry) → length es ≡ n + 1 → before ≡ page-bytes 12 level n es
-      → s ≡ page-bytes 12 level n (closed j (splice i [] es) es)
+  few : n < capacity half
+  size : length s ≡ page-size half
+  bytes : (level : ℕ) (es : List Entry) → length es ≡ n + 1 → before ≡ page-bytes half level n es
+      → s ≡ page-bytes half level n (closed j (splice i [] es) es)
 
 abbrev Inv-loop : tie.InvT-loop
-Inv-loop s₀ i n last j₀ s j = Closed s₀ n i j s
+Inv-loop half s₀ i n last j₀ s j = Closed half s₀ n i j s
 
 abbrev μ-loop : tie.MeasureT-loop
-μ-loop s₀ i n last j₀ s j = last - j
+μ-loop half s₀ i n last j₀ s j = last - j
 
 loop-holds : tie.Need-loop-holds Inv-loop μ-loop
 loop-holds c = record {
@@ -36,21 +36,21 @@ loop-holds c = record {
   within = omega arith;
   few = omega arith;
   size = omega arith;
-  bytes = λ level es n e. e ∙ ap (page-bytes 12 level _) (sym (closed-none _ es));
+  bytes = λ level es n e. e ∙ ap (page-bytes _ level _) (sym (closed-none _ es));
 }
 
 -- the entry behind the j-th slot moves there
-step : (level number i j : ℕ) (es : List Entry) {s t : List ℕ} {e : Entry} → i ≤ j → suc j < length es → length es ≤ 24
-    → t ≡ with-entry 12 j e s → e ≡ entry-at 12 s (j + 1) → s ≡ page-bytes 12 level number (closed j (splice i [] es) es)
-    → t ≡ page-bytes 12 level number (closed (j + 1) (splice i [] es) es)
-step level number i j es h g l moved read before =
+step : (half level number i j : ℕ) (es : List Entry) {s t : List ℕ} {e : Entry} → i ≤ j → suc j < length es → length es ≤ capacity half
+    → t ≡ with-entry half j e s → e ≡ entry-at half s (j + 1) → s ≡ page-bytes half level number (closed j (splice i [] es) es)
+    → t ≡ page-bytes half level number (closed (j + 1) (splice i [] es) es)
+step half level number i j es h g l moved read before =
     let rs : List Entry = splice i [] es in
     let n : length rs + 1 ≡ length es = length-removed i es (omega arith) in
     let m = length-closed j rs es in
     moved
-    ∙ (λ k. with-entry 12 j ((read ∙ (λ b. entry-at 12 (before b) (add-one j b))) k) (before k))
-    ∙ page-copied 12 level number (closed j rs es) (suc j) j (omega arith) (omega arith) (omega arith) (omega arith)
-    ∙ ap (page-bytes 12 level number) (closed-more i j es no-entry h g ∙ ap (λ k. closed k rs es) (sym (add-one j)))
+    ∙ (λ k. with-entry half j ((read ∙ (λ b. entry-at half (before b) (add-one j b))) k) (before k))
+    ∙ page-copied half level number (closed j rs es) (suc j) j (omega arith) (omega arith) (omega arith) (omega arith)
+    ∙ ap (page-bytes half level number) (closed-more i j es no-entry h g ∙ ap (λ k. closed k rs es) (sym (add-one j)))
 
 loop-again : tie.Need-loop-again Inv-loop μ-loop
 loop-again c =
@@ -64,22 +64,22 @@ loop-again c =
       few = at .loop .inv .few;
       size = omega arith;
       bytes = λ level es n e.
-          step level _ _ (at .loop .j) es (at .loop .inv .from) (omega arith) (omega arith) (moved .set-slot .ensures)
+          step _ level _ _ (at .loop .j) es (at .loop .inv .from) (omega arith) (omega arith) (moved .set-slot .ensures)
           (read .entry-at .ensures) (at .loop .inv .bytes level es n e);
     }
 
 -- the last slot is unused, and the page says how many it has
-cleared : (level n i : ℕ) (es : List Entry) {s t : List ℕ} → length es ≡ n + 1 → n < 24 → i ≤ n → t ≡ without-entry 12 n s
-    → s ≡ page-bytes 12 level n (closed n (splice i [] es) es) → t ≡ tree-bytes 12 level (splice i [] es)
-cleared level n i es same few h last before =
+cleared : (half level n i : ℕ) (es : List Entry) {s t : List ℕ} → length es ≡ n + 1 → n < capacity half → i ≤ n → t ≡ without-entry half n s
+    → s ≡ page-bytes half level n (closed n (splice i [] es) es) → t ≡ tree-bytes half level (splice i [] es)
+cleared half level n i es same few h last before =
     let rs : List Entry = splice i [] es in
     let d : length rs + 1 ≡ length es = length-removed i es (omega arith) in
     let m : n ≡ length rs = omega arith in
     last
-    ∙ (λ k. without-entry 12 (m k) ((before ∙ ap (λ k. page-bytes 12 level n (closed k rs es)) m) k))
-    ∙ ap (λ l. without-entry 12 (length rs) (page-bytes 12 level n l)) (closed-all rs es no-entry d)
-    ∙ page-dropped 12 level n rs (at es (length rs)) (omega arith)
-    ∙ page-whole 12 level n rs (sym m)
+    ∙ (λ k. without-entry half (m k) ((before ∙ ap (λ k. page-bytes half level n (closed k rs es)) m) k))
+    ∙ ap (λ l. without-entry half (length rs) (page-bytes half level n l)) (closed-all rs es no-entry d)
+    ∙ page-dropped half level n rs (at es (length rs)) (omega arith)
+    ∙ page-whole half level n rs (sym m)
 
 returns : tie.Need-returns Inv-loop μ-loop
 returns c level es within e =
@@ -89,12 +89,13 @@ returns c level es within e =
     let put = at .before .before .before in
     let counted = put .before .before in
     let start = counted .before .before .before in
+    let half = start .args .half in
     let n = counted .entry-count .result - 1 in
-    let same : length es ≡ n + 1 = omega (arith, counted .entry-count .ensures ∙ tree-count 12 level es within (omega arith) e) in
+    let same : length es ≡ n + 1 = omega (arith, counted .entry-count .ensures ∙ tree-count half level es within (omega arith) e) in
     let j : at .loop .j ≡ n = omega arith in
-    cleared level n (start .args .i) es same (at .loop .inv .few) (omega arith) (clear .clear-slot .ensures)
-    (at .loop .inv .bytes level es same (tree-numbered 12 level es n e (put .put-u32 .ensures))
-    ∙ ap (λ k. page-bytes 12 level n (closed k (splice (start .args .i) [] es) es)) j)
+    cleared half level n (start .args .i) es same (at .loop .inv .few) (omega arith) (clear .clear-slot .ensures)
+    (at .loop .inv .bytes level es same (tree-numbered half level es n e (put .put-u32 .ensures))
+    ∙ ap (λ k. page-bytes half level n (closed k (splice (start .args .i) [] es) es)) j)
 
 pub remove-slot-spec : {M : Type 1} → statement M
 remove-slot-spec =

@@ -24,7 +24,7 @@ returns c =
     let e = args .e in
     written .write-entry .ensures
     ∙ (λ j.
-    with-entry 12 (args .i)
+    with-entry (args .half) (args .i)
     (entry (e .start)
     (record { sum = toZ-ofZ w64 (e .pair .sum) (sum-fits told) j; count = toZ-ofZ w32 (e .pair .count) (count-fits told) j }) (e .child))
     (args .s .now))

@@ -12,7 +12,7 @@ returns c X h l k =
     let edited = c .before .before in
     let found = edited .before .before in
     let start = found .before .before in
-    back-inserted h (k .tree-page) (found .page-offset .ensures) (edited .insert-slot .kept .0) (start .args .i) (start .args .e) (k .room)
+    back-inserted h (k .tree-page) (found .page-offset .ensures) (edited .insert-slot .kept .1 .0) (start .args .i) (start .args .e) (k .room)
     (entry-fits _ _ (start .good .1 .1 .1 .0)) (edited .insert-slot .ensures)
 
 pub insert-entry-spec : {M : Type 1} → statement M

@@ -10,7 +10,7 @@ returns : tie.Need-returns
 returns c X h l k =
     let edited = c .before .before in
     let found = edited .before .before in
-    back-removed h (k .tree-page) (found .page-offset .ensures) (edited .remove-slot .kept .0) (found .before .before .args .i) (k .inside)
+    back-removed h (k .tree-page) (found .page-offset .ensures) (edited .remove-slot .kept .1 .0) (found .before .before .args .i) (k .inside)
     (edited .remove-slot .ensures)
 
 pub remove-entry-spec : {M : Type 1} → statement M

@@ -11,7 +11,7 @@ returns : tie.Need-returns
 returns c X h l k =
     let edited = c .before .before in
     let found = edited .before .before in
-    back-set h (k .tree-page) (found .page-offset .ensures) (edited .set-slot .kept .0) (k .inside)
+    back-set h (k .tree-page) (found .page-offset .ensures) (edited .set-slot .kept .1 .0) (k .inside)
     (entry-fits _ _ (found .before .before .good .1 .1 .1 .0)) (edited .set-slot .ensures)
 
 pub set-entry-spec : {M : Type 1} → statement M

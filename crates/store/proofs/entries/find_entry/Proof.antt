@@ -1,4 +1,5 @@
 -- `store::entries::find_entry` meets its contract: the part lent is the page, and its starts are its entries'. Assumes nothing.
+use native.Mathlib.Omega.{arith}
 use borrow.Author.Needs.{needs}
 use Rattle.store.proofs.Reading.{lent-within, lent-size, lent-searched, lent-inside, lent-found}
 use Rattle.store.proofs.entries.find_entry.Statement.{statement}
@@ -8,7 +9,9 @@ page-at-requires : tie.Need-page-at-requires
 page-at-requires c κs = let pre = c .before .pre in lent-within (pre .holds) (pre .ready .1 .tree-page)
 
 entry-count-requires : tie.Need-entry-count-requires
-entry-count-requires c κs = let pre = c .before .before .pre in lent-size (pre .holds) (pre .ready .1 .tree-page) (c .page-at .ensures)
+entry-count-requires c κs =
+    let pre = c .before .before .pre in
+    omega (arith, lent-size (pre .holds) (pre .ready .1 .tree-page) (c .page-at .ensures))
 
 find-requires : tie.Need-find-requires
 find-requires c κs =

@@ -2,6 +2,7 @@
 use mathlib.Core.Path.{subst}
 use mathlib.Core.List.{List}
 use Prim.Native.Nat.{ℕ}
+use native.Mathlib.Omega.{arith}
 use Rattle.page.specs.Decoded.{Read}
 use Rattle.image.specs.Images.{page-at}
 use Rattle.store.proofs.Encoding.{some-long, some-size, holds-tree}
@@ -11,8 +12,9 @@ use Rattle.store.proofs.pages.load.Tie as tie
 returns : tie.Need-returns
 unfolding page-at
 returns c X h l t = holds-tree h t
-    (subst (λ (s : List ℕ). Read (c .read-page .result) s) (c .before .page-at .ensures) (c .read-page .ensures))
+    (subst (λ (s : List ℕ). Read 12 (c .read-page .result) s) (c .before .page-at .ensures) (c .read-page .ensures))
 
 pub load-spec : {M : Type 1} → statement M
 load-spec =
-    tie.close (tie.spec (λ c κs. some-long (c .before .pre)) (λ c κs. some-size (c .before .before .pre) (c .page-at .ensures)) returns)
+    tie.close
+    (tie.spec (λ c κs. some-long (c .before .pre)) (λ c κs. (omega arith, some-size (c .before .before .pre) (c .page-at .ensures))) returns)

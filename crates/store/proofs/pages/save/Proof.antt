@@ -22,4 +22,4 @@ returns c X h w =
 
 pub save-spec : {M : Type 1} → statement M
 save-spec =
-    tie.close (tie.spec (λ c κs. (some-long (c .before .before .pre .0), omega arith)) (λ c. omega arith) returns)
+    tie.close (tie.spec (λ c κs. (omega arith, some-long (c .before .before .pre .0), omega arith)) (λ c. omega arith) returns)
