@@ -3,30 +3,26 @@ use fields::fill::UNUSED_BYTE;
 use fields::fill::fill;
 use page::Head;
 use page::Page;
-use page::layout::HALF;
 use page::layout::LEAST_MARK;
-use page::layout::PAGE_BYTES;
 use page::layout::SLOTS;
+use page::layout::page_size;
 use page::pages::write_head_at;
 use page::pages::write_page_at;
 ghost use mathlib.Core.Path.{_≡_};
 ghost use mathlib.Core.Bool.{true};
 ghost use mathlib.Core.List.{[], _∷_};
-ghost use Prim.Native.Nat.{_≤_};
+ghost use Prim.Native.Nat.{_*_, _≤_};
 ghost use lib.ListN.{length};
 ghost use Rattle.rule.specs.Pairs.{none};
 ghost use Rattle.fields.specs.Bytes.{patch};
 ghost use Rattle.page.specs.Entries.{entry};
-ghost use Rattle.page.specs.Layout.{head-bytes, tree-bytes};
+ghost use Rattle.page.specs.Layout.{page-size, head-bytes, tree-bytes};
 ghost use Rattle.image.specs.Images.{pages-in, length-ok, image-bytes, fresh};
 
-// The head and the root: the first two pages.
-const FRESH_BYTES: usize = 2 * PAGE_BYTES;
-
 // Writes the head: "height 1, changes 0, high mark 2, no chain and root 1".
-fn write_fresh_head(img: &mut [u8], pages: u32, kind: u32, window: u32)
-    requires { ⌜ 512 ≤ length (now img) ⌝ }
-    ensures { λ _. ⌜ now (img .exit) ≡ patch (now (img .entry)) 0 (head-bytes 12 (fresh pages kind window .head)) ⌝ }
+fn write_fresh_head(half: usize, img: &mut [u8], pages: u32, kind: u32, window: u32)
+    requires { ⌜ (1 ≤ half) × (page-size half ≤ length (now img)) ⌝ }
+    ensures { λ _. ⌜ now (img .exit) ≡ patch (now (img .entry)) 0 (head-bytes half (fresh pages kind window .head)) ⌝ }
 {
     let h = Head {
         pages,
@@ -39,13 +35,13 @@ fn write_fresh_head(img: &mut [u8], pages: u32, kind: u32, window: u32)
         window,
         changes: 0,
     };
-    write_head_at(HALF, img, h)
+    write_head_at(half, img, h)
 }
 
 // Writes the root on page 1: "a leaf with entry 0, (0, 0)".
-fn write_fresh_root(img: &mut [u8])
-    requires { ⌜ 1024 ≤ length (now img) ⌝ }
-    ensures { λ _. ⌜ now (img .exit) ≡ patch (now (img .entry)) 512 (tree-bytes 12 0 (entry 0 none 0 ∷ [])) ⌝ }
+fn write_fresh_root(half: usize, img: &mut [u8])
+    requires { ⌜ (1 ≤ half) × (half ≤ 12) × (2 * page-size half ≤ length (now img)) ⌝ }
+    ensures { λ _. ⌜ now (img .exit) ≡ patch (now (img .entry)) (page-size half) (tree-bytes half 0 (entry 0 none 0 ∷ [])) ⌝ }
 {
     let starts = [0u32; SLOTS];
     let sums = [0i64; SLOTS];
@@ -59,16 +55,17 @@ fn write_fresh_root(img: &mut [u8])
         counts,
         children,
     };
-    write_page_at(HALF, img, 1, root)
+    write_page_at(half, img, 1, root)
 }
 
 // "Format leaves height 1, changes 0, high mark 2, no chain and root 1, a leaf with entry 0, (0, 0)."
-pub fn write_fresh(img: &mut [u8], kind: u32, window: u32)
-    requires { ⌜ length-ok 12 (now img) ≡ true ⌝ }
-    ensures { λ _. ⌜ now (img .exit) ≡ image-bytes 12 (fresh (pages-in 12 (now (img .entry))) kind window) ⌝ }
+pub fn write_fresh(half: usize, img: &mut [u8], kind: u32, window: u32)
+    requires { ⌜ (1 ≤ half) × (half ≤ 12) × (length-ok half (now img) ≡ true) ⌝ }
+    ensures { λ _. ⌜ now (img .exit) ≡ image-bytes half (fresh (pages-in half (now (img .entry))) kind window) ⌝ }
 {
-    let size = img.len();
-    write_fresh_head(img, (size / PAGE_BYTES) as u32, kind, window);
-    write_fresh_root(img);
-    fill(img, FRESH_BYTES, size - FRESH_BYTES, UNUSED_BYTE);
+    let length = img.len();
+    let size = page_size(half);
+    write_fresh_head(half, img, (length / size) as u32, kind, window);
+    write_fresh_root(half, img);
+    fill(img, 2 * size, length - 2 * size, UNUSED_BYTE);
 }

@@ -35,7 +35,7 @@ unfolding never-used-ok page-at
 never-parts half img mark m = all-parts 255 img (page-size half) mark m
 
 -- a page that is free lies in the image
-pub free-within : (img : List ℕ) (n p : ℕ) → length img ≡ 512 * n → leads-to-free 12 img n p ≡ true → Page-in img p
+pub free-within : (img : List ℕ) (n p : ℕ) → length img ≡ 512 * n → leads-to-free 12 img n p ≡ true → Page-in 12 img p
 unfolding leads-to-free
 free-within img n p e h =
     let parts = simp and-eq-true-iff at h in

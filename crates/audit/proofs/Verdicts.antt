@@ -27,14 +27,14 @@ use Rattle.soundness.proofs.Counting.{counting-sound}
 
 -- and a is what the walk from the root down answered
 pub record Walked (img : List ℕ) (h : Head) (a : PageCount) : Type 0 where
-  pub opened : Open-image img h
+  pub opened : Open-image 12 img h
   pub answer : a ≡ page-count 12 h img (root-context h) (h .root)
 
 pub unsound-head : (img : List ℕ) → length-ok 12 img ≡ true → head-test 12 img ≡ false → false ≡ sound 12 img
 unfolding sound-by-counting
 unsound-head img ok f = passes ok (fails _ f) ∙ counting-sound 12 img
 
-module _ {img : List ℕ} {h : Head} (o : Open-image img h) where
+module _ {img : List ℕ} {h : Head} (o : Open-image 12 img h) where
   pub root-standing : Standing img h (root-context h) (h .root)
   root-standing =
       let r = opened-ranges o in

@@ -84,12 +84,12 @@ module _ (half : ℕ) (h : Head) (img : List ℕ) (at : Page-context) (p : ℕ) 
 
 -- ---- where the walk may go
 
-pub standing-within : {img : List ℕ} {h : Head} {at : Page-context} {p : ℕ} → Standing img h at p → Page-in img p
+pub standing-within : {img : List ℕ} {h : Head} {at : Page-context} {p : ℕ} → Standing img h at p → Page-in 12 img p
 standing-within w = omega (arith, w .size, w .below)
 
 pub standing-size : {img : List ℕ} {h : Head} {at : Page-context} {p : ℕ} {s : List ℕ} → Standing img h at p
     → s ≡ page-at 12 img p → length s ≡ 512
-standing-size w d = ap length d ∙ page-length _ _ (standing-within w)
+standing-size w d = ap length d ∙ page-length 12 _ _ (standing-within w)
 
 pub standing-bounded : {img : List ℕ} {h : Head} {at : Page-context} {p : ℕ} → Standing img h at p → Bounded at
 standing-bounded w = path-bounded (w .path) (w .changes)

@@ -6,6 +6,7 @@ use page::at::next_of;
 use page::layout::BODY_BYTES;
 use page::layout::FREE_LEVEL;
 use page::layout::GAP_OFFSET;
+use page::layout::HALF;
 ghost use mathlib.Core.Path.{_≡_};
 ghost use Prim.Native.Nat.{_*_};
 ghost use lib.ListN.{length};
@@ -32,7 +33,7 @@ fn leads_to_free(img: &[u8], n: u32, p: u32) -> bool
     if n <= p {
         return false;
     }
-    free_ok(page_at(img, p))
+    free_ok(page_at(HALF, img, p))
 }
 
 // Whether the chain from its first page on ends after k free pages: one that returns to itself never ends.
@@ -46,7 +47,7 @@ pub(crate) fn chain_ends(img: &[u8], n: u32, k: u32, first: u32) -> bool
         if !leads_to_free(img, n, p) {
             return false;
         }
-        p = next_of(page_at(img, p));
+        p = next_of(page_at(HALF, img, p));
         left -= 1;
     }
     p == 0

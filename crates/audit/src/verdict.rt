@@ -6,6 +6,7 @@ use super::walk::audit_page;
 use access::HeadCheck;
 use access::heads::open_head;
 use fit::contexts::root_context;
+use page::layout::HALF;
 ghost use mathlib.Core.Path.{_≡_};
 ghost use mathlib.Core.Bool.{true};
 ghost use Prim.Native.Nat.{_+_, _*_, _-_, _≤_};
@@ -28,7 +29,7 @@ pub fn sound(img: &[u8]) -> bool
     requires { ⌜ length-ok 12 (now img) ≡ true ⌝ }
     ensures { λ r. ⌜ r ≡ sound 12 (now (img .entry)) ⌝ }
 {
-    let HeadCheck::Fit(h) = open_head(img) else {
+    let HeadCheck::Fit(h) = open_head(HALF, img) else {
         return false;
     };
     let PageCount::Fit(tree) = audit_page(img, h, root_context(h), h.root) else {

@@ -17,8 +17,8 @@ pub(crate) fn audit_page(img: &[u8], h: Head, at: PageContext, p: u32) -> PageCo
     requires { ⌜ Standing (now img) h at p ⌝ }
     ensures { λ r. ⌜ r ≡ page-count 12 h (now (img .entry)) at p ⌝ }
 {
-    let s = page_at(img, p);
-    if !page_fit(s, h, at) {
+    let s = page_at(HALF, img, p);
+    if !page_fit(HALF, s, h, at) {
         return PageCount::Unfit;
     }
     let mut pages = 1;
@@ -44,7 +44,7 @@ fn audit_entry(img: &[u8], h: Head, at: PageContext, p: u32, i: usize) -> PageCo
     requires { ⌜ Inner (now img) h at p i ⌝ }
     ensures { λ r. ⌜ r ≡ page-count-below 12 h (now (img .entry)) at p i ⌝ }
 {
-    let s = page_at(img, p);
-    let below = context_below(s, at, i);
+    let s = page_at(HALF, img, p);
+    let below = context_below(HALF, s, at, i);
     audit_page(img, h, below, child_at(HALF, s, i))
 }

@@ -5,6 +5,7 @@ use calls::refusals::IMAGE_LENGTH;
 use calls::refusals::SCRATCH_SHORT;
 use calls::refusals::SPAN_EMPTY;
 use calls::refusals::VALUE_RANGE;
+use page::layout::HALF;
 use page::layout::PAGE_BYTES;
 use rule::time::value_ok;
 ghost use mathlib.Core.Path.{_≡_};
@@ -15,7 +16,7 @@ ghost use Rattle.calls.specs.Calls.{book-input-rows};
 pub(crate) fn check_input(img: &[u8], scratch: &[u8], v: i64, s: u32, e: u32) -> u32
     ensures { λ r. ⌜ r ≡ first (book-input-rows 12 v s e (now (img .entry)) (now (scratch .entry))) ⌝ }
 {
-    let whole = length_fits(img);
+    let whole = length_fits(HALF, img);
     let room = img.len() / PAGE_BYTES <= scratch.len();
     let span = s < e;
     let fits = value_ok(v);

@@ -7,6 +7,7 @@ use calls::refusals::PAGES_LACKING;
 use calls::refusals::UNSOUND;
 use calls::refusals::WITHDRAWAL_KIND;
 use page::heads::read_head;
+use page::layout::HALF;
 use page_need::verdict::lacks_pages;
 use rule::limits::MOST_CHANGES;
 use rule::limits::TOTALS;
@@ -27,7 +28,7 @@ pub(crate) fn check_state(img: &[u8], withdraws: bool, s: u32, e: u32) -> StateC
     if !sound(img) {
         return StateCheck::Refused(UNSOUND);
     }
-    let h = read_head(page_at(img, 0));
+    let h = read_head(page_at(HALF, img, 0));
     if withdraws & (h.kind != TOTALS) {
         return StateCheck::Refused(WITHDRAWAL_KIND);
     }

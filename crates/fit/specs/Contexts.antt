@@ -4,7 +4,7 @@ use mathlib.Core.Path.{_≡_}
 use mathlib.Core.List.{List}
 use lib.ListN.{length}
 use Rattle.rule.specs.Averages.{most-sum}
-use Rattle.page.specs.Layout.{entry-count}
+use Rattle.page.specs.Layout.{capacity, page-size, entry-count}
 use Rattle.page.specs.Fit.{Page-context, most-changes}
 
 -- what keeps the sums along a path within 64 bits, whatever the next page shows
@@ -12,9 +12,9 @@ pub record Bounded (at : Page-context) : Type 0 where
   pub sums : at .sums ≤ most-sum
   pub counts : at .counts ≤ most-changes
 
--- n is the count of entries of a page, and has been compared with 24
-pub record Compared (s : List ℕ) (n : ℕ) : Type 0 where
-  pub size : length s ≡ 512
+-- n is the count of entries of a page, and has been compared with the page's capacity
+pub record Compared (half : ℕ) (s : List ℕ) (n : ℕ) : Type 0 where
+  pub size : length s ≡ page-size half
   pub len : n ≡ entry-count s
   pub some : 1 ≤ n
-  pub most : n ≤ 24
+  pub most : n ≤ capacity half

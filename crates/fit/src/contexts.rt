@@ -4,14 +4,13 @@ use page::PageContext;
 use page::at::entry_count;
 use page::at::pair_at;
 use page::at::start_at;
-use page::layout::HALF;
 use rule::limits::END;
 use rule::numbers::magnitude;
 ghost use mathlib.Core.Path.{_≡_};
 ghost use Prim.Native.Nat.{_≤_, _<_};
 ghost use lib.ListN.{length};
 ghost use Rattle.page.specs.Fit.{root-context, end-at, context-below};
-ghost use Rattle.page.specs.Layout.{entry-count};
+ghost use Rattle.page.specs.Layout.{capacity, start-offset, page-size, entry-count};
 ghost use Rattle.fit.specs.Contexts.{Bounded};
 
 // The root's context: "(root: height − 1)", "(root: 0)", "(root: END)".
@@ -31,8 +30,7 @@ pub fn root_context(h: Head) -> PageContext
 
 // Where the i-th entry ends: at the next one's start, the last at the page's own end.
 pub fn end_at(s: &[u8], hi: u32, i: usize) -> u32
-    requires { ⌜ length (now s) ≡ 512 ⌝ }
-    requires { ⌜ (i < 24) × (entry-count (now s) ≤ 24) ⌝ }
+    requires { ⌜ (start-offset (entry-count (now s)) ≤ length (now s)) × (i < length (now s)) ⌝ }
     ensures { λ r. ⌜ r ≡ end-at (now (s .entry)) hi i ⌝ }
 {
     if i + 1 < entry_count(s) as usize {
@@ -43,13 +41,13 @@ pub fn end_at(s: &[u8], hi: u32, i: usize) -> u32
 }
 
 // The context of the page under the i-th entry of an inner page: the entry's absolute sum and count are added up along the path.
-pub fn context_below(s: &[u8], at: PageContext, i: usize) -> PageContext
-    requires { ⌜ length (now s) ≡ 512 ⌝ }
-    requires { ⌜ (i < 24) × (entry-count (now s) ≤ 24) ⌝ }
+pub fn context_below(half: usize, s: &[u8], at: PageContext, i: usize) -> PageContext
+    requires { ⌜ length (now s) ≡ page-size half ⌝ }
+    requires { ⌜ (i < capacity half) × (entry-count (now s) ≤ capacity half) ⌝ }
     requires { ⌜ (1 ≤ at .level) × Bounded at ⌝ }
-    ensures { λ r. ⌜ r ≡ context-below 12 (now (s .entry)) at i ⌝ }
+    ensures { λ r. ⌜ r ≡ context-below half (now (s .entry)) at i ⌝ }
 {
-    let p = pair_at(HALF, s, i);
+    let p = pair_at(half, s, i);
     PageContext {
         level: at.level - 1,
         is_root: false,

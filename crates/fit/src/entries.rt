@@ -5,7 +5,6 @@ use page::Head;
 use page::PageContext;
 use page::at::count_and_child_at;
 use page::at::sum_bits_at;
-use page::layout::HALF;
 use rule::top_bits::TOP_BIT;
 use rule::top_bits::at_most;
 use rule::top_bits::within;
@@ -34,15 +33,15 @@ fn overstep(l: Limits, sum: u64, mark: u64) -> u64
 }
 
 // Whether the pairs and children of a page of n entries may stand there: no exit in the loop, and one comparison behind it.
-pub(crate) fn entries_ok(s: &[u8], n: usize, h: Head, at: PageContext) -> bool
-    requires { ⌜ Compared (now s) n ⌝ }
-    ensures { λ r. ⌜ r ≡ children-ok 12 (h .pages) at (now (s .entry)) && pairs-ok 12 h at (now (s .entry)) ⌝ }
+pub(crate) fn entries_ok(half: usize, s: &[u8], n: usize, h: Head, at: PageContext) -> bool
+    requires { ⌜ Compared half (now s) n ⌝ }
+    ensures { λ r. ⌜ r ≡ children-ok half (h .pages) at (now (s .entry)) && pairs-ok half h at (now (s .entry)) ⌝ }
 {
     let l = limits(h, at);
     let mut over = 0;
     let mut i = 0;
     while i < n {
-        over = over | overstep(l, sum_bits_at(HALF, s, i), count_and_child_at(HALF, s, i));
+        over = over | overstep(l, sum_bits_at(half, s, i), count_and_child_at(half, s, i));
         i += 1;
     }
     over < TOP_BIT

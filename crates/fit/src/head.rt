@@ -3,14 +3,16 @@ use fields::fill::all_ff;
 use page::Head;
 use page::heads::read_head;
 use page::layout::HEAD_BYTES;
-use page::layout::HEAD_REST;
 use page::layout::LEAST_MARK;
 use page::layout::MOST_HEIGHT;
+use page::layout::page_size;
 use rule::limits::MOST_CHANGES;
 use rule::time::kind_ok;
 use rule::time::window_ok;
 ghost use mathlib.Core.Path.{_≡_};
+ghost use Prim.Native.Nat.{_≤_};
 ghost use lib.ListN.{length};
+ghost use Rattle.page.specs.Layout.{page-size};
 ghost use Rattle.page.specs.Fit.{ranges-ok, head-fit};
 
 // "n matches the length, changes ≤ 1,000,000,000, the root lies in 1 to n−1, the chain's first page is 0 or there, the other
@@ -31,10 +33,10 @@ fn ranges_ok(h: Head, pages: u32) -> bool
         & (h.changes <= MOST_CHANGES)
 }
 
-// Whether page 0 is the fit head of an image of so many pages, for any 512 bytes: ranges, "and its rest is FF".
-pub fn head_fit(s: &[u8], pages: u32) -> bool
-    requires { ⌜ length (now s) ≡ 512 ⌝ }
-    ensures { λ r. ⌜ r ≡ head-fit 12 pages (now (s .entry)) ⌝ }
+// Whether page 0 is the fit head of an image of so many pages, for any bytes of a page: ranges, "and its rest is FF".
+pub fn head_fit(half: usize, s: &[u8], pages: u32) -> bool
+    requires { ⌜ (1 ≤ half) × (length (now s) ≡ page-size half) ⌝ }
+    ensures { λ r. ⌜ r ≡ head-fit half pages (now (s .entry)) ⌝ }
 {
-    ranges_ok(read_head(s), pages) & all_ff(s, HEAD_BYTES, HEAD_REST)
+    ranges_ok(read_head(s), pages) & all_ff(s, HEAD_BYTES, page_size(half) - HEAD_BYTES)
 }

@@ -28,7 +28,7 @@ pub(crate) fn run_start(img: &[u8], q: SpanQuery, on: Cursor, i: usize) -> u32
     requires { ⌜ Valid-entry (now img) q on i ⌝ }
     ensures { λ r. ⌜ r ≡ max (q .a) (start-at (bytes-at (now (img .entry)) on) i) ⌝ }
 {
-    later(q.a, start_at(page_at(img, on.page), i))
+    later(q.a, start_at(page_at(HALF, img, on.page), i))
 }
 
 // The i-th entry's pair, combined with those above it.
@@ -38,7 +38,11 @@ pub(crate) fn total_at(img: &[u8], q: SpanQuery, on: Cursor, i: usize) -> Pair
     ensures { λ r. ⌜ r ≡ cursor-below q (bytes-at (now (img .entry)) on) on i .above ⌝ }
 {
     let above = on.above;
-    combine(q.head.kind, above, pair_at(HALF, page_at(img, on.page), i))
+    combine(
+        q.head.kind,
+        above,
+        pair_at(HALF, page_at(HALF, img, on.page), i),
+    )
 }
 
 // The page below the i-th entry of an inner page.
@@ -48,10 +52,10 @@ pub(crate) fn cursor_below(img: &[u8], q: SpanQuery, on: Cursor, i: usize) -> Cu
     requires { ⌜ 1 ≤ on .at .level ⌝ }
     ensures { λ r. ⌜ r ≡ cursor-below q (bytes-at (now (img .entry)) on) on i ⌝ }
 {
-    let s = page_at(img, on.page);
+    let s = page_at(HALF, img, on.page);
     let at = on.at;
     Cursor {
-        at: context_below(s, at, i),
+        at: context_below(HALF, s, at, i),
         page: child_at(HALF, s, i),
         above: total_at(img, q, on, i),
     }

@@ -7,6 +7,7 @@ use fit::tree_page::page_fit;
 use page::Head;
 use page::PageContext;
 use page::at::entry_count;
+use page::layout::HALF;
 ghost use mathlib.Core.Path.{_≡_};
 ghost use mathlib.Core.Bool.{true};
 ghost use lib.ListN.{length};
@@ -25,7 +26,7 @@ fn found_fit(s: &[u8], known: bool, h: Head, at: PageContext) -> bool
     if known {
         return true;
     }
-    page_fit(s, h, at)
+    page_fit(HALF, s, h, at)
 }
 
 // A page is checked before anything in it is used. The walk that writes follows one that has found every page fit, and checks none
@@ -35,7 +36,7 @@ pub(crate) fn check_page(img: &[u8], q: SpanQuery, on: Cursor) -> PageCheck
     requires { ⌜ Known-fit (now img) q on ⌝ }
     ensures { λ r. ⌜ r ≡ page-check (now (img .entry)) q on ⌝ }
 {
-    let s = page_at(img, on.page);
+    let s = page_at(HALF, img, on.page);
     if found_fit(s, q.writing, q.head, on.at) {
         return PageCheck::Entries(entry_count(s) as usize);
     }

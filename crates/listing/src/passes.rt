@@ -23,7 +23,7 @@ ghost use Rattle.listing.specs.Walks.{count, Room, Does};
 
 // The walk from the root, before any run.
 fn walk_root(img: &[u8], out: &mut [u8], q: SpanQuery) -> WalkAnswer
-    requires { ⌜ Open-image (now img) (q .head) ⌝ }
+    requires { ⌜ Open-image 12 (now img) (q .head) ⌝ }
     requires { ⌜ Room (q .writing) no-run (walk-over 12 (now img) (q .a) (q .b)) (now out) ⌝ }
     ensures { λ r. ⌜ Does (q .writing) no-run (walk-over 12 (now (img .entry)) (q .a) (q .b)) (now (out .entry)) r (now (out .exit)) ⌝ }
 {
@@ -46,7 +46,7 @@ fn walk_root(img: &[u8], out: &mut [u8], q: SpanQuery) -> WalkAnswer
 
 // The first pass: the number of runs over [a, b), unless a page that the walk meets is unfit.
 pub fn count_runs(img: &[u8], h: Head, a: u32, b: u32) -> RunCount
-    requires { ⌜ Open-image (now img) h ⌝ }
+    requires { ⌜ Open-image 12 (now img) h ⌝ }
     ensures { λ r. ⌜ r ≡ count (walk-over 12 (now (img .entry)) a b) ⌝ }
 {
     let mut unwritten = [0u8; 1];
@@ -64,7 +64,7 @@ pub fn count_runs(img: &[u8], h: Head, a: u32, b: u32) -> RunCount
 
 // The second pass: the runs over [a, b) are written from the output's first byte on.
 pub fn write_runs(img: &[u8], h: Head, a: u32, b: u32, out: &mut [u8])
-    requires { ⌜ Open-image (now img) h ⌝ }
+    requires { ⌜ Open-image 12 (now img) h ⌝ }
     requires { ⌜ walk-over 12 (now img) a b .fit ≡ true ⌝ }
     requires { ⌜ 16 * length (join (walk-over 12 (now img) a b .runs)) ≤ length (now out) ⌝ }
     ensures { λ _. ⌜ now (out .exit) ≡ patch (now (out .entry)) 0 (concat-map run-bytes (join (walk-over 12 (now (img .entry)) a b .runs))) ⌝ }

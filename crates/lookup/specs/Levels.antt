@@ -12,7 +12,7 @@ use Rattle.lookup.specs.declared.LevelAnswer.the-variants.{Entry, Unfit}
 
 -- A page whose n entries can be searched for the instant t, from either end: their starts rise, and the first isn't past t.
 pub record Page-searchable (s : List ℕ) (n t : ℕ) : Type 0 where
-  pub compared : Compared s n
+  pub compared : Compared 12 s n
   pub rising : (i : ℕ) → i < n - 1 → start-at s i < start-at s (suc i)
   pub first : start-at s 0 ≤ t
 

@@ -26,7 +26,7 @@ fn page_answer(s: &[u8], h: Head, at: PageContext, t: u32) -> LevelAnswer
     requires { ⌜ On-path at t ⌝ }
     ensures { λ r. ⌜ r ≡ level-answer 12 h at t (now (s .entry)) ⌝ }
 {
-    if !page_fit(s, h, at) {
+    if !page_fit(HALF, s, h, at) {
         return LevelAnswer::Unfit;
     }
     let i = find(s, entry_count(s) as usize, t);
@@ -35,19 +35,19 @@ fn page_answer(s: &[u8], h: Head, at: PageContext, t: u32) -> LevelAnswer
 
 // The answer of page p of the image.
 pub(crate) fn level_answer(img: &[u8], p: u32, h: Head, at: PageContext, t: u32) -> LevelAnswer
-    requires { ⌜ Page-in (now img) p ⌝ }
+    requires { ⌜ Page-in 12 (now img) p ⌝ }
     requires { ⌜ On-path at t ⌝ }
     ensures { λ r. ⌜ r ≡ level-answer 12 h at t (page-at 12 (now (img .entry)) p) ⌝ }
 {
-    page_answer(page_at(img, p), h, at, t)
+    page_answer(page_at(HALF, img, p), h, at, t)
 }
 
 // The context under the i-th entry of page p, which has been found fit.
 pub(crate) fn below(img: &[u8], p: u32, at: PageContext, i: usize) -> PageContext
-    requires { ⌜ Page-in (now img) p ⌝ }
+    requires { ⌜ Page-in 12 (now img) p ⌝ }
     requires { ⌜ (i < 24) × (entry-count (page-at 12 (now img) p) ≤ 24) ⌝ }
     requires { ⌜ (1 ≤ at .level) × Bounded at ⌝ }
     ensures { λ r. ⌜ r ≡ context-below 12 (page-at 12 (now (img .entry)) p) at i ⌝ }
 {
-    context_below(page_at(img, p), at, i)
+    context_below(HALF, page_at(HALF, img, p), at, i)
 }

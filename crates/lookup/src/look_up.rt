@@ -15,7 +15,7 @@ ghost use Rattle.lookup.specs.Answers.{lookup-of};
 // The answer at t of an image whose head is fit. The pairs are combined on the way down, one page a turn: the combining rule
 // is associative, so the answer is that of combining them on the way back up.
 pub fn look_up(img: &[u8], h: Head, t: u32) -> LookupAnswer
-    requires { ⌜ Open-image (now img) h ⌝ }
+    requires { ⌜ Open-image 12 (now img) h ⌝ }
     ensures { λ r. ⌜ lookup-of r ≡ look-up 12 (now (img .entry)) t ⌝ }
 {
     let mut at = root_context(h);

@@ -6,6 +6,7 @@ use calls::refusals::IMAGE_LENGTH;
 use calls::refusals::SCRATCH_SHORT;
 use calls::refusals::UNSOUND;
 use fields::fill::fill;
+use page::layout::HALF;
 use page::layout::PAGE_BYTES;
 ghost use Rattle.luwhenoka.specs.Promises.{Audits};
 
@@ -14,7 +15,7 @@ ghost use Rattle.luwhenoka.specs.Promises.{Audits};
 pub extern "C" fn luw_audit(img: &[u8], scratch: &mut [u8]) -> u32
     ensures { λ r. ⌜ Audits (now (img .entry)) (now (scratch .entry)) r (now (scratch .exit)) ⌝ }
 {
-    if !length_fits(img) {
+    if !length_fits(HALF, img) {
         return IMAGE_LENGTH;
     }
     let n = img.len() / PAGE_BYTES;

@@ -7,6 +7,7 @@ use crate::instants::luw_instant;
 use access::pages::page_at;
 use calls::refusals::ACCEPTED;
 use page::heads::read_head;
+use page::layout::HALF;
 use rule::Average;
 use rule::Pair;
 use rule::averages::average;
@@ -59,7 +60,7 @@ fn kind_of(img: &[u8]) -> u32
     requires { ⌜ length-ok 12 (now img) ≡ true ⌝ }
     ensures { λ r. ⌜ r ≡ head 12 (now (img .entry)) .kind ⌝ }
 {
-    read_head(page_at(img, 0)).kind
+    read_head(page_at(HALF, img, 0)).kind
 }
 
 // "The average's pair is taken by an instant call": its refusals are that call's, and none is an average.

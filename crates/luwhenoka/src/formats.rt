@@ -4,6 +4,7 @@ use access::lengths::length_fits;
 use calls::refusals::ACCEPTED;
 use calls::refusals::IMAGE_LENGTH;
 use calls::refusals::KIND_OR_WINDOW;
+use page::layout::HALF;
 use rule::time::kind_ok;
 use rule::time::window_ok;
 ghost use Rattle.luwhenoka.specs.Promises.{Formats};
@@ -13,7 +14,7 @@ ghost use Rattle.luwhenoka.specs.Promises.{Formats};
 pub extern "C" fn luw_format(img: &mut [u8], kind: u32, window: u32) -> u32
     ensures { λ r. ⌜ Formats kind window (now (img .entry)) r (now (img .exit)) ⌝ }
 {
-    let fits = length_fits(img);
+    let fits = length_fits(HALF, img);
     let named = kind_ok(kind) & window_ok(window);
     if !fits {
         return IMAGE_LENGTH;
@@ -21,6 +22,6 @@ pub extern "C" fn luw_format(img: &mut [u8], kind: u32, window: u32) -> u32
     if !named {
         return KIND_OR_WINDOW;
     }
-    write_fresh(img, kind, window);
+    write_fresh(HALF, img, kind, window);
     ACCEPTED
 }

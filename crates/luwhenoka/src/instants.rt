@@ -9,6 +9,7 @@ use calls::refusals::INSTANT_END;
 use calls::refusals::UNSOUND;
 use lookup::LookupAnswer;
 use lookup::look_up::look_up;
+use page::layout::HALF;
 use rule::Pair;
 use rule::limits::END;
 ghost use mathlib.Core.Path.{_≡_};
@@ -44,13 +45,13 @@ fn accepted(pair: Pair, pages: u32) -> InstantAnswer
 pub extern "C" fn luw_instant(img: &[u8], t: u32) -> InstantAnswer
     ensures { λ r. ⌜ Answers t (now (img .entry)) r ⌝ }
 {
-    if !length_fits(img) {
+    if !length_fits(HALF, img) {
         return refused(IMAGE_LENGTH, 0);
     }
     if t == END {
         return refused(INSTANT_END, 0);
     }
-    let HeadCheck::Fit(h) = open_head(img) else {
+    let HeadCheck::Fit(h) = open_head(HALF, img) else {
         return refused(UNSOUND, 0);
     };
     match look_up(img, h, t) {

@@ -11,6 +11,7 @@ use calls::refusals::UNSOUND;
 use listing::RunCount;
 use listing::passes::count_runs;
 use listing::passes::write_runs;
+use page::layout::HALF;
 use runs::RUN_BYTES;
 ghost use mathlib.Core.Path.{_≡_};
 ghost use Rattle.luwhenoka.specs.Promises.{Lists};
@@ -30,13 +31,13 @@ fn refused(status: u32) -> ListingAnswer
 pub extern "C" fn luw_listing(img: &[u8], a: u32, b: u32, out: &mut [u8]) -> ListingAnswer
     ensures { λ r. ⌜ Lists a b (now (img .entry)) (now (out .entry)) r (now (out .exit)) ⌝ }
 {
-    if !length_fits(img) {
+    if !length_fits(HALF, img) {
         return refused(IMAGE_LENGTH);
     }
     if b <= a {
         return refused(SPAN_EMPTY);
     }
-    let HeadCheck::Fit(h) = open_head(img) else {
+    let HeadCheck::Fit(h) = open_head(HALF, img) else {
         return refused(UNSOUND);
     };
     let RunCount::Runs(runs) = count_runs(img, h, a, b) else {

@@ -64,7 +64,7 @@ pub fn write_numbers(s: &mut [u8], h: Head)
 
 // Writes the head: its numbers, the rest unused.
 pub(crate) fn write_head(half: usize, s: &mut [u8], h: Head)
-    requires { ⌜ (length (now s) ≡ page-size half) × (36 ≤ length (now s)) ⌝ }
+    requires { ⌜ (1 ≤ half) × (length (now s) ≡ page-size half) ⌝ }
     ensures { λ _. ⌜ now (s .exit) ≡ head-bytes half h ⌝ }
 {
     write_numbers(s, h);

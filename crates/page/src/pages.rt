@@ -6,7 +6,7 @@ use super::heads::write_head;
 use super::layout::page_size;
 use super::write::write_page;
 ghost use mathlib.Core.Path.{_≡_};
-ghost use Prim.Native.Nat.{_+_, _*_, _≤_};
+ghost use Prim.Native.Nat.{_+_, _*_, _^_, _≤_, _<_};
 ghost use lib.ListN.{length};
 ghost use Rattle.fields.specs.Bytes.{patch};
 ghost use Rattle.page.specs.Layout.{capacity, page-size, tree-bytes, free-bytes, head-bytes};
@@ -14,7 +14,7 @@ ghost use Rattle.page.specs.Decoded.{entry-list};
 
 // Where page p begins.
 pub fn page_offset(half: usize, p: u32) -> usize
-    requires { ⌜ half ≤ 12 ⌝ }
+    requires { ⌜ page-size half * p + page-size half < 2 ^ 64 ⌝ }
     ensures { λ r. ⌜ r ≡ page-size half * p ⌝ }
 {
     page_size(half) * p as usize
@@ -22,7 +22,7 @@ pub fn page_offset(half: usize, p: u32) -> usize
 
 // Writes the head.
 pub fn write_head_at(half: usize, img: &mut [u8], h: Head)
-    requires { ⌜ (page-size half ≤ length (now img)) × (36 ≤ page-size half) ⌝ }
+    requires { ⌜ (1 ≤ half) × (page-size half ≤ length (now img)) ⌝ }
     ensures { λ _. ⌜ now (img .exit) ≡ patch (now (img .entry)) 0 (head-bytes half h) ⌝ }
 {
     write_head(half, &mut img[0..page_size(half)], h)
@@ -40,7 +40,7 @@ pub fn write_page_at(half: usize, img: &mut [u8], p: u32, page: Page)
 
 // Writes a free page as page p.
 pub fn write_free_at(half: usize, img: &mut [u8], p: u32, next: u32)
-    requires { ⌜ (half ≤ 12) × (page-size half * p + page-size half ≤ length (now img)) ⌝ }
+    requires { ⌜ page-size half * p + page-size half ≤ length (now img) ⌝ }
     ensures { λ _. ⌜ now (img .exit) ≡ patch (now (img .entry)) (page-size half * p) (free-bytes half next) ⌝ }
 {
     let a = page_offset(half, p);

@@ -89,7 +89,7 @@ some-long s = omega (arith, holds-length (s .holds), s .ready .below)
 
 -- the page's bytes, lent as s
 pub some-size : {img s : List ℕ} {p : ℕ} → Pre img (In-image p) → s ≡ page-at 12 img p → length s ≡ 512
-some-size {img} {p = p} k same = ap length same ∙ page-length img p (some-long k)
+some-size {img} {p = p} k same = ap length same ∙ page-length 12 img p (some-long k)
 
 -- what a function asks, taken apart: some image that the bytes encode and that is ready
 pub from : {img : List ℕ} {Ready : Image → Type 0} {A : Type 0} → Pre img Ready → ((X : Image) → Encodes img X → Ready X → A) → A

@@ -62,7 +62,7 @@ module _ {img : List ℕ} {X : Image} {l p : ℕ} (h : Encodes img X) (t : Tree-
 
   module _ {s : List ℕ} (same : s ≡ page-at 12 img p) where
     pub lent-size : length s ≡ 512
-    lent-size = ap length same ∙ page-length img p lent-within
+    lent-size = ap length same ∙ page-length 12 img p lent-within
 
     pub lent-read : Tree-read s l (entries X p)
     unfolding page-at

@@ -3,6 +3,7 @@ use access::pages::page_at;
 use page::Head;
 use page::heads::read_head;
 use page::heads::write_numbers;
+use page::layout::HALF;
 ghost use mathlib.Core.Path.{_≡_};
 ghost use Rattle.store.specs.Encoding.{Encodes, Pre, Post, Any, Same-size, with-head};
 
@@ -11,7 +12,7 @@ pub fn head_of(img: &[u8]) -> Head
     requires { ⌜ Pre (now img) Any ⌝ }
     ensures { λ r. ⌜ Post (now (img .entry)) Any (λ X. r ≡ X .head) ⌝ }
 {
-    read_head(page_at(img, 0))
+    read_head(page_at(HALF, img, 0))
 }
 
 // The head becomes h, for the same number of pages: its nine numbers are written, since what stands behind them is unused already.

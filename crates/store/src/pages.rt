@@ -19,7 +19,7 @@ pub fn load(img: &[u8], p: u32) -> Page
     requires { ⌜ Pre (now img) (In-image p) ⌝ }
     ensures { λ r. ⌜ Post-level (now (img .entry)) (λ l. Tree-page l p) (λ l X. Loaded l (entries X p) r) ⌝ }
 {
-    read_page(HALF, page_at(img, p))
+    read_page(HALF, page_at(HALF, img, p))
 }
 
 // The page behind the free page p in the chain, 0 at its end.
@@ -27,7 +27,7 @@ pub(crate) fn next_free(img: &[u8], p: u32) -> u32
     requires { ⌜ Pre (now img) (In-image p) ⌝ }
     ensures { λ r. ⌜ Post (now (img .entry)) (In-image p) (λ X. (next : ℕ) → X .page p ≡ free next → r ≡ next) ⌝ }
 {
-    next_of(page_at(img, p))
+    next_of(page_at(HALF, img, p))
 }
 
 // Page p becomes the tree page of a struct.

@@ -15,7 +15,7 @@ use Rattle.rule.specs.Time.{most-value}
 use Rattle.rule.specs.Bounds.{value-or-none}
 use Rattle.rule.proofs.Tests.{both}
 use Rattle.page.specs.declared.Head.{Head}
-use Rattle.page.specs.Layout.{capacity, entry-count, start-at}
+use Rattle.page.specs.Layout.{capacity, page-size, entry-count, start-at}
 use Rattle.page.specs.Fit.{Page-context, end-at, fewest, entry-count-ok, child-ok, pair-ok}
 use Rattle.fit.specs.Contexts.{Compared}
 use Rattle.fit.proofs.Tests.{le-is}
@@ -36,11 +36,12 @@ pub entry-count-is : (half : ℕ) (at : Page-context) (s : List ℕ)
 unfolding entry-count-ok
 entry-count-is half at s = both _ _ (le-is _ _) (le-is _ _)
 
--- a count of entries that may stand in a page has been compared with 24
-pub compared : (at : Page-context) (s : List ℕ) {n : ℕ} → length s ≡ 512 → n ≡ entry-count s → entry-count-ok 12 at s ≡ true → Compared s n
-compared at s e m h =
-    let k = entry-count-is 12 at s .0 h in
-    let p = fewest-pos 12 at (omega arith) in
+-- a count of entries that may stand in a page has been compared with the page's capacity
+pub compared : (half : ℕ) (at : Page-context) (s : List ℕ) {n : ℕ} → 1 ≤ half → length s ≡ page-size half → n ≡ entry-count s
+    → entry-count-ok half at s ≡ true → Compared half s n
+compared half at s some e m h =
+    let k = entry-count-is half at s .0 h in
+    let p = fewest-pos half at some in
     record { size = e; len = m; some = omega (arith, k .0); most = omega (arith, k .1) }
 
 -- ---- where an entry ends

@@ -73,7 +73,7 @@ module _ (img : List ℕ) (q : SpanQuery) (on : Cursor) where
 
   -- its count of entries may be used
   pub opened-compared : {n : ℕ} {s : List ℕ} → Valid-cursor img q on → opened.Entries n ≡ page-check img q on → s ≡ bytes-at img on
-      → Compared s n
+      → Compared 12 s n
   opened-compared sits e d =
       let f = opened-fit e in
       let fit = page-fit-is 12 (q .head) (on .at) (bytes-at img on) .0 (f .0) in

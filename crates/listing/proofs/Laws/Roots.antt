@@ -73,14 +73,14 @@ most-few (suc (suc (suc (suc l)))) h = absurd (omega arith)
 
 -- ---- from the root is from the root's cursor, with no pair above
 
-pub root-walk : {img : List ℕ} (q : SpanQuery) → Open-image img (q .head)
+pub root-walk : {img : List ℕ} (q : SpanQuery) → Open-image 12 img (q .head)
     → page-walk img q (root-cursor (q .head)) ≡ walk-over 12 img (q .a) (q .b)
 unfolding page-walk walk-over root-context
 root-walk {img} q h =
     under-none (q .head .kind) _
     ∙ ap (λ (k : Head). walk 12 k img (q .a) (q .b) (k .height - 1) (root-context k) (k .root)) (h .shown)
 
-pub over-few : {img : List ℕ} {h : Head} (a b : ℕ) → Open-image img h → length (walk-over 12 img a b .runs) ≤ 331776
+pub over-few : {img : List ℕ} {h : Head} (a b : ℕ) → Open-image 12 img h → length (walk-over 12 img a b .runs) ≤ 331776
 unfolding walk-over
 over-few {img} {h} a b o =
     let k = head-of (page-at 12 img 0) in
@@ -89,7 +89,7 @@ over-few {img} {h} a b o =
 
 -- ---- the two passes
 
-module _ {img : List ℕ} {h : Head} (a b : ℕ) (out : List ℕ) (headed : Open-image img h) where
+module _ {img : List ℕ} {h : Head} (a b : ℕ) (out : List ℕ) (headed : Open-image 12 img h) where
   pub room-counting : Room false no-run (walk-over 12 img a b) out
   room-counting =
       record { few = omega (arith, over-few a b headed); fit = λ e. absurd (false≢true e); room = λ e. absurd (false≢true e) }

@@ -107,7 +107,7 @@ module _ {img : List ℕ} {q : SpanQuery} {on : Cursor} (sits : Valid-cursor img
 
 -- ---- the root
 
-pub sits-root : {img : List ℕ} (q : SpanQuery) → Open-image img (q .head) → Valid-cursor img q (root-cursor (q .head))
+pub sits-root : {img : List ℕ} (q : SpanQuery) → Open-image 12 img (q .head) → Valid-cursor img q (root-cursor (q .head))
 sits-root {img} q o =
     let r = opened-ranges o in
     record {

@@ -75,7 +75,7 @@ pub record Walk (img : List ℕ) (h : Head) (t : ℕ) (at : Page-context) (p : �
   pub carried : Carried h at acc
   pub answer : gone (combine (h .kind)) acc n (look 12 h img t (at .level) at p) ≡ look-up 12 img t
 
-module _ {img : List ℕ} {h : Head} (o : Open-image img h) where
+module _ {img : List ℕ} {h : Head} (o : Open-image 12 img h) where
   pub walk-root : (t : ℕ) → Walk img h t (root-context h) (h .root) none 0
   unfolding look-up root-context
   walk-root t =
@@ -90,7 +90,7 @@ module _ {img : List ℕ} {h : Head} (o : Open-image img h) where
       }
 
   module _ {t : ℕ} {at : Page-context} {p : ℕ} {acc : Pair} {n : ℕ} (w : Walk img h t at p acc n) where
-    pub walk-within : Page-in img p
+    pub walk-within : Page-in 12 img p
     walk-within = opened-within o p (w .here)
 
     pub walk-met : On-path at t

@@ -32,7 +32,7 @@ leads : (c : tie.Else1 Inv-loop μ-loop)
     → leads-to-free 12 (start (turn c) .args .img .now) (start (turn c) .args .n) (turn c .loop .p) ≡ true
 leads c = sym (c .before .leads-to-free .ensures) ∙ not-false _ (c .if1 .left)
 
-within : (c : tie.Else1 Inv-loop μ-loop) → Page-in (start (turn c) .args .img .now) (turn c .loop .p)
+within : (c : tie.Else1 Inv-loop μ-loop) → Page-in 12 (start (turn c) .args .img .now) (turn c .loop .p)
 within c = free-within _ _ _ (start (turn c) .pre) (leads c)
 
 returns : tie.Need-returns Inv-loop μ-loop
@@ -67,6 +67,6 @@ chain-ends-spec =
     returns
     (λ c κs. within c)
     (λ c κs.
-    let size : length (c .page-at .result .now) ≡ 512 = ap length (c .page-at .ensures) ∙ page-length _ _ (within (c .before)) in
+    let size : length (c .page-at .result .now) ≡ 512 = ap length (c .page-at .ensures) ∙ page-length 12 _ _ (within (c .before)) in
     omega arith)
     (λ c. omega arith) (λ c. omega arith) loop-again returns-2)

@@ -11,7 +11,7 @@ use Rattle.audit.specs.Walks.{leads-to-free}
 use Rattle.audit.proofs.free.leads_to_free.Statement.{statement}
 use Rattle.audit.proofs.free.leads_to_free.Tie as tie
 
-within : (c : tie.Else2) → Page-in (c .before .before .before .args .img .now) (c .before .before .before .args .p)
+within : (c : tie.Else2) → Page-in 12 (c .before .before .before .args .img .now) (c .before .before .before .args .p)
 within c = search needs
 
 returns : tie.Need-returns
@@ -33,4 +33,4 @@ pub leads-to-free-spec : {M : Type 1} → statement M
 leads-to-free-spec =
     tie.close
     (tie.spec returns returns-2 (λ c κs. within c)
-    (λ c κs. ap length (c .page-at .ensures) ∙ page-length _ _ (within (c .before))) returns-3)
+    (λ c κs. ap length (c .page-at .ensures) ∙ page-length 12 _ _ (within (c .before))) returns-3)

@@ -24,10 +24,10 @@ abbrev told : tie.After-adds-up → tie.After-tree
 told c = c .before .before
 
 -- what the code has found so far, in the definitions' words
-headed : (c : tie.After-h) → Open-image (start (c .before .before) .args .img .now) (c .h .given .0 .0)
+headed : (c : tie.After-h) → Open-image 12 (start (c .before .before) .args .img .now) (c .h .given .0 .0)
 headed c =
     let read = c .before .before in
-    opened _ (start read .pre) (sym (c .h .given .1) ∙ read .open-head .ensures)
+    opened 12 _ (start read .pre) (sym (c .h .given .1) ∙ read .open-head .ensures)
 
 walked : (c : tie.After-audit-page)
     → Walked (start (read-of c .before .before) .args .img .now) (read-of c .h .given .0 .0) (c .audit-page .result)
@@ -36,7 +36,7 @@ walked c = root-walked (headed (read-of c)) (c .before .root-context .ensures) (
 returns : tie.Need-returns
 returns c =
     let read = c .before .before in
-    unsound-head _ (start read .pre) (shut _ (sym (c .enum-told .given .1) ∙ read .open-head .ensures))
+    unsound-head _ (start read .pre) (shut 12 _ (sym (c .enum-told .given .1) ∙ read .open-head .ensures))
 
 returns-3 : tie.Need-returns-3
 returns-3 c =

@@ -117,7 +117,7 @@ pub +audit-entry+audit-page-spec : {M : Type 1} → statement M
     (λ c κs. standing-within (c .before .pre .1))
     (λ c κs.
     let w = c .before .before .pre .1 in
-    (standing-size w (c .page-at .ensures), standing-bounded w))
+    ((omega arith, standing-size w (c .page-at .ensures)), standing-bounded w))
     (λ c.
     let fit = c .before in
     let args = fit .before .before .before .args in

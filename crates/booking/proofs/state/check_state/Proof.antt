@@ -22,7 +22,7 @@ use Rattle.booking.proofs.state.check_state.Tie as tie
 abbrev began : tie.Else1 → tie.Start
 began c = c .before .before .before
 
-within : (c : tie.Else1) → Page-in (began c .args .img .now) 0
+within : (c : tie.Else1) → Page-in 12 (began c .args .img .now) 0
 within c =
     let z = sized 12 _ (began c .pre .0) in
     omega (arith, z .size, z .least)
@@ -90,5 +90,5 @@ check-state-spec =
     (λ c κs. c .before .pre .0)
     returns
     (λ c κs. within c)
-    (λ c κs. omega (arith, ap length (c .page-at .ensures) ∙ page-length _ 0 (within (c .before))))
+    (λ c κs. omega (arith, ap length (c .page-at .ensures) ∙ page-length 12 _ 0 (within (c .before))))
     returns-2 returns-3 (λ c κs. search needs) lacks-pages-requires returns-4 returns-5)

@@ -18,15 +18,15 @@ use Rattle.fit.proofs.entries.entries_ok.Statement.{statement}
 use Rattle.fit.proofs.entries.entries_ok.Tie as tie
 
 -- the test of the i-th entry
-abbrev fit-at : List ℕ → Head → Page-context → ℕ → Bool
-fit-at s h at i = child-ok (h .pages) (at .level) (child-at 12 s i) && pair-ok h at (pair-at 12 s i)
+abbrev fit-at : ℕ → List ℕ → Head → Page-context → ℕ → Bool
+fit-at half s h at i = child-ok (h .pages) (at .level) (child-at half s i) && pair-ok h at (pair-at half s i)
 
 abbrev Inv-loop : tie.InvT-loop
-Inv-loop s n l over₀ i₀ over i =
-    (i ≤ n) × ((h : Head) (at : Page-context) → Limits-of h at l → top-clear over ≡ every i (fit-at s h at))
+Inv-loop half s n l over₀ i₀ over i =
+    (i ≤ n) × ((h : Head) (at : Page-context) → Limits-of h at l → top-clear over ≡ every i (fit-at half s h at))
 
 abbrev μ-loop : tie.MeasureT-loop
-μ-loop s n l over₀ i₀ over i = n - i
+μ-loop half s n l over₀ i₀ over i = n - i
 
 -- places
 abbrev start : tie.After-limits Inv-loop μ-loop → tie.Start Inv-loop μ-loop
@@ -42,7 +42,9 @@ loop-again c =
     let word = c .before in
     let sum = word .before in
     let turn = sum .before .before in
-    let s = start (turn .before) .args .s .now in
+    let args = start (turn .before) .args in
+    let half = args .half in
+    let s = args .s .now in
     let i = turn .loop .i in
     let x = sum .sum-bits-at .result in
     let w = word .count-and-child-at .result in (
@@ -54,7 +56,7 @@ loop-again c =
           ∙ limits .same x (w % 2 ^ 32) (w / 2 ^ 32) (omega arith) (omega arith)
           ∙ ap₂ _&&_ (ap (child-ok (h .pages) (at .level)) (word .count-and-child-at .ensures .1))
           (ap (pair-ok h at) (λ j. record { sum = sum .sum-bits-at .ensures j; count = word .count-and-child-at .ensures .0 j })))
-          ∙ sym (every-more i (fit-at s h at)),
+          ∙ sym (every-more i (fit-at half s h at)),
     )
 
 returns : tie.Need-returns Inv-loop μ-loop
@@ -62,13 +64,14 @@ unfolding children-ok pairs-ok
 returns c =
     let turn = c .before in
     let first = start (turn .before) in
+    let half = first .args .half in
     let s = first .args .s .now in
     let h = first .args .h in
     let at = first .args .at in
     let e : turn .loop .i ≡ entry-count s = omega (arith, first .pre .len) in
     turn .loop .inv .1 h at (turn .before .limits .ensures)
-    ∙ ap (λ n. every n (fit-at s h at)) e
-    ∙ every-both (entry-count s) (λ i. child-ok (h .pages) (at .level) (child-at 12 s i)) (λ i. pair-ok h at (pair-at 12 s i))
+    ∙ ap (λ n. every n (fit-at half s h at)) e
+    ∙ every-both (entry-count s) (λ i. child-ok (h .pages) (at .level) (child-at half s i)) (λ i. pair-ok h at (pair-at half s i))
 
 pub entries-ok-spec : {M : Type 1} → statement M
 entries-ok-spec =

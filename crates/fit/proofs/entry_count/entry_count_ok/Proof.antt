@@ -1,5 +1,4 @@
 -- `fit::entry_count::entry_count_ok` meets its contract: it is the definition. Assumes nothing.
-use mathlib.Core.Path.{ap₂}
 use mathlib.Core.Bool.{_&&_}
 use lib.Dec.{leb}
 use borrow.Author.Needs.{needs}
@@ -9,7 +8,10 @@ use Rattle.fit.proofs.entry_count.entry_count_ok.Tie as tie
 
 returns : tie.Need-returns
 unfolding entry-count-ok
-returns c = ap₂ (λ few n. leb few n && leb n 24) (c .fewest .ensures) (c .before .entry-count .ensures)
+returns c =
+    let few = c .before in
+    let counted = few .before in
+    λ j. leb (few .fewest .ensures j) (counted .entry-count .ensures j) && leb (counted .entry-count .ensures j) (c .capacity .ensures j)
 
 pub entry-count-ok-spec : {M : Type 1} → statement M
-entry-count-ok-spec = tie.close (tie.spec (λ c κs. search needs) (λ c κs. search needs) returns)
+entry-count-ok-spec = tie.close (tie.spec (λ c κs. search needs) (λ c. search needs) (λ c κs. search needs) (λ c κs. search needs) returns)

@@ -21,7 +21,7 @@ returns c =
     ap₂ _&&_ (ap (λ x. eqb x (at .lo)) (first .start-at .ensures))
     (ap₂ _&&_ (rises .rising .ensures) (ap (λ x. ltb x (at .hi)) (c .before .start-at2 .ensures)))
     ∙ ap (λ n. eqb (start-at s 0) (at .lo)
-    && (every (n - 1) (λ i. ltb (start-at s i) (start-at s (suc i))) && ltb (start-at s (n - 1)) (at .hi))) (start .pre .len)
+    && (every (n - 1) (λ i. ltb (start-at s i) (start-at s (suc i))) && ltb (start-at s (n - 1)) (at .hi))) (start .pre .0)
 
 pub starts-ok-spec : {M : Type 1} → statement M
 starts-ok-spec =

@@ -2,6 +2,7 @@
 use mathlib.Core.Path.{_≡_, sym, _∙_}
 use mathlib.Core.Bool.{true}
 use lib.Dec.{eqb}
+use native.Mathlib.Omega.{arith}
 use borrow.Author.Needs.{needs}
 use borrow.Author.Tests.{eq-eqb, ne-eqb, not-true, not-false}
 use Rattle.page.specs.Layout.{level-of, unused-ok}
@@ -32,19 +33,19 @@ start c = asked (level-test c) .before .before
 level : (c : tie.Else1) → let s = asked c .before .before in eqb (level-of (s .args .s .now)) (s .args .at .level) ≡ true
 level c = eq-eqb _ _ (sym (asked c .level-of .ensures) ∙ c .if1 .left)
 
-number : (c : tie.Else2) → entry-count-ok 12 (start c .args .at) (start c .args .s .now) ≡ true
+number : (c : tie.Else2) → entry-count-ok (start c .args .half) (start c .args .at) (start c .args .s .now) ≡ true
 number c = sym (c .before .entry-count-ok .ensures) ∙ not-false _ (c .if2 .left)
 
 starts : (c : tie.Else3) → starts-ok (start (count-test c) .args .at) (start (count-test c) .args .s .now) ≡ true
 starts c = sym (c .before .starts-ok .ensures) ∙ not-false _ (c .if3 .left)
 
-unused : (c : tie.Else4) → unused-ok 12 (start (count-test (starts-test c)) .args .s .now) ≡ true
+unused : (c : tie.Else4) → let args = start (count-test (starts-test c)) .args in unused-ok (args .half) (args .s .now) ≡ true
 unused c = sym (c .before .unused-ok .ensures) ∙ not-false _ (c .if4 .left)
 
-entries : (c : tie.After-entry-count) → Compared (start (c .before) .args .s .now) (c .entry-count .result)
+entries : (c : tie.After-entry-count) → Compared (start (c .before) .args .half) (start (c .before) .args .s .now) (c .entry-count .result)
 entries c =
     let s = start (c .before) in
-    compared (s .args .at) (s .args .s .now) (s .pre .0) (c .entry-count .ensures) (number (c .before))
+    compared (s .args .half) (s .args .at) (s .args .s .now) (s .pre .0 .0) (s .pre .0 .1) (c .entry-count .ensures) (number (c .before))
 
 returns : tie.Need-returns
 unfolding page-fit
@@ -80,7 +81,7 @@ pub page-fit-spec : {M : Type 1} → statement M
 page-fit-spec =
     tie.close
     (tie.spec (λ c κs. search needs) returns (λ c κs. search needs) returns-2 (λ c κs. search needs) (λ c. search needs)
-    (λ c κs. entries c)
+    (λ c κs. omega (arith, entries c))
     returns-3
     (λ c κs. entries (c .before .before))
     returns-4

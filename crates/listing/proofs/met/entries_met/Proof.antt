@@ -7,7 +7,7 @@ use Rattle.listing.proofs.Laws.Loops.{opened-fit, opened-compared}
 use Rattle.listing.proofs.met.entries_met.Statement.{statement}
 use Rattle.listing.proofs.met.entries_met.Tie as tie
 
-compared : (c : tie.After-page-at) → Compared (c .page-at .result .now) (c .before .before .args .n)
+compared : (c : tie.After-page-at) → Compared 12 (c .page-at .result .now) (c .before .before .args .n)
 compared c = opened-compared _ _ _ (c .before .before .pre .0) (c .before .before .pre .1) (c .page-at .ensures)
 
 returns : tie.Need-returns

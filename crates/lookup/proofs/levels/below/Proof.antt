@@ -12,7 +12,7 @@ use Rattle.lookup.proofs.levels.below.Tie as tie
 context-below-requires : tie.Need-context-below-requires
 context-below-requires c κs =
     let start = c .before .before in
-    let long = ap length (c .page-at .ensures) ∙ page-length _ _ (start .pre .0) in
+    let long = ap length (c .page-at .ensures) ∙ page-length 12 _ _ (start .pre .0) in
     let number = ap entry-count (c .page-at .ensures) in
     (long, ((start .pre .1 .0 .0, omega (arith, number, start .pre .1 .0 .1)), start .pre .1 .1))
 

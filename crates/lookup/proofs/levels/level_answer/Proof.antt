@@ -10,7 +10,7 @@ use Rattle.lookup.proofs.levels.level_answer.Tie as tie
 page-answer-requires : tie.Need-page-answer-requires
 page-answer-requires c κs =
     let start = c .before .before in
-    (ap length (c .page-at .ensures) ∙ page-length _ _ (start .pre .0), start .pre .1)
+    (ap length (c .page-at .ensures) ∙ page-length 12 _ _ (start .pre .0), start .pre .1)
 
 returns : tie.Need-returns
 returns c =

@@ -11,7 +11,7 @@ use Rattle.access.proofs.Laws.{page-length}
 use Rattle.luwhenoka.proofs.averages.kind_of.Statement.{statement}
 use Rattle.luwhenoka.proofs.averages.kind_of.Tie as tie
 
-within : (c : tie.After-shared-slice-known) → Page-in (c .before .args .img .now) 0
+within : (c : tie.After-shared-slice-known) → Page-in 12 (c .before .args .img .now) 0
 within c =
     let z = sized 12 _ (c .before .pre) in
     omega (arith, z .size, z .least)
@@ -25,5 +25,5 @@ kind-of-spec =
     tie.close
     (tie.spec
     (λ c κs. within c)
-    (λ c κs. omega (arith, ap length (c .page-at .ensures) ∙ page-length _ 0 (within (c .before))))
+    (λ c κs. omega (arith, ap length (c .page-at .ensures) ∙ page-length 12 _ 0 (within (c .before))))
     returns)

@@ -1,6 +1,7 @@
 -- `luwhenoka::formats::luw_format` meets its contract: a law for each way out. Assumes nothing.
 use mathlib.Core.Path.{_≡_, sym, ap, _∙_}
 use mathlib.Core.Bool.{true, _&&_}
+use native.Mathlib.Omega.{arith}
 use borrow.Author.Needs.{needs}
 use borrow.Author.Tests.{not-true, not-false}
 use Rattle.rule.specs.Time.{kind-ok, window-ok}
@@ -42,5 +43,5 @@ luw-format-spec =
     tie.close
     (tie.spec (λ c κs. search needs) (λ c κs. search needs) (λ c κs. search needs) (λ c. search needs) returns
     (λ c. search needs) returns-2
-    (λ c κs. fits (c .before .before))
+    (λ c κs. (omega arith, omega arith, fits (c .before .before)))
     (λ c. search needs) returns-3)

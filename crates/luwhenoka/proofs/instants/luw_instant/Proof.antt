@@ -29,8 +29,8 @@ fits c = sym (c .before .length-fits .ensures) ∙ not-false _ (c .if1 .left)
 before-end : (c : tie.Else2) → began (c .before) .args .t < END
 before-end c = omega (arith, c .if2 .left)
 
-headed : (c : tie.After-h) → Open-image (began (timed c .before) .args .img .now) (c .h .given .0 .0)
-headed c = opened _ (fits (timed c .before)) (sym (c .h .given .1) ∙ c .before .before .open-head .ensures)
+headed : (c : tie.After-h) → Open-image 12 (began (timed c .before) .args .img .now) (c .h .given .0 .0)
+headed c = opened 12 _ (fits (timed c .before)) (sym (c .h .given .1) ∙ c .before .before .open-head .ensures)
 
 head-fits : (c : tie.After-h) → head-ok 12 (began (timed c .before) .args .img .now) ≡ true
 unfolding head-ok
@@ -52,7 +52,7 @@ returns-3 c =
     c .refused3 .ensures
     ∙ ap instant-answer
     (instant-head _ _ (fits (read .before .before)) (before-end (read .before))
-    (shut _ (sym (told .enum-told .given .1) ∙ read .open-head .ensures)))
+    (shut 12 _ (sym (told .enum-told .given .1) ∙ read .open-head .ensures)))
 
 returns-4 : tie.Need-returns-4
 unfolding lookup-of
@@ -82,7 +82,7 @@ pub luw-instant-spec : {M : Type 1} → statement M
 luw-instant-spec =
     tie.close
     (tie.spec (λ c κs. search needs) (λ c κs. search needs) returns (λ c κs. search needs) returns-2
-    (λ c κs. fits (c .before))
+    (λ c κs. (omega arith, omega arith, fits (c .before)))
     (λ c. search needs) (λ c. search needs) (λ c κs. search needs) returns-3
     (λ c κs. headed (c .before))
     (λ c. search needs) (λ c κs. search needs) (λ c. search needs) (λ c κs. search needs) returns-4 returns-5)

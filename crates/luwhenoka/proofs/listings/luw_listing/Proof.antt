@@ -38,8 +38,8 @@ ends c = omega (arith, began (c .before) .fits .b)
 fits : (c : tie.Else1) → length-ok 12 (began c .args .img .now) ≡ true
 fits c = sym (c .before .length-fits .ensures) ∙ not-false _ (c .if1 .left)
 
-headed : (c : tie.After-h) → Open-image (began (spanned c .before) .args .img .now) (c .h .given .0 .0)
-headed c = opened _ (fits (spanned c .before)) (sym (c .h .given .1) ∙ c .before .before .open-head .ensures)
+headed : (c : tie.After-h) → Open-image 12 (began (spanned c .before) .args .img .now) (c .h .given .0 .0)
+headed c = opened 12 _ (fits (spanned c .before)) (sym (c .h .given .1) ∙ c .before .before .open-head .ensures)
 
 head-fits : (c : tie.After-h) → head-ok 12 (began (spanned c .before) .args .img .now) ≡ true
 unfolding head-ok
@@ -72,7 +72,7 @@ returns-3 c =
     let read = told .before .before in
     kept 21 _ (c .refused3 .ensures)
     ∙ listing-head _ _ _ _ (fits (read .before .before)) (read .before .if2 .left) (ends (read .before))
-    (shut _ (sym (told .enum-told .given .1) ∙ read .open-head .ensures))
+    (shut 12 _ (sym (told .enum-told .given .1) ∙ read .open-head .ensures))
 
 returns-4 : tie.Need-returns-4
 returns-4 c =
@@ -120,7 +120,7 @@ pub luw-listing-spec : {M : Type 1} → statement M
 luw-listing-spec =
     tie.close
     (tie.spec (λ c κs. search needs) (λ c κs. search needs) returns (λ c κs. search needs) returns-2
-    (λ c κs. fits (c .before))
+    (λ c κs. (omega arith, omega arith, fits (c .before)))
     (λ c. search needs) (λ c. search needs) (λ c κs. search needs) returns-3
     (λ c κs. headed (c .before))
     (λ c. search needs) (λ c. search needs) (λ c κs. search needs) returns-4 (λ c. search needs) (λ c κs. search needs)

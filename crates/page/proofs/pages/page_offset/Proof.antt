@@ -1,17 +1,14 @@
--- `page::pages::page_offset` meets its contract: the product is a machine number. Assumes nothing.
-use mathlib.Core.Path.{ap}
+-- `page::pages::page_offset` meets its contract: it is the definition. Assumes nothing.
+use mathlib.Core.Path.{_≡_, ap}
 use Prim.Native.Nat.{_*_}
 use native.Mathlib.Omega.{arith}
-use Rattle.page.proofs.Laws.Offsets.{offset-small}
+use Rattle.page.specs.Layout.{page-size}
 use Rattle.page.proofs.pages.page_offset.Statement.{statement}
 use Rattle.page.proofs.pages.page_offset.Tie as tie
 
-returns : tie.Need-returns
-returns c =
-    let p = c .before .args .p in
-    ap (λ k. k * p) (c .page-size .ensures)
+product : (c : tie.After-page-size)
+    → let args = c .before .args in c .page-size .result * args .p ≡ page-size (args .half) * args .p
+product c = ap (λ k. k * c .before .args .p) (c .page-size .ensures)
 
 pub page-offset-spec : {M : Type 1} → statement M
-page-offset-spec =
-    tie.close
-    (tie.spec (λ c κs. omega arith) (λ c. record { fits = offset-small (c .page-size .result) (c .before .args .p) (omega arith) (omega arith) }) returns)
+page-offset-spec = tie.close (tie.spec (λ c κs. omega arith) (λ c. omega (arith, product c)) (λ c. product c))

@@ -11,7 +11,8 @@ end-at-requires c κs =
     let k = pre .ready .1 in
     let same = c .page-at .ensures in
     let r = lent-read (pre .holds) (k .tree-page) same in
-    (lent-size (pre .holds) (k .tree-page) same, (omega (arith, k .inside, r .few), omega (arith, r .len, r .few)))
+    let size = lent-size (pre .holds) (k .tree-page) same in
+    (omega (arith, size, r .len, r .few), omega (arith, size, k .inside, r .few))
 
 returns : tie.Need-returns
 returns c X h l k = c .end-at .ensures ∙ lent-end h (k .tree-page) (c .before .page-at .ensures) _ _

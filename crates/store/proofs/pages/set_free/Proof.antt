@@ -14,4 +14,4 @@ returns c X h w =
     holds-put h (free next) w (canonical-free 12 next (omega arith)) (written .write-free-at .ensures)
 
 pub set-free-spec : {M : Type 1} → statement M
-set-free-spec = tie.close (tie.spec (λ c κs. (omega arith, some-long (c .before .before .pre))) (λ c. omega arith) returns)
+set-free-spec = tie.close (tie.spec (λ c κs. some-long (c .before .before .pre)) (λ c. omega arith) returns)
