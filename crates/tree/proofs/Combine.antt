@@ -8,11 +8,13 @@ use native.Mathlib.Omega.{arith}
 use lib.Dec.{leb, ltb}
 use lib.ListN.{length}
 use borrow.Author.Tests.{leb-true, le-leb, ltb-true, lt-ltb}
+use Rattle.lists.proofs.Choices.{either}
 use Rattle.rule.specs.declared.Pair.{Pair}
 use Rattle.rule.specs.Pairs.{none, Lawful}
 use Rattle.rule.specs.Time.{END, covers, overlaps}
 use Rattle.rule.proofs.Tests.{both, fails}
 use Rattle.rule.proofs.Window.{covers-is}
+use Rattle.page.specs.declared.Entry.{Entry}
 use Rattle.page.specs.Entries.{entry}
 use Rattle.steps.specs.Combine.{inside, next-start, took}
 use Rattle.tree.specs.Tree.{Node, Subtree, Nodes, flat, pair-under, pair-in, pair-at}
@@ -89,12 +91,8 @@ module _ (_⊕_ : Pair → Pair → Pair) (s e : ℕ) (effect : Pair) where
   infixl 60 _⊕_
   combine-start : (l h : ℕ) (x : Node (Subtree l)) → combine-node _⊕_ s e effect l h x .entry .start ≡ x .entry .start
   unfolding combine-node took
-  combine-start l h x = by-level l x (go (inside s e (x .entry .start) h))
+  combine-start l h x = by-level l x (either (λ (y : Entry). y .start ≡ x .entry .start) refl refl (inside s e (x .entry .start) h))
     where
-      go : (b : Bool) → cond b (entry (x .entry .start) (x .entry .pair ⊕ effect) (x .entry .child)) (x .entry) .start ≡ x .entry .start
-      go true = refl
-      go false = refl
-
       by-level : (l : ℕ) (x : Node (Subtree l)) → took _⊕_ s e effect h (x .entry) .start ≡ x .entry .start
           → combine-node _⊕_ s e effect l h x .entry .start ≡ x .entry .start
       by-level zero x p = p
@@ -105,16 +103,9 @@ module _ (_⊕_ : Pair → Pair → Pair) (s e : ℕ) (effect : Pair) where
   module _ (half : ℕ) {B : Asked (Subtree 0)} (any : Pairless B) where
     combine-shaped : (l a b : ℕ) (x : Node (Subtree l)) → Shaped half B l a b x → Shaped half B l a b (combine-node _⊕_ s e effect l b x)
     unfolding combine-node took Shaped
-    combine-shaped zero a b x q = go (inside s e (x .entry .start) b)
-      where
-        go : (z : Bool)
-            → B a b (record {
-              entry =
-                  cond z (entry (x .entry .start) (x .entry .pair ⊕ effect) (x .entry .child)) (x .entry);
-              subtree = tt;
-            })
-        go true = any .any-pair a b x (x .entry .pair ⊕ effect) q
-        go false = q
+    combine-shaped zero a b x q =
+        either (λ (y : Entry). B a b (record { entry = y; subtree = tt })) (any .any-pair a b x (x .entry .pair ⊕ effect) q) q
+        (inside s e (x .entry .start) b)
     combine-shaped (suc l) a b x q =
         go (inside s e (x .entry .start) b) (overlaps s e (x .entry .start) b)
         (ends-seg (λ h y. combine-node _⊕_ s e effect l h y) (combine-start l) (λ c d y f lt p. combine-shaped l c d y p) (q .1))

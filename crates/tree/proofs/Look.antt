@@ -2,12 +2,13 @@
 -- parts, with no side condition. Assumes nothing.
 use Prim.Native.Nat.{ℕ, suc, _+_, _≤_, _<_}
 use mathlib.Core.Path.{_≡_, refl, sym, ap, _∙_}
-use mathlib.Core.Bool.{Bool, true, false, cond}
+use mathlib.Core.Bool.{cond}
 use mathlib.Core.List.{List, [], _∷_, _++_}
 use native.Mathlib.Omega.{arith}
 use native.Mathlib.Nat.{zero-add, add-zero}
 use lib.Dec.{leb}
 use lib.ListN.{getD}
+use Rattle.lists.proofs.Choices.{cond-ap}
 use Rattle.rule.specs.declared.Pair.{Pair}
 use Rattle.page.specs.Entries.{last-from, index-of}
 use Rattle.tree.specs.Tree.{Node, Subtree, Nodes, no-node, flat, node-of, pair-under, pair-in}
@@ -17,10 +18,6 @@ use Rattle.tree.proofs.Seg.{from-yes, from-no}
 unfoldable pub look : {A B : Type 0} → (Node A → B) → ℕ → B → List (Node A) → B
 look f t d [] = d
 look f t d (x ∷ xs) = look f t (cond (leb (x .entry .start) t) (f x) d) xs
-
-cond-ap : {B C : Type 0} (g : B → C) (b : Bool) (x y : B) → g (cond b x y) ≡ cond b (g x) (g y)
-cond-ap g true x y = refl
-cond-ap g false x y = refl
 
 module _ {A : Type 0} where
   pub look-append : {B : Type 0} (f : Node A → B) (t : ℕ) (d : B) (xs ys : List (Node A))

@@ -2,11 +2,12 @@
 use Prim.Native.Nat.{ℕ, suc, _≤_, _<_}
 use mathlib.Core.Path.{_≡_, refl, sym, ap, _∙_}
 use mathlib.Core.Logic.{⊎-elim}
-use mathlib.Core.Bool.{Bool, true, false, cond}
+use mathlib.Core.Bool.{cond}
 use mathlib.Core.List.{[], _∷_, _++_}
 use native.Mathlib.Omega.{arith}
 use lib.Dec.{leb}
 use lib.ListN.{getD}
+use Rattle.lists.proofs.Choices.{either}
 use Rattle.rule.specs.declared.Pair.{Pair}
 use Rattle.rule.specs.Pairs.{none}
 use Rattle.page.specs.declared.Entry.{Entry}
@@ -82,12 +83,9 @@ module _ (_⊕_ : Pair → Pair → Pair) (l : ℕ) where
   -- one entry
   pub pair-in-one : (x : Node (Subtree (suc l))) (u : ℕ) → pair-in _⊕_ (suc l) u (x ∷ []) ≡ x .entry .pair ⊕ pair-in _⊕_ l u (x .subtree)
   unfolding pair-in pair-under node-of index-of last-from
-  pair-in-one x u = go (leb (x .entry .start) u)
-    where
-      go : (b : Bool)
-          → pair-under _⊕_ (suc l) u (getD (x ∷ []) (cond b 0 0) (no-node (suc l))) ≡ x .entry .pair ⊕ pair-in _⊕_ l u (x .subtree)
-      go true = refl
-      go false = refl
+  pair-in-one x u =
+      either (λ n. pair-under _⊕_ (suc l) u (getD (x ∷ []) n (no-node (suc l))) ≡ x .entry .pair ⊕ pair-in _⊕_ l u (x .subtree)) refl refl
+      (leb (x .entry .start) u)
 
 -- an entry's span by itself
 pub span : {A : Type 0} {lo hi : ℕ} (e : Entry) (k : A) → e .start ≡ lo → lo < hi → Seg (λ a b x. Unit {0}) lo hi (with-subtree e k ∷ [])
