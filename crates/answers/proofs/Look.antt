@@ -1,11 +1,12 @@
 -- What a lookup that met only fit pages says: how many it read, and how large its pair can be. Assumes nothing.
-use Prim.Native.Nat.{ℕ, zero, suc, _+_, _*_, _-_, _≤_, _<_}
+use Prim.Native.Nat.{ℕ, zero, suc, _+_, _*_, _≤_, _<_}
 use mathlib.Core.Path.{_≡_, refl, ap, _∙_}
-use mathlib.Core.Bool.{Bool, true, false, cond, false≢true}
+use mathlib.Core.Bool.{Bool, true, cond}
 use mathlib.Core.List.{List}
 use native.Mathlib.Omega.{arith}
 use lib.Dec.{eqb}
 use lib.IntN.{natAbs}
+use Rattle.lists.proofs.Choices.{chose}
 use Rattle.rule.specs.declared.Pair.{Pair}
 use Rattle.rule.specs.Time.{most-value}
 use Rattle.rule.specs.Pairs.{none, combine}
@@ -13,25 +14,21 @@ use Rattle.rule.proofs.Laws.{combine-sum-bound}
 use Rattle.page.specs.declared.Head.{Head}
 use Rattle.page.specs.Entries.{index-of}
 use Rattle.page.specs.Layout.{entry-count, pair-at, child-at, entries-of}
-use Rattle.page.specs.Fit.{Page-context, root-context, context-below, fewest, page-fit}
+use Rattle.page.specs.Fit.{Page-context, root-context, context-below, page-fit}
 use Rattle.fit.proofs.Laws.Parts.{fewest-pos}
 use Rattle.fit.proofs.Laws.Pages.{page-fit-is}
 use Rattle.image.specs.Images.{page-at}
 use Rattle.image.specs.Sound.{tree-fit}
 use Rattle.image.specs.Instant.{Lookup, stopped, leaf-answer, above, look}
+use Rattle.image.proofs.Trails.{root-some}
 use Rattle.soundness.proofs.Tree.{top-fit, tree-parts}
 use Rattle.page.proofs.Laws.Indices.{index-within}
 
 -- a fit root has an entry, so that a page can have one
 pub half-some : (half : ℕ) (h : Head) (s : List ℕ) → page-fit half h (root-context h) s ≡ true → 1 ≤ half
-unfolding fewest root-context
 half-some half h s e =
     let f = page-fit-is half h (root-context h) s .0 e in
-    omega (arith, some (eqb (h .height - 1) 0), f .least, f .most)
-  where
-    some : (c : Bool) → 1 ≤ cond c 1 2
-    some true = omega arith
-    some false = omega arith
+    omega (arith, root-some half h, f .least, f .most)
 
 -- an answer: all pages on the path are fit, and the pair
 pub record Found (r : Lookup) (p : Pair) : Type 0 where
@@ -40,8 +37,7 @@ pub record Found (r : Lookup) (p : Pair) : Type 0 where
 
 went-on : (c : Bool) (r : Lookup) → cond c r stopped .fit ≡ true → (c ≡ true) × (r .fit ≡ true)
 unfolding stopped
-went-on true r e = (refl, e)
-went-on false r e = absurd (false≢true e)
+went-on c r = chose (λ (w : Lookup). w .fit) c r refl
 
 module _ (half : ℕ) (h : Head) (img : List ℕ) (t : ℕ) where
   -- ---- one page, by the entry that is found in it

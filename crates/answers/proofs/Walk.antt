@@ -2,11 +2,12 @@
 -- finds. Assumes nothing.
 use Prim.Native.Nat.{ℕ, zero, suc, _≤_, _<_, max, min}
 use mathlib.Core.Path.{_≡_, refl, sym, ap, _∙_}
-use mathlib.Core.Bool.{Bool, true, false, cond, _&&_, and-eq-true-iff, false≢true, true≢false}
+use mathlib.Core.Bool.{Bool, true, false, cond, _&&_, and-eq-true-iff, true≢false}
 use mathlib.Core.List.{List}
 use native.Mathlib.Omega.{arith}
 use native.Mathlib.Decide.{decLt}
 use borrow.Author.Tests.{ltb-true, lt-ltb}
+use Rattle.lists.proofs.Choices.{chose}
 use Rattle.rule.specs.declared.Pair.{Pair}
 use Rattle.rule.specs.Pairs.{combine}
 use Rattle.rule.specs.Time.{overlaps}
@@ -33,8 +34,7 @@ within a b x = max a (min b x)
 
 went-on : (c : Bool) (w : Walked) → cond c w stopped .fit ≡ true → (c ≡ true) × (w .fit ≡ true)
 unfolding stopped
-went-on true w e = (refl, e)
-went-on false w e = absurd (false≢true e)
+went-on c w = chose (λ (v : Walked). v .fit) c w refl
 
 turn-tiles : {Q : ℕ → Pair → Type 0} (n : ℕ) (g : ℕ → Walked) (b : ℕ → ℕ) → in-turn n g .fit ≡ true
     → ((i : ℕ) → i < n → g i .fit ≡ true → Tiles Q (b i) (b (suc i)) (g i .runs)) → Tiles Q (b 0) (b n) (in-turn n g .runs)

@@ -9,6 +9,7 @@ use native.Mathlib.Decide.{decLt}
 use lib.ListN.{length}
 use lib.Dec.{eqb}
 use borrow.Author.Tests.{eq-eqb, ne-eqb}
+use Rattle.lists.proofs.Choices.{either}
 use Rattle.rule.specs.declared.Pair.{Pair}
 use Rattle.rule.specs.Pairs.{combine}
 use Rattle.rule.specs.Time.{overlaps}
@@ -198,11 +199,7 @@ module _ (half : ℕ) (h : Head) (img : List ℕ) where
       leaf-told (page-fit half h at s) _ (record { at = at; page = p }) refl
       (in-turn-fit _ (entry-count s)
       (λ i. chosen (overlaps a b (start-at s i) (end-at s (at .hi) i)) (leaf-run a (start-at s i) (pair-at half s i)) [] refl
-      ∙ no-looks (overlaps a b (start-at s i) (end-at s (at .hi) i))))
-    where
-      no-looks : (c : Bool) → all-fit half h img (cond c [] []) ≡ true
-      no-looks true = refl
-      no-looks false = refl
+      ∙ either (λ (vs : List Visit). all-fit half h img vs ≡ true) refl refl (overlaps a b (start-at s i) (end-at s (at .hi) i))))
   walk-told a b (suc l) at p =
       let s : List ℕ = page-at half img p in
       page-told (page-fit half h at s) _ (record { at = at; page = p }) _ refl
@@ -215,13 +212,9 @@ module _ (half : ℕ) (h : Head) (img : List ℕ) where
 
 -- ---- from the root
 
-root-some : (half : ℕ) (h : Head) → 1 ≤ fewest half (root-context h)
+pub root-some : (half : ℕ) (h : Head) → 1 ≤ fewest half (root-context h)
 unfolding fewest root-context
-root-some half h = go (eqb (h .height - 1) 0)
-  where
-    go : (c : Bool) → 1 ≤ cond c 1 2
-    go true = omega arith
-    go false = omega arith
+root-some half h = either (λ n. 1 ≤ n) (omega arith) (omega arith) (eqb (h .height - 1) 0)
 
 module _ (half : ℕ) (img : List ℕ) where
   abbrev h : Head
