@@ -12,10 +12,10 @@ use Rattle.page.specs.Entries.{at, no-entry}
 use Rattle.image.specs.Images.{Image, tree, entries-in}
 use Rattle.steps.specs.Supply.{entries, put}
 use Rattle.steps.specs.Combine.{next-start}
-use Rattle.steps.proofs.Supply.{put-at}
+use Rattle.steps.proofs.Supply.{put-at, put-again, put-same}
 use Rattle.store.specs.Encoding.{Encodes, Pre-level, Post-level}
 use Rattle.store.specs.Preconditions.{Tree-page}
-use Rattle.store.proofs.Supplying.{within-put, put-again, put-same}
+use Rattle.store.proofs.Supplying.{within-put}
 use Rattle.combine_span.specs.declared.SpanEffect.{SpanEffect}
 use Rattle.combine_span.specs.SpanCombinable.{end-in, took-by, all-took, Takes, Entry-takes, Page-takes}
 
@@ -105,7 +105,7 @@ module _ (q : SpanEffect) (hi : ℕ) where
     none {img} count =
         record {
           same = refl;
-          each = λ X h l k. (count X h l (k .tree-page) .0, subst⁻¹ (Encodes img) (put-same p X (k .tree-page .page)) h);
+          each = λ X h l k. (count X h l (k .tree-page) .0, subst⁻¹ (Encodes img) (put-same X (k .tree-page .page)) h);
         }
 
     module _ {img₀ : List ℕ} {n i : ℕ} {img : List ℕ} (t : Taking img₀ n i img) where
@@ -145,4 +145,4 @@ module _ (q : SpanEffect) (hi : ℕ) where
     untaken i l X k same =
         let es : List Entry = entries X p in
         let whole : es ≡ with-took i es = sym (splice-same i es no-entry (k .has .inside)) ∙ ap (λ y. splice i (y ∷ []) es) same in
-        sym (put-same p X (k .has .tree-page .page ∙ ap (λ fs. tree l fs) whole))
+        sym (put-same X (k .has .tree-page .page ∙ ap (λ fs. tree l fs) whole))

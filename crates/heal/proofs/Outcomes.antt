@@ -22,7 +22,8 @@ use Rattle.heal.specs.Siblings.{Siblings, joint-count, Redistributable, 
 use Rattle.heal.specs.Siblings.{emptied, both-pushed, shared, siblings-shared, siblings-joined, pair-emptied}
 use Rattle.heal.proofs.Lists.{at-splice}
 use Rattle.heal.proofs.Pushing.{length-pushed}
-use Rattle.heal.proofs.Puts.{put-again, put-both, given-both, entries-at, entries-else, entries-given}
+use Rattle.steps.proofs.Supply.{put-again}
+use Rattle.heal.proofs.Puts.{put-both, given-both, entries-at, entries-else, entries-given}
 use Rattle.heal.proofs.Puts.{tree-at, tree-else, tree-given, levels-apart}
 
 -- ---- a page that takes the pair above it
@@ -53,6 +54,10 @@ module _ {level p l : ℕ} {X : Image} (s : Siblings level p l X) where
 
   abbrev b : Entry
   b = at (entries X p) (suc l)
+
+  -- both entries are there
+  pub entry-there : {i : ℕ} → i ≤ suc l → Has-entry (suc level) p i X
+  entry-there k = record { tree-page = s .parent .tree-page; inside = omega (arith, s .parent .inside) }
 
   -- it has room for one more at the most
   pub next-fits : {img : List ℕ} → Encodes img X → l + 1 < 24

@@ -19,7 +19,8 @@ use Rattle.store.specs.Preconditions.{Push-ready}
 use Rattle.store.proofs.Encoding.{from}
 use Rattle.heal.specs.Siblings.{Entry-pushable, with-pair}
 use Rattle.heal.proofs.Lists.{changed, length-changed, at-changed, changed-more, changed-all}
-use Rattle.heal.proofs.Puts.{put-again, put-same, entries-at, tree-at}
+use Rattle.steps.proofs.Supply.{put-again, put-same}
+use Rattle.heal.proofs.Puts.{entries-at, tree-at}
 
 pub length-pushed : (f : Pair → Pair → Pair) (X : Image) (e : Entry) → length (pushed f X e) ≡ length (entries X (e .child))
 unfolding pushed push

@@ -5,7 +5,6 @@ use mathlib.Core.List.{List}
 use Prim.Native.Nat.{ℕ, suc}
 use native.Mathlib.Omega.{arith}
 use lib.Dec.{eqb}
-use borrow.Author.Tests.{eqb-true}
 use Rattle.page.specs.declared.Entry.{Entry}
 use Rattle.image.specs.Images.{Image, Cell, tree, free, entries-in}
 use Rattle.steps.specs.Supply.{entries, put, with-supply, given-back}
@@ -14,24 +13,6 @@ use Rattle.store.specs.Preconditions.{In-image, Tree-page}
 use Rattle.store.proofs.Supplying.{within-put, within-given}
 
 -- ---- which writes count
-
--- the last one to a page
-pub put-again : (p : ℕ) (c d : Cell) (X : Image) → put p c (put p d X) ≡ put p c X
-unfolding put
-put-again p c d X = λ j. record { head = X .head; page = λ q. pick (eqb q p) (X .page q) j }
-  where
-    pick : (b : Bool) (x : Cell) → cond b c (cond b d x) ≡ cond b c x
-    pick true x = refl
-    pick false x = refl
-
--- not one of what stands there
-pub put-same : {p : ℕ} {c : Cell} (X : Image) → X .page p ≡ c → put p c X ≡ X
-unfolding put
-put-same {p} {c} X e = λ j. record { head = X .head; page = λ q. pick q (eqb q p) refl j }
-  where
-    pick : (q : ℕ) (b : Bool) → eqb q p ≡ b → cond b c (X .page q) ≡ X .page q
-    pick q true d = sym e ∙ ap (X .page) (sym (eqb-true q p d))
-    pick q false d = refl
 
 -- of two pages that were written twice, the later of each
 later : (f g : Bool) (u v w x y : Cell) → cond g u (cond f v (cond g w (cond f x y))) ≡ cond g u (cond f v y)

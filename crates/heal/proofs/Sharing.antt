@@ -18,7 +18,8 @@ use Rattle.store.proofs.Encoding.{from}
 use Rattle.store.proofs.Supplying.{within-put}
 use Rattle.heal.specs.Siblings.{Two-pages, Appendable, Sharable, Movable, Nearer, shared}
 use Rattle.heal.proofs.Lists.{appended, over-left, over-right}
-use Rattle.heal.proofs.Puts.{put-again, put-same, put-both, entries-at, entries-else, tree-at, tree-else}
+use Rattle.steps.proofs.Supply.{put-again, put-same}
+use Rattle.heal.proofs.Puts.{put-both, entries-at, entries-else, tree-at, tree-else}
 
 -- ---- all entries of page b behind those of page a
 

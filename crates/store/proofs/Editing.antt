@@ -1,6 +1,6 @@
 -- A tree page that is lent to be edited in place, as the 512 bytes from its offset a on: what it shows, and what the image's bytes encode
 -- once it came back with other entries. Assumes nothing.
-use Prim.Native.Nat.{ℕ, _+_, _*_, _-_, _≤_, _<_, _^_}
+use Prim.Native.Nat.{ℕ, _+_, _*_, _-_, _≤_, _<_}
 use mathlib.Core.Path.{_≡_, refl, sym, ap, subst, _∙_}
 use mathlib.Core.List.{List, [], _∷_}
 use native.Mathlib.Omega.{arith}

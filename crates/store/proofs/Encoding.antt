@@ -2,11 +2,11 @@
 -- Assumes nothing.
 use Prim.Native.Nat.{ℕ, _+_, _*_, _≤_, _<_, min}
 use mathlib.Core.Path.{_≡_, sym, ap, _∙_}
-use mathlib.Core.Bool.{Bool, true, false, cond}
 use mathlib.Core.List.{List}
 use native.Mathlib.Omega.{arith}
 use lib.Dec.{eqb}
 use lib.ListN.{length}
+use Rattle.lists.proofs.Choices.{either}
 use Rattle.fields.specs.Bytes.{part, patch}
 use Rattle.fields.specs.Numbers.{u32-bytes}
 use Rattle.lists.specs.Lists.{concat-map}
@@ -103,11 +103,7 @@ readied s f = record { image = s .image; holds = s .holds; ready = f (s .image) 
 
 put-kept : (X : Image) (p : ℕ) (c : Cell) → Canonical 12 c → (q : ℕ) → Canonical 12 (X .page q) → Canonical 12 (put p c X .page q)
 unfolding put
-put-kept X p c k q old = pick (eqb q p)
-  where
-    pick : (b : Bool) → Canonical 12 (cond b c (X .page q))
-    pick true = k
-    pick false = old
+put-kept X p c k q old = either (Canonical 12) k old (eqb q p)
 
 pub put-bytes : (half : ℕ) → 1 ≤ half → (X : Image) (p : ℕ) (c : Cell) → ((q : ℕ) → 1 ≤ q → q < X .head .pages → Canonical half (X .page q))
     → length (cell-bytes half c) ≡ page-size half → 1 ≤ p → p < X .head .pages

@@ -1,14 +1,14 @@
 -- A tree page's entries, read from its bytes: their number, one of them, where it ends, and the one that has an instant. Assumes nothing.
 use Prim.Native.Nat.{ℕ, suc, _+_, _*_, _≤_, _<_}
 use mathlib.Core.Path.{_≡_, sym, ap, _∙_, subst⁻¹}
-use mathlib.Core.Bool.{Bool, true, false, cond}
+use mathlib.Core.Bool.{cond}
 use mathlib.Core.List.{List, [], _∷_}
 use native.Mathlib.Omega.{arith}
 use lib.Dec.{leb, ltb}
 use lib.ListN.{length, drop, drop-of-length-le}
 use lib.Seq.{drop-cons}
 use borrow.Author.Tests.{ltb-true, ltb-false}
-use Rattle.lists.proofs.Choices.{cond-one}
+use Rattle.lists.proofs.Choices.{cond-one, either}
 use Rattle.page.specs.declared.Entry.{Entry}
 use Rattle.page.specs.declared.Page.{Page}
 use Rattle.page.specs.Decoded.{entry-list}
@@ -28,15 +28,11 @@ use Rattle.store.proofs.Encoding.{Tree-read, tree-read, holds-length}
 
 -- ---- the index of an instant is an entry's
 
-picked : (b : Bool) (i k n : ℕ) → i < n → k < n → cond b i k < n
-picked true i k n l m = l
-picked false i k n l m = m
-
 last-inside : (t i found n : ℕ) (es : List Entry) → found < n → i + length es ≤ n → last-from t i found es < n
 unfolding last-from
 last-inside t i found n [] h k = h
 last-inside t i found n (e ∷ es) h k =
-    last-inside t (suc i) (cond (leb (e .start) t) i found) n es (picked (leb (e .start) t) i found n (omega arith) h) (omega arith)
+    last-inside t (suc i) (cond (leb (e .start) t) i found) n es (either (λ k. k < n) (omega arith) h (leb (e .start) t)) (omega arith)
 
 pub slot-inside : (t : ℕ) (es : List Entry) → 1 ≤ length es → index-of t es < length es
 unfolding index-of

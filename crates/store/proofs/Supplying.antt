@@ -1,13 +1,13 @@
 -- What a head that was read says of the image, and what taking a page, writing one and giving one back leave. Assumes nothing.
 use Prim.Native.Nat.{ℕ, suc, _+_, _-_, _<_}
 use mathlib.Core.Path.{_≡_, refl, sym, ap, _∙_, subst}
-use mathlib.Core.Bool.{Bool, true, false, cond}
+use mathlib.Core.Bool.{cond}
 use mathlib.Core.List.{List}
 use native.Mathlib.Numerals.{add-one}
 use native.Mathlib.Omega.{arith}
 use lib.Dec.{eqb}
-use borrow.Author.Tests.{eqb-true, eq-eqb, ne-eqb}
-use Rattle.lists.proofs.Choices.{cond-one}
+use borrow.Author.Tests.{eq-eqb, ne-eqb}
+use Rattle.lists.proofs.Choices.{either}
 use Rattle.page.specs.declared.Head.{Head}
 use Rattle.image.specs.Images.{Image, Cell, free, next-in}
 use Rattle.steps.specs.Supply.{put, with-supply, spare, taken, given-back, with-root}
@@ -75,44 +75,24 @@ chained-within {X} e t = subst (λ p. In-image p X) (sym (spare-chained X e)) (t
 -- ---- the image keeps its pages' number
 
 module _ {q : ℕ} {X : Image} (w : In-image q X) where
+  kept : {Y : Image} → Y .head .pages ≡ X .head .pages → In-image q Y
+  kept same = record { least = w .least; below = omega (arith, w .below) }
+
   pub within-put : (p : ℕ) (c : Cell) → In-image q (put p c X)
   unfolding put
-  within-put p c = record { least = w .least; below = w .below }
+  within-put p c = kept refl
 
   pub within-taken : In-image q (taken X)
   unfolding taken with-supply
-  within-taken = pick (eqb (X .head .chain) 0)
-    where
-      pick : (b : Bool) → In-image q (with-head
-          (cond b (with-supply (X .head .free) (X .head .chain) (suc (X .head .mark)) (X .head))
-          (with-supply (next-in (X .page (X .head .free))) (X .head .chain - 1) (X .head .mark) (X .head))) X)
-      pick true = record { least = w .least; below = w .below }
-      pick false = record { least = w .least; below = w .below }
+  within-taken = kept (either (λ (h : Head). h .pages ≡ X .head .pages) refl refl (eqb (X .head .chain) 0))
 
   pub within-given : (p : ℕ) → In-image q (given-back p X)
   unfolding given-back put with-supply
-  within-given p = record { least = w .least; below = w .below }
+  within-given p = kept refl
 
   pub within-rooted : (height p : ℕ) → In-image q (with-root height p X)
   unfolding with-root
-  within-rooted height p = record { least = w .least; below = w .below }
-
--- ---- a page written again, or as it is
-
-pub put-again : (p : ℕ) (c d : Cell) (X : Image) → put p c (put p d X) ≡ put p c X
-unfolding put
-put-again p c d X = λ j. record { head = X .head; page = λ q. over (eqb q p) (X .page q) j }
-  where
-    over : (b : Bool) (old : Cell) → cond b c (cond b d old) ≡ cond b c old
-    over true old = refl
-    over false old = refl
-
-pub put-same : (p : ℕ) {c : Cell} (X : Image) → X .page p ≡ c → put p c X ≡ X
-unfolding put
-put-same p {c} X h = λ j. record { head = X .head; page = λ q. still q j }
-  where
-    still : (q : ℕ) → cond (eqb q p) c (X .page q) ≡ X .page q
-    still q = cond-one (λ d. d ≡ X .page q) (eqb q p) (λ e. sym h ∙ ap (X .page) (sym (eqb-true q p e))) (λ e. refl)
+  within-rooted height p = kept refl
 
 -- ---- giving one back
 

@@ -14,35 +14,15 @@ use Rattle.store.specs.Encoding.{Encodes}
 use Rattle.store.specs.Preconditions.{Push-ready}
 use Rattle.store.proofs.Encoding.{from, readied}
 use Rattle.heal.specs.Siblings.{Siblings}
-use Rattle.heal.proofs.Outcomes.{push-else, pushed-else, next-fits}
+use Rattle.heal.proofs.Outcomes.{entry-there, push-else, pushed-else, next-fits}
 use Rattle.heal.proofs.push.push_siblings.Statement.{statement}
 use Rattle.heal.proofs.push.push_siblings.Tie as tie
-
-entry-of-requires : tie.Need-entry-of-requires
-entry-of-requires c κs =
-    from (c .before .before .pre)
-    (λ X h s.
-    record {
-      image = X;
-      holds = h;
-      ready = (_, record { tree-page = s .1 .parent .tree-page; inside = omega (arith, s .1 .parent .inside) });
-    })
 
 abbrev start : tie.After-entry-of → tie.Start
 start c = c .before .before .before
 
 add-entry-of : tie.Need-add-entry-of
 add-entry-of c = from (start (c .before) .pre) (λ X h s. omega (arith, next-fits (s .1) h))
-
-entry-of-requires-2 : tie.Need-entry-of-requires-2
-entry-of-requires-2 c κs =
-    from (start (c .before) .pre)
-    (λ X h s.
-    record {
-      image = X;
-      holds = h;
-      ready = (_, record { tree-page = s .1 .parent .tree-page; inside = omega (arith, s .1 .parent .inside) });
-    })
 
 -- ---- the two entries, of every image that the bytes encode
 
@@ -52,11 +32,11 @@ first c = c .before .before
 module _ (c : tie.After-entry-of2) (X : Image) (h : Encodes (start (first c) .args .img .now) X) {v : ℕ}
     (s : Siblings v (start (first c) .args .p) (start (first c) .args .l) X) where
   left : first c .entry-of .result ≡ at (entries X (start (first c) .args .p)) (start (first c) .args .l)
-  left = first c .entry-of .ensures X h _ (record { tree-page = s .parent .tree-page; inside = omega (arith, s .parent .inside) })
+  left = first c .entry-of .ensures X h _ (entry-there s (omega arith))
 
   right : c .entry-of2 .result ≡ at (entries X (start (first c) .args .p)) (suc (start (first c) .args .l))
   right =
-      c .entry-of2 .ensures X h _ (record { tree-page = s .parent .tree-page; inside = omega (arith, s .parent .inside) })
+      c .entry-of2 .ensures X h _ (entry-there s (omega arith))
       ∙ ap (at (entries X (start (first c) .args .p))) (add-one (start (first c) .args .l))
 
   left-ready : Push-ready v (first c .entry-of .result) X
@@ -116,4 +96,8 @@ returns c X h v s =
 pub push-siblings-spec : {M : Type 1} → statement M
 push-siblings-spec =
     tie.close
-    (tie.spec entry-of-requires add-entry-of entry-of-requires-2 push-down-requires push-down-requires-2 (λ c. search needs) returns)
+    (tie.spec
+    (λ c κs. readied (c .before .before .pre) (λ X h s. (_, entry-there (s .1) (omega arith))))
+    add-entry-of
+    (λ c κs. readied (start (c .before) .pre) (λ X h s. (_, entry-there (s .1) (omega arith))))
+    push-down-requires push-down-requires-2 (λ c. search needs) returns)

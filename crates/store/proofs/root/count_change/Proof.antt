@@ -20,7 +20,7 @@ returns c X h r =
     let read = set .before .before .before in
     by-head (λ Y. Encodes (read .before .before .before .args .img .now) Y → Encodes (set .set-head .last .0) (count-change Y))
     (read .head-of .ensures X h tt)
-    (λ k. rw (add-one (read .head-of .result .changes)) at (set .set-head .ensures _ k (record { pages = refl }))) h
+    (λ k. rw (← add-one (read .head-of .result .changes)) (set .set-head .ensures _ k (record { pages = refl }))) h
 
 pub count-change-spec : {M : Type 1} → statement M
 count-change-spec =
