@@ -1,14 +1,14 @@
 -- `cut::split::insert_after` meets its contract: an entry that becomes two is kept, with the second put in behind it. Assumes nothing.
 use Prim.Native.Nat.{ℕ, suc, _+_, _≤_, _<_}
-use mathlib.Core.Path.{_≡_, sym, ap, subst}
+use mathlib.Core.Path.{_≡_, ap}
 use mathlib.Core.List.{List}
 use native.Mathlib.Omega.{arith}
 use borrow.Author.Needs.{needs}
 use lib.ListN.{length}
 use Rattle.page.specs.declared.Entry.{Entry}
-use Rattle.page.specs.Entries.{entry, at, inserted}
-use Rattle.image.specs.Images.{Image, tree}
-use Rattle.steps.specs.Supply.{entries, put}
+use Rattle.page.specs.Entries.{entry, inserted}
+use Rattle.image.specs.Images.{Image}
+use Rattle.steps.specs.Supply.{entries}
 use Rattle.steps.specs.Cut.{split-if-full}
 use Rattle.store.specs.Encoding.{Encodes}
 use Rattle.store.specs.Preconditions.{Has-room}

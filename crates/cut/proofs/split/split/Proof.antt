@@ -7,9 +7,8 @@ use borrow.Author.Needs.{needs}
 use lib.ListN.{length, take, drop}
 use Rattle.page.specs.declared.Entry.{Entry}
 use Rattle.page.specs.Entries.{inserted}
-use Rattle.image.specs.Images.{Image, tree}
-use Rattle.page.specs.Decoded.{entry-list}
-use Rattle.steps.specs.Supply.{entries, put, spare, taken}
+use Rattle.image.specs.Images.{Image}
+use Rattle.steps.specs.Supply.{entries, spare, taken}
 use Rattle.edit.specs.Contents.{Has-entries}
 use Rattle.edit.proofs.Edits.{has-len, has-then}
 use Rattle.store.specs.Encoding.{Encodes}
