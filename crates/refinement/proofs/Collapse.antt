@@ -27,7 +27,7 @@ use Rattle.refinement.proofs.Below.{node-at, under-suc, below-only}
 use Rattle.refinement.proofs.Moves.{Frame, put-else, stores-move, put-stores, lasting, put-supplied, given-supplied, given-else}
 use Rattle.refinement.proofs.Moves.{given-lasting, spare-given, rooted-supplied}
 use Rattle.refinement.proofs.Paths.{entries-are, subtrees-represented, at-flat}
-use Rattle.refinement.proofs.Stepped.{state, Steady, steady-of, held-is}
+use Rattle.refinement.proofs.Stepped.{state, Steady, steady-of, steady-rooted, held-is}
 use Rattle.refinement.proofs.Rebalance.{push-flat, push-stores, push-below}
 
 -- What becomes of an image and the tree that it shows, W the pages that may be written.
@@ -131,7 +131,7 @@ module _ (_⊕_ : Pair → Pair → Pair) (l : ℕ) (x : Node (Subtree (suc (suc
             );
         frame =
             λ q h. given-else p Z₁ q (omega (arith, root-may q)) ∙ put-else c (tree l (flat new)) Z q (omega (arith, c-may q));
-        steady = record { pages = d .pages; kind = d .kind; window = d .window; changes = d .changes };
+        steady = steady-rooted (suc l) c (given-back p Z₁) d;
       })
 
 -- the root stays

@@ -40,7 +40,7 @@ use Rattle.tree.specs.Counts.{later}
 use Rattle.tree.proofs.Conservation.Supply.{later-more, later-add}
 use Rattle.refinement.proofs.Taking.{firsts, firsts-none, firsts-more, later-held, firsts-add, spares-are, taken-is}
 use Rattle.refinement.proofs.Split.{Entry-cut, splits-if-full}
-use Rattle.refinement.proofs.Stepped.{state, Steady, Stepped, steady-of, steady-then, held-is, once-is}
+use Rattle.refinement.proofs.Stepped.{state, Steady, Stepped, steady-of, steady-then, steady-rooted, held-is, once-is}
 use Rattle.refinement.proofs.Paths.{path-held, subtrees-represented, flat-same, there, path-top, path-past, entries-are, at-flat}
 use Rattle.refinement.proofs.Paths.{has-index, stocked-on, stores-on, path-in, path-below}
 
@@ -262,10 +262,8 @@ grow-root-else es {Z} {R} s =
     (put-else (next-page R) (tree (Z .head .height) es) (with-root (suc (Z .head .height)) (next-page R) (taken Z)))
 
 grow-root-steady : (es : List Entry) (Z : Image) → Steady (Z .head) (grow-root es Z .head)
-unfolding grow-root put with-root
-grow-root-steady es Z =
-    let s : Steady (Z .head) (taken Z .head) = steady-of (taken-lasting Z) in
-    record { pages = s .pages; kind = s .kind; window = s .window; changes = s .changes }
+unfolding grow-root put
+grow-root-steady es Z = steady-rooted _ _ (taken Z) (steady-of (taken-lasting Z))
 
 module _ (half t : ℕ) (X : Image) (Y : State) (sh : Represents X Y) (once : Once Y) (stock : Full Y) (instant : t < END) where
   abbrev l : ℕ

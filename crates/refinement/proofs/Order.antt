@@ -9,7 +9,7 @@ use native.Mathlib.Omega.{arith}
 use lib.Dec.{leb, ltb}
 use borrow.Author.Tests.{leb-false, ltb-true, le-leb, lt-leb}
 use Rattle.lists.specs.Lists.{hit}
-use Rattle.lists.proofs.Choices.{cond-one}
+use Rattle.lists.proofs.Choices.{cond-one, cond-ap}
 use Rattle.lists.proofs.Totals.{hit-is}
 use Rattle.lists.proofs.Times.{times-cons, times-none, times-append}
 use Rattle.rule.specs.declared.Pair.{Pair}
@@ -35,15 +35,11 @@ use Rattle.refinement.proofs.Combine.{combine-held}
 
 -- ---- the entry that has t
 
-one-more : (b : Bool) (i f : ℕ) → cond b (suc i) (suc f) ≡ suc (cond b i f)
-one-more true i f = refl
-one-more false i f = refl
-
 last-shift : (t i f : ℕ) (es : List Entry) → last-from t (suc i) (suc f) es ≡ suc (last-from t i f es)
 unfolding last-from
 last-shift t i f [] = refl
 last-shift t i f (e ∷ es) =
-    ap (λ (n : ℕ). last-from t (suc (suc i)) n es) (one-more (leb (e .start) t) i f)
+    ap (λ (n : ℕ). last-from t (suc (suc i)) n es) (sym (cond-ap suc (leb (e .start) t) i f))
     ∙ last-shift t (suc i) (cond (leb (e .start) t) i f) es
 
 module _ {A : Type 0} {Q : ℕ → ℕ → Node A → Type 0} where

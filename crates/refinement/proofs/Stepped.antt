@@ -9,7 +9,7 @@ use Rattle.lists.proofs.Times.{times-cons, times-none}
 use Rattle.page.specs.declared.Head.{Head}
 use Rattle.image.specs.Images.{Image}
 use Rattle.lists.specs.Lists.{times}
-use Rattle.steps.specs.Supply.{with-supply, count-change}
+use Rattle.steps.specs.Supply.{with-supply, count-change, with-root}
 use Rattle.tree.specs.Tree.{Nodes, pages-under}
 use Rattle.tree.specs.Supply.{Supply}
 use Rattle.tree.specs.Cut.{State, root-node}
@@ -50,6 +50,11 @@ steady-then a b =
       window = b .window ∙ a .window;
       changes = b .changes ∙ a .changes;
     }
+
+-- the root is none of them
+pub steady-rooted : {h : Head} (height p : ℕ) (X : Image) → Steady h (X .head) → Steady h (with-root height p X .head)
+unfolding with-root
+steady-rooted height p X s = record { pages = s .pages; kind = s .kind; window = s .window; changes = s .changes }
 
 -- From X to X′, on trees from Y to Y′: what is shown, the pages held, and the pages that may differ, all of which are held.
 pub record Stepped (X X′ : Image) (Y Y′ : State) (names : List ℕ) : Type 0 where
