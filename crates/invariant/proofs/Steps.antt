@@ -2,7 +2,7 @@
 -- that it leaves is formed and bounded. C alone raises the number of changes that the bounds are for. Nothing here is about what holds only
 -- before and after a change. Assumes nothing.
 use Prim.Native.Nat.{ℕ, suc, _+_, _*_, _-_, _≤_, _<_}
-use mathlib.Core.Path.{_≡_, ap, _∙_}
+use mathlib.Core.Path.{_≡_, refl, ap, _∙_}
 use mathlib.Core.Bool.{false}
 use mathlib.Core.List.{List}
 use native.Mathlib.Omega.{arith}
@@ -14,6 +14,7 @@ use Rattle.rule.specs.Pairs.{combine}
 use Rattle.rule.specs.Bounds.{Effective}
 use Rattle.rule.proofs.Laws.{lawful}
 use Rattle.page.specs.Fit.{most-changes}
+use Rattle.page.specs.declared.Head.{Head}
 use Rattle.image.specs.Images.{Image}
 use Rattle.steps.specs.Supply.{count-change, pages-taken}
 use Rattle.steps.specs.Change.{cuts, lacks-pages, cut-names, combine-names, heal-names}
@@ -39,7 +40,7 @@ use Rattle.refinement.proofs.Cut.{cut-is}
 use Rattle.refinement.proofs.Order.{combine-is}
 use Rattle.refinement.proofs.Heal.{heal-is}
 use Rattle.refinement.proofs.Formed.{formed-full, formed-gapless}
-use Rattle.invariant.specs.Invariant.{Any-pair, Bounds, Structure}
+use Rattle.invariant.specs.Invariant.{Any-pair, Bounds, Ranges, Structure}
 use Rattle.invariant.proofs.To.Known.{structure-once}
 
 -- ---- the bounds of the pairs
@@ -77,6 +78,18 @@ combine-bounds kind n s e p Y f b =
       values = λ k. combine-within (values-bounded kind k) 0 s e p (f .value k) Y (b .values k);
     }
 
+-- ---- the head's ranges: they go by its pages, high mark, kind and window
+
+ranged : {h g : Head} → Ranges h → g .pages ≡ h .pages → g .mark ≤ g .pages → g .kind ≡ h .kind → g .window ≡ h .window → Ranges g
+ranged r pages mark kind window =
+    record {
+      pages-least = omega (arith, r .pages-least);
+      pages-most = omega (arith, r .pages-most);
+      mark-most = mark;
+      kind-fits = ap kind-ok kind ∙ r .kind-fits;
+      window-fits = ap window-ok window ∙ r .window-fits;
+    }
+
 -- ---- what a step leaves, if its tree is formed and bounded and its high mark lies in the image
 
 kept : {half kind n m : ℕ} {X X′ : Image} {Y Y′ : State} {names : List ℕ} → Structure half kind n X Y → Stepped X X′ Y Y′ names
@@ -86,7 +99,6 @@ kept : {half kind n m : ℕ} {X X′ : Image} {Y Y′ : State} {names : List ℕ
     → Y′ .supply .mark ≤ X .head .pages
     → Structure half kind m X′ Y′
 kept g d formed bounds few mark =
-    let r = g .ranges in
     let h = d .steady in
     record {
       shown = d .shown;
@@ -96,21 +108,13 @@ kept g d formed bounds few mark =
       kind-is = h .kind ∙ g .kind-is;
       bounds = bounds;
       changes-most = few;
-      ranges =
-          record {
-            pages-least = omega (arith, h .pages, r .pages-least);
-            pages-most = omega (arith, h .pages, r .pages-most);
-            mark-most = omega (arith, h .pages, d .shown .supplied .mark, mark);
-            kind-fits = ap kind-ok (h .kind) ∙ r .kind-fits;
-            window-fits = ap window-ok (h .window) ∙ r .window-fits;
-          };
+      ranges = ranged (g .ranges) (h .pages) (omega (arith, h .pages, d .shown .supplied .mark, mark)) (h .kind) (h .window);
     }
 
 -- counting the change sets nothing that the structure speaks of
 pub counted-keeps : {half kind n : ℕ} {X : Image} {Y : State} → Structure half kind n X Y → Structure half kind n (count-change X) Y
 unfolding count-change
 counted-keeps g =
-    let r = g .ranges in
     record {
       shown = counted-represented (g .shown);
       formed = g .formed;
@@ -119,14 +123,7 @@ counted-keeps g =
       kind-is = g .kind-is;
       bounds = g .bounds;
       changes-most = g .changes-most;
-      ranges =
-          record {
-            pages-least = r .pages-least;
-            pages-most = r .pages-most;
-            mark-most = r .mark-most;
-            kind-fits = r .kind-fits;
-            window-fits = r .window-fits;
-          };
+      ranges = ranged (g .ranges) refl (g .ranges .mark-most) refl refl;
     }
 
 -- ---- the steps

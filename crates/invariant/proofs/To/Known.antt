@@ -145,17 +145,15 @@ module _ {half : ℕ} {X : Image} {Y : State} (g : Structure half (X .head .kind
       let kind : X .head .kind ≤ 3 = leb-true _ _ (k .1) in
       let window : X .head .window ≤ 1000000000 = leb-true _ _ (g .ranges .window-fits) in
       let most : X .head .pages ≤ 1024 = g .ranges .pages-most in
-      record {
-        pages = omega arith;
-        height = omega arith;
-        root = omega (arith, root-inside g, g .ranges .mark-most);
-        free = omega (arith, free-inside g);
-        chain = omega (arith, chain-short g, g .shown .supplied .length-true, g .ranges .mark-most);
-        mark = omega (arith, g .ranges .mark-most);
-        kind = omega arith;
-        window = omega arith;
-        changes = omega (arith, g .changes-most);
-      }
+      omega (
+        arith,
+        root-inside g,
+        free-inside g,
+        chain-short g,
+        g .shown .supplied .length-true,
+        g .ranges .mark-most,
+        g .changes-most,
+      )
 
   -- ---- every page
 
