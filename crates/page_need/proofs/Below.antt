@@ -1,15 +1,15 @@
 -- From an entry of a sound image to the page below: what may be read there, and where the count goes on. Assumes nothing.
-use Prim.Native.Nat.{ℕ, zero, suc, _+_, _*_, _-_, _≤_, _<_}
+use Prim.Native.Nat.{ℕ, zero, suc, _*_, _-_, _≤_, _<_}
 use mathlib.Core.Path.{_≡_, refl, sym, ap, _∙_, subst, subst⁻¹}
 use mathlib.Core.Bool.{Bool, true, false, cond}
 use mathlib.Core.List.{List}
 use native.Mathlib.Omega.{arith}
-use lib.Dec.{eqb, leb}
+use lib.Dec.{eqb}
 use lib.ListN.{length}
 use borrow.Author.Tests.{eq-eqb, ne-eqb}
 use Rattle.page.specs.declared.Entry.{Entry}
 use Rattle.page.specs.Entries.{at as entry-in, index-of}
-use Rattle.page.specs.Layout.{capacity, level-of, entry-count, start-at, entry-at, entries-of}
+use Rattle.page.specs.Layout.{level-of, entry-count, start-at, entry-at, entries-of}
 use Rattle.page.specs.Fit.{context-below, most-height}
 use Rattle.page.proofs.Laws.Trees.{length-entries-of, at-entries-of}
 use Rattle.fit.proofs.Laws.Pages.{PageFit, entry-first}
@@ -24,9 +24,9 @@ use Rattle.soundness.proofs.Tree.{tree-top}
 use Rattle.steps.specs.Supply.{entries}
 use Rattle.image.proofs.Cells.{cell-tree}
 use Rattle.page_need.specs.declared.Need.{Need}
-use Rattle.page_need.specs.Needs.{need, add-needs, leaf-need, page-need, one-cut, parted-cuts, both-cuts}
+use Rattle.page_need.specs.Needs.{add-needs, leaf-need, page-need, one-cut, parted-cuts, both-cuts}
 use Rattle.page_need.specs.Leads.{Small, Fit-from, Leads}
-use Rattle.page_need.proofs.Counts.{page-need-adds}
+use Rattle.page_need.proofs.Counts.{page-need-adds, page-need-pages, leaf-adds}
 
 -- ---- a page
 
@@ -222,22 +222,6 @@ module _ (half s t : ℕ) (X : Image) where
 
 -- ---- no count is large
 
-page-need-pages : (half n : ℕ) (m : Need) → page-need half n m .pages ≤ suc (m .pages)
-unfolding page-need
-page-need-pages half n m = go (leb (n + m .adds) (capacity half))
-  where
-    go : (b : Bool) → cond b (need 0 (m .pages)) (need 1 (suc (m .pages))) .pages ≤ suc (m .pages)
-    go true = omega arith
-    go false = omega arith
-
-leaf-adds : (t : ℕ) (e : Entry) → leaf-need t e .adds ≤ 1
-unfolding leaf-need
-leaf-adds t e = go (eqb (e .start) t)
-  where
-    go : (b : Bool) → cond b 0 1 ≤ 1
-    go true = omega arith
-    go false = omega arith
-
 module _ (half t : ℕ) (X : Image) where
   one-most : (l : ℕ) (e : Entry) → (one-cut half t l e X .adds ≤ 1) × (one-cut half t l e X .pages ≤ l)
   unfolding one-cut leaf-need
@@ -271,26 +255,18 @@ module _ (half s t : ℕ) (X : Image) where
 
 module _ (half : ℕ) (X : Image) (l : ℕ) (e : Entry) (low : l ≤ most-height) {n : Need} where
   pub small-one : (t : ℕ) → n ≡ one-cut half t l e X → Small n
-  small-one t h =
-      let b = one-most half t X l e in
-      record { adds = omega (arith, ap (λ (m : Need). m .adds) h); pages = omega (arith, ap (λ (m : Need). m .pages) h) }
+  small-one t h = subst⁻¹ Small h (omega (arith, one-most half t X l e))
 
   pub small-both : (s t : ℕ) → n ≡ both-cuts half s t l e X → Small n
-  small-both s t h =
-      let b = both-most half s t X l e in
-      record { adds = omega (arith, ap (λ (m : Need). m .adds) h); pages = omega (arith, ap (λ (m : Need). m .pages) h) }
+  small-both s t h = subst⁻¹ Small h (omega (arith, both-most half s t X l e))
 
 pub small-leaf : (t : ℕ) (e : Entry) {n : Need} → n ≡ leaf-need t e → Small n
 unfolding leaf-need
-small-leaf t e h =
-    record { adds = omega (arith, ap (λ (m : Need). m .adds) h, leaf-adds t e); pages = omega (arith, ap (λ (m : Need). m .pages) h) }
+small-leaf t e h = subst⁻¹ Small h (omega (arith, leaf-adds t e))
 
 small-apart : (half s t : ℕ) (X : Image) (l : ℕ) (x y : Entry) {n : Need} → l ≤ most-height → n ≡ parted-cuts half s t l x y X → Small n
 unfolding add-needs
-small-apart half s t X l x y low h =
-    let c = one-most half s X l x in
-    let d = one-most half t X l y in
-    record { adds = omega (arith, ap (λ (m : Need). m .adds) h); pages = omega (arith, ap (λ (m : Need). m .pages) h) }
+small-apart half s t X l x y low h = subst⁻¹ Small h (omega (arith, one-most half s X l x, one-most half t X l y))
 
 -- ---- where the counts go on, by what was found
 

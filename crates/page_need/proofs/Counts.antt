@@ -8,6 +8,7 @@ use lib.Dec.{eqb, leb}
 use lib.ListN.{length, getD, length-append, length-take, length-drop}
 use lib.Seq.{getD-append-seam}
 use borrow.Author.Tests.{eqb-true, eqb-false, eq-eqb, ne-eqb, leb-false, le-leb, lt-leb}
+use Rattle.lists.proofs.Choices.{either}
 use Rattle.page.specs.declared.Entry.{Entry}
 use Rattle.page.specs.Layout.{capacity}
 use Rattle.page.specs.Entries.{entry, index-of}
@@ -63,19 +64,19 @@ module _ (half n : ℕ) (m : Need) where
 
   pub page-need-adds : page-need half n m .adds ≤ 1
   unfolding page-need
-  page-need-adds = go (leb (n + m .adds) (capacity half))
-    where
-      go : (b : Bool) → cond b (need 0 (m .pages)) (need 1 (suc (m .pages))) .adds ≤ 1
-      go true = omega arith
-      go false = omega arith
+  page-need-adds = either (λ (r : Need). r .adds ≤ 1) (omega arith) (omega arith) (leb (n + m .adds) (capacity half))
+
+  pub page-need-pages : page-need half n m .pages ≤ suc (m .pages)
+  unfolding page-need
+  page-need-pages = either (λ (r : Need). r .pages ≤ suc (m .pages)) (omega arith) (omega arith) (leb (n + m .adds) (capacity half))
+
+pub leaf-adds : (t : ℕ) (e : Entry) → leaf-need t e .adds ≤ 1
+unfolding leaf-need
+leaf-adds t e = either (λ n. n ≤ 1) (omega arith) (omega arith) (eqb (e .start) t)
 
 pub one-adds : (half t l : ℕ) (x : Node (Subtree l)) → one-cut-in half t l x .adds ≤ 1
 unfolding one-cut-in leaf-need
-one-adds half t zero x = go (eqb (x .entry .start) t)
-  where
-    go : (b : Bool) → cond b 0 1 ≤ 1
-    go true = omega arith
-    go false = omega arith
+one-adds half t zero x = leaf-adds t (x .entry)
 one-adds half t (suc l) x = page-need-adds half (length (x .subtree)) (one-cut-in half t l (there l t (x .subtree)))
 
 pub both-adds : (half s t l : ℕ) (x : Node (Subtree (suc l))) → both-cuts-in half s t (suc l) x .adds ≤ 1

@@ -1,13 +1,13 @@
 -- Consecutive entries, and which of them has an instant. Assumes nothing.
 use Prim.Native.Nat.{ℕ, suc, _+_, _≤_, _<_}
 use mathlib.Core.Path.{_≡_, refl, sym, ap, _∙_, subst⁻¹}
-use mathlib.Core.Bool.{Bool, true, false, cond}
 use mathlib.Core.List.{List, [], _∷_, _++_}
 use native.Mathlib.Omega.{arith}
 use native.Mathlib.Nat.{zero-add, add-zero}
 use lib.Dec.{leb}
 use lib.ListN.{length, getD}
 use lib.Seq.{getD-append-seam}
+use Rattle.lists.proofs.Choices.{either}
 use Rattle.page.specs.Entries.{last-from, index-of}
 use Rattle.tree.specs.Tree.{Node, Subtree, Nodes, no-node, flat}
 use Rattle.tree.specs.Shape.{Asked, Seg, done, more}
@@ -42,11 +42,7 @@ module _ (l t : ℕ) where
 
   pub there-one : (x : Node (Subtree l)) → there l t (x ∷ []) ≡ x
   unfolding index-of last-from
-  there-one x = go (leb (x .entry .start) t)
-    where
-      go : (b : Bool) → getD (x ∷ []) (cond b 0 0) (no-node l) ≡ x
-      go true = refl
-      go false = refl
+  there-one x = either (λ n. getD (x ∷ []) n (no-node l) ≡ x) refl refl (leb (x .entry .start) t)
 
   pub owned : {Q : Asked (Subtree l)} {lo hi : ℕ} {es : Nodes l} → Seg Q lo hi es → lo ≤ t → t < hi → Owned l t (there l t es) lo hi es
   owned {Q} {lo} {hi} s low high = go (find t s (omega arith) low)
