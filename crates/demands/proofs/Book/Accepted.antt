@@ -1,8 +1,8 @@
 -- A booking that returned 0: no row turned it back. Assumes nothing.
-use Prim.Native.Nat.{ℕ, suc}
-use mathlib.Core.Path.{_≡_, refl}
-use mathlib.Core.Bool.{Bool, true, false, not, _&&_}
-use mathlib.Core.List.{List, _∷_}
+use Prim.Native.Nat.{ℕ}
+use mathlib.Core.Path.{_≡_}
+use mathlib.Core.Bool.{true, false, not, _&&_}
+use mathlib.Core.List.{List}
 use native.Mathlib.Omega.{arith}
 use lib.Dec.{eqb}
 use lib.IntN.{ℤ}
@@ -12,9 +12,10 @@ use Rattle.page.specs.Fit.{most-changes}
 use Rattle.image.specs.Images.{pages-in, image-of}
 use Rattle.image.specs.Sound.{sound}
 use Rattle.steps.specs.Change.{lacks-pages}
-use Rattle.calls.specs.Refusals.{Row, first, scratch-ok}
+use Rattle.calls.specs.Refusals.{scratch-ok}
 use Rattle.calls.specs.Changes.{Side, withdraws}
 use Rattle.calls.specs.Calls.{head, book-input-rows, book-status, book}
+use Rattle.demands.proofs.Rows.{first-none}
 
 pub record Passed (half : ℕ) (side : Side) (v : ℤ) (s e : ℕ) (img scratch : List ℕ) : Type 0 where
   pub lent : scratch-ok (pages-in half img) scratch ≡ true
@@ -25,23 +26,18 @@ pub record Passed (half : ℕ) (side : Side) (v : ℤ) (s e : ℕ) (img scratch 
   pub few : eqb (head half img .changes) most-changes ≡ false
   pub pages : lacks-pages half s (effect-end e (head half img .window)) (image-of half img) ≡ false
 
-row : (n : ℕ) (b : Bool) (rows : List Row) → first ((suc n, b) ∷ rows) ≡ 0 → (b ≡ false) × (first rows ≡ 0)
-unfolding first
-row n true rows e = absurd (omega arith)
-row n false rows e = (refl, e)
-
 pub passed : (half : ℕ) (side : Side) (v : ℤ) (s e : ℕ) (img scratch : List ℕ) → book half side v s e img scratch .status ≡ 0
     → Passed half side v s e img scratch
 unfolding book book-status book-input-rows
 passed half side v s e img scratch h =
-    let r16 = row 15 _ _ h in
-    let r17 = row 16 _ _ (r16 .1) in
-    let r11 = row 10 _ _ (r17 .1) in
-    let r13 = row 12 _ _ (r11 .1) in
-    let r21 = row 20 _ _ (r13 .1) in
-    let r22 = row 21 _ _ (r21 .1) in
-    let r23 = row 22 _ _ (r22 .1) in
-    let r24 = row 23 _ _ (r23 .1) in
+    let r16 = first-none 16 _ _ (omega arith) h in
+    let r17 = first-none 17 _ _ (omega arith) (r16 .1) in
+    let r11 = first-none 11 _ _ (omega arith) (r17 .1) in
+    let r13 = first-none 13 _ _ (omega arith) (r11 .1) in
+    let r21 = first-none 21 _ _ (omega arith) (r13 .1) in
+    let r22 = first-none 22 _ _ (omega arith) (r21 .1) in
+    let r23 = first-none 23 _ _ (omega arith) (r22 .1) in
+    let r24 = first-none 24 _ _ (omega arith) (r23 .1) in
     record {
       lent = not-false _ (r17 .0);
       span = not-false _ (r11 .0);
