@@ -1,6 +1,6 @@
 -- What an accepted booking finds: an image that can be changed, and an effect within its bounds. Assumes nothing.
 use Prim.Native.Nat.{ℕ, _≤_, _<_}
-use mathlib.Core.Path.{_≡_, refl, _∙_, subst⁻¹}
+use mathlib.Core.Path.{_≡_, refl, ap, _∙_, subst⁻¹}
 use mathlib.Core.Bool.{Bool, true, false, cond, not, _&&_, true≢false}
 use mathlib.Core.List.{List, [], _∷_}
 use mathlib.Core.Logic.{_≢_}
@@ -58,7 +58,7 @@ module _ {side : Side} {v : ℤ} {s e : ℕ} {img : List ℕ} {h : Head} (a : Ac
   unfolding state-check
   facts = passed _ _ _ _ (a .judged-so)
 
-  pub accepted-head : h ≡ head 12 img
+  accepted-head : h ≡ head 12 img
   accepted-head = facts .1
 
   accepted-sound : sound 12 img ≡ true
@@ -83,22 +83,25 @@ module _ {side : Side} {v : ℤ} {s e : ℕ} {img : List ℕ} {h : Head} (a : Ac
       below : (m n : ℕ) → m ≤ n → m ≢ n → m < n
       below m n l d = omega (arith, d)
 
-  module _ (bytes : Bytes img) {k to : ℕ} {p : Pair} (same-kind : k ≡ head 12 img .kind) (same-end : to ≡ end)
-      (same-effect : p ≡ effect side v) where
-    ready-so : Changeable k s to p X
+  -- by the head that was judged
+  module _ (bytes : Bytes img) {to : ℕ} {p : Pair} (same-end : to ≡ effect-end e (h .window)) (same-effect : p ≡ effect side v) where
+    end-so : to ≡ end
+    end-so = same-end ∙ ap (λ (g : Head). effect-end e (g .window)) accepted-head
+
+    ready-so : Changeable (h .kind) s to p X
     ready-so =
-        subst⁻¹ (λ j. Changeable j s to p X) same-kind
-        (subst⁻¹ (λ t. Changeable (head 12 img .kind) s t p X) same-end
+        subst⁻¹ (λ (g : Head). Changeable (g .kind) s to p X) accepted-head
+        (subst⁻¹ (λ t. Changeable (head 12 img .kind) s t p X) end-so
         (subst⁻¹ (λ q. Changeable (head 12 img .kind) s end q X) same-effect ready))
 
     holds : Encodes img X
     holds = sound-holds img bytes accepted-sound
 
-    pub accepted-some : Pre img (Changeable k s to p)
+    pub accepted-some : Pre img (Changeable (h .kind) s to p)
     accepted-some = record { image = X; holds = holds; ready = ready-so }
 
-    pub accepted-changed : {after : List ℕ} → Post img (Changeable k s to p) (λ Z. Encodes after (change 12 (combine k) s to p Z))
+    pub accepted-changed : {after : List ℕ} → Post img (Changeable (h .kind) s to p) (λ Z. Encodes after (change 12 (combine (h .kind)) s to p Z))
         → after ≡ changed 12 side v s e img
     unfolding changed
     accepted-changed g =
-        g X holds ready-so .bytes ∙ (λ j. image-bytes 12 (change 12 (combine (same-kind j)) s (same-end j) (same-effect j) X))
+        g X holds ready-so .bytes ∙ (λ j. image-bytes 12 (change 12 (combine (accepted-head j .kind)) s (end-so j) (same-effect j) X))

@@ -1,7 +1,7 @@
 -- The rows before a booking goes to work on its image, by the outcomes of their tests. Assumes nothing.
 use Prim.Native.Nat.{ℕ, _≤_}
-use mathlib.Core.Path.{_≡_, refl, sym, ap, _∙_}
-use mathlib.Core.Bool.{Bool, true, false, not, _&&_}
+use mathlib.Core.Path.{_≡_, sym, ap, _∙_}
+use mathlib.Core.Bool.{Bool, not, _&&_, and-true}
 use mathlib.Core.List.{List, [], _∷_}
 use lib.Dec.{leb, ltb}
 use lib.ListN.{length}
@@ -30,8 +30,4 @@ module _ (v : ℤ) (s e : ℕ) (img scratch : List ℕ) where
 -- for a u32 the span's second half always holds
 pub span-less : (s e : ℕ) → e ≤ END → span-ok s e ≡ ltb s e
 unfolding span-ok
-span-less s e l = ap (λ b. ltb s e && b) (le-leb e END l) ∙ alone (ltb s e)
-  where
-    alone : (b : Bool) → (b && true) ≡ b
-    alone true = refl
-    alone false = refl
+span-less s e l = ap (λ b. ltb s e && b) (le-leb e END l) ∙ and-true (ltb s e)

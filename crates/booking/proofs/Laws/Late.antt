@@ -62,14 +62,14 @@ module _ (b : Bool) (s e : ℕ) (img : List ℕ) where
         full : eqb (h .changes) most-changes ≡ false
         full = ap (λ (f : Head). eqb (f .changes) most-changes) (sym k) ∙ r
 
-        lacking : {z : Bool} → z ≡ lacks-pages 12 s end (image-of 12 img)
-            → lacks-pages 12 s (effect-end e (h .window)) (image-of 12 img) ≡ z
-        lacking t = ap (λ n. lacks-pages 12 s n (image-of 12 img)) (sym (l ∙ ap (λ (f : Head). effect-end e (f .window)) k)) ∙ sym t
-
-        pub late-24 : true ≡ lacks-pages 12 s end (image-of 12 img) → Refused 24 ≡ state-check (side-of b) s e img
+        -- the last test alone decides
+        pub late-last : {z : Bool} → z ≡ lacks-pages 12 s end (image-of 12 img)
+            → cond z (Refused 24) (Accepted g) ≡ state-check (side-of b) s e img
         unfolding judgement first
-        late-24 t = by-tests false false false true (ap not p) other full (lacking t)
-
-        pub late-0 : false ≡ lacks-pages 12 s end (image-of 12 img) → Accepted g ≡ state-check (side-of b) s e img
-        unfolding judgement first
-        late-0 t = ap Accepted k ∙ by-tests false false false false (ap not p) other full (lacking t)
+        late-last {z} t =
+            decided z ∙ by-tests false false false z (ap not p) other full
+            (ap (λ n. lacks-pages 12 s n (image-of 12 img)) (sym (l ∙ ap (λ (f : Head). effect-end e (f .window)) k)) ∙ sym t)
+          where
+            decided : (z : Bool) → cond z (Refused 24) (Accepted g) ≡ judgement false false false z h
+            decided true = refl
+            decided false = ap Accepted k

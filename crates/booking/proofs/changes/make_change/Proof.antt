@@ -1,11 +1,8 @@
 -- `booking::changes::make_change` meets its contract: what no row turns back can be changed. Assumes nothing.
-use mathlib.Core.Path.{ap, _∙_}
 use borrow.Author.Needs.{needs}
 use mir.Facts.{toZ-ofZ}
-use Rattle.rule.specs.Time.{effect-end}
 use Rattle.fields.proofs.Laws.Digits.{bytes-of}
-use Rattle.page.specs.declared.Head.{Head}
-use Rattle.booking.proofs.Laws.Accepted.{accepted-head, accepted-some, accepted-changed}
+use Rattle.booking.proofs.Laws.Accepted.{accepted-some, accepted-changed}
 use Rattle.booking.proofs.changes.make_change.Statement.{statement}
 use Rattle.booking.proofs.changes.make_change.Tie as tie
 
@@ -14,9 +11,7 @@ apply-requires c κs =
     let far = c .before .before in
     let known = far .before in
     let start = known .before in
-    let h = accepted-head (start .pre) in
-    accepted-some (start .pre) (bytes-of (start .args .img .now) (known .slice-known .given)) (ap (λ (g : Head). g .kind) h)
-    (far .effect-end .ensures ∙ ap (λ (g : Head). effect-end (start .args .e) (g .window)) h)
+    accepted-some (start .pre) (bytes-of (start .args .img .now) (known .slice-known .given)) (far .effect-end .ensures)
     (rw (toZ-ofZ (start .fits .v)) at (c .effect .ensures))
 
 returns : tie.Need-returns
@@ -26,9 +21,7 @@ returns c =
     let far = effect .before .before in
     let known = far .before in
     let start = known .before in
-    let h = accepted-head (start .pre) in
-    accepted-changed (start .pre) (bytes-of (start .args .img .now) (known .slice-known .given)) (ap (λ (g : Head). g .kind) h)
-    (far .effect-end .ensures ∙ ap (λ (g : Head). effect-end (start .args .e) (g .window)) h)
+    accepted-changed (start .pre) (bytes-of (start .args .img .now) (known .slice-known .given)) (far .effect-end .ensures)
     (rw (toZ-ofZ (start .fits .v)) at (effect .effect .ensures)) (did .apply .ensures)
 
 pub make-change-spec : {M : Type 1} → statement M

@@ -1,6 +1,6 @@
 -- `booking::input::check_input` meets its contract: the first test that fails gives the status. Assumes nothing.
 use mathlib.Core.Path.{_≡_, refl, sym, _∙_}
-use mathlib.Core.Bool.{Bool}
+use mathlib.Core.Bool.{Bool, true}
 use native.Mathlib.Omega.{arith}
 use lib.ListN.{length}
 use lib.Dec.{leb, ltb}
@@ -16,11 +16,12 @@ use Rattle.booking.proofs.input.check_input.Tie as tie
 abbrev began : tie.After-value-ok → tie.Start
 began c = c .before .before .before .before
 
+abbrev Tested : tie.After-value-ok → Bool → Bool → Bool → Bool → Type 0
+Tested c = Tests (began c .args .v) (began c .args .s) (began c .args .e) (began c .args .img .now) (began c .args .scratch .now)
+
 tests : (c : tie.After-value-ok) {whole room span fits : Bool} → c .before .length-fits .result ≡ whole
     → leb (pages-in 12 (began c .args .img .now)) (length (began c .args .scratch .now)) ≡ room
-    → ltb (began c .args .s) (began c .args .e) ≡ span → c .value-ok .result ≡ fits
-    → Tests (began c .args .v) (began c .args .s) (began c .args .e) (began c .args .img .now) (began c .args .scratch .now)
-    whole room span fits
+    → ltb (began c .args .s) (began c .args .e) ≡ span → c .value-ok .result ≡ fits → Tested c whole room span fits
 tests c a b d f =
     record {
       whole-is = sym (c .before .length-fits .ensures) ∙ a;
@@ -45,23 +46,21 @@ returns-3 c =
     rows-are _ _ _ _ _
     (tests (room .before .before) (not-false _ (room .before .if1 .left)) (not-false _ (room .if2 .left)) (not-true _ (c .if3 .taken)) refl)
 
+-- only the value is left to judge
+spanned : (c : tie.Else3) {fits : Bool} → c .before .before .before .value-ok .result ≡ fits
+    → Tested (c .before .before .before) true true true fits
+unfolding pages-in
+spanned c f =
+    let room = c .before in
+    tests (room .before .before) (not-false _ (room .before .if1 .left)) (not-false _ (room .if2 .left)) (not-false _ (c .if3 .left)) f
+
 returns-4 : tie.Need-returns-4
-unfolding first pages-in
-returns-4 c =
-    let span = c .before in
-    let room = span .before in
-    rows-are _ _ _ _ _
-    (tests (room .before .before) (not-false _ (room .before .if1 .left)) (not-false _ (room .if2 .left))
-    (not-false _ (span .if3 .left)) (not-true _ (c .if4 .taken)))
+unfolding first
+returns-4 c = rows-are _ _ _ _ _ (spanned (c .before) (not-true _ (c .if4 .taken)))
 
 returns-5 : tie.Need-returns-5
-unfolding first pages-in
-returns-5 c =
-    let span = c .before in
-    let room = span .before in
-    rows-are _ _ _ _ _
-    (tests (room .before .before) (not-false _ (room .before .if1 .left)) (not-false _ (room .if2 .left))
-    (not-false _ (span .if3 .left)) (not-false _ (c .if4 .left)))
+unfolding first
+returns-5 c = rows-are _ _ _ _ _ (spanned (c .before) (not-false _ (c .if4 .left)))
 
 pub check-input-spec : {M : Type 1} → statement M
 check-input-spec = tie.close (tie.spec (λ c κs. search needs) (λ c κs. search needs) returns returns-2 returns-3 returns-4 returns-5)

@@ -1,7 +1,7 @@
 -- `booking::state::check_state` meets its contract: a law for each way out. Assumes nothing.
 use Prim.Native.Nat.{_<_}
 use mathlib.Core.Path.{_≡_, sym, ap, _∙_}
-use mathlib.Core.Bool.{true}
+use mathlib.Core.Bool.{true, cond}
 use native.Mathlib.Omega.{arith}
 use lib.ListN.{length}
 use borrow.Author.Needs.{needs}
@@ -14,7 +14,10 @@ use Rattle.calls.specs.Calls.{head}
 use Rattle.access.specs.Access.{Page-in}
 use Rattle.image.proofs.Sizes.{sized}
 use Rattle.access.proofs.Laws.{page-length}
-use Rattle.booking.proofs.Laws.Late.{late-21, late-22, late-23, late-24, late-0}
+use Rattle.booking.specs.declared.StateCheck.the-variants.{Accepted, Refused}
+use Rattle.booking.specs.Sides.{side-of}
+use Rattle.booking.specs.Rows.{state-check}
+use Rattle.booking.proofs.Laws.Late.{late-21, late-22, late-23, late-last}
 use Rattle.booking.proofs.state.check_state.Statement.{statement}
 use Rattle.booking.proofs.state.check_state.Tie as tie
 
@@ -59,23 +62,26 @@ later c =
     let start = began (headed c .before .before) in
     omega (arith, c .effect-end .ensures, start .pre .1, start .fits .e)
 
+-- what is answered once the pages had been counted
+module _ (c : tie.After-lacks-pages) where
+  abbrev start : tie.Start
+  start = began (headed (c .before) .before .before)
+
+  counted : cond (c .lacks-pages .result) (Refused 24) (Accepted (headed (c .before) .read-head .result))
+      ≡ state-check (side-of (start .args .withdraws)) (start .args .s) (start .args .e) (start .args .img .now)
+  counted =
+      let end = c .before in
+      let full = end .before in
+      let side = full .before .before in
+      let head = side .before .before in
+      late-last _ _ _ _ (passed (head .before .before)) (read head) (side .if2 .left) (ne-eqb _ _ (full .if3 .left))
+      (end .effect-end .ensures) (c .lacks-pages .ensures)
+
 returns-4 : tie.Need-returns-4
-returns-4 c =
-    let end = c .before .before in
-    let full = end .before in
-    let side = full .before .before in
-    let head = side .before .before in
-    late-24 _ _ _ _ (passed (head .before .before)) (read head) (side .if2 .left) (ne-eqb _ _ (full .if3 .left)) (end .effect-end .ensures)
-    (sym (c .if4 .taken) ∙ c .before .lacks-pages .ensures)
+returns-4 c = rw (c .if4 .taken) at (counted (c .before))
 
 returns-5 : tie.Need-returns-5
-returns-5 c =
-    let end = c .before .before in
-    let full = end .before in
-    let side = full .before .before in
-    let head = side .before .before in
-    late-0 _ _ _ _ (passed (head .before .before)) (read head) (side .if2 .left) (ne-eqb _ _ (full .if3 .left)) (end .effect-end .ensures)
-    (sym (c .if4 .left) ∙ c .before .lacks-pages .ensures)
+returns-5 c = rw (c .if4 .left) at (counted (c .before))
 
 lacks-pages-requires : tie.Need-lacks-pages-requires
 unfolding head
