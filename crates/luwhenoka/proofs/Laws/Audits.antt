@@ -1,6 +1,6 @@
 -- The ways out of an audit. Assumes nothing.
 use Prim.Native.Nat.{ℕ, _≤_, _<_}
-use mathlib.Core.Path.{_≡_, refl, sym}
+use mathlib.Core.Path.{_≡_, refl, sym, _∙_}
 use mathlib.Core.Bool.{Bool, true, false, cond, not}
 use mathlib.Core.List.{List, [], _∷_}
 use lib.ListN.{length}
@@ -34,15 +34,12 @@ module _ (img scratch : List ℕ) where
   unfolding audited first scratch-ok borrowed
   audit-17 a l = by-tests true false _ a (lt-leb _ _ l) refl
 
-  module _ (a : length-ok 12 img ≡ true) (room : pages-in 12 img ≤ length scratch) where
-    enough : scratch-ok (pages-in 12 img) scratch ≡ true
-    unfolding scratch-ok borrowed
-    enough = le-leb _ _ room
-
-    pub audit-21 : sound 12 img ≡ false → record { status = 21; scratch = cleared (pages-in 12 img) scratch } ≡ audit 12 img scratch
-    unfolding audited first
-    audit-21 c = by-tests true true false a enough c
-
-    pub audit-0 : sound 12 img ≡ true → record { status = 0; scratch = cleared (pages-in 12 img) scratch } ≡ audit 12 img scratch
-    unfolding audited first
-    audit-0 c = by-tests true true true a enough c
+  pub audit-judged : length-ok 12 img ≡ true → pages-in 12 img ≤ length scratch → {b : Bool} → sound 12 img ≡ b
+      → record { status = cond b 0 21; scratch = cleared (pages-in 12 img) scratch } ≡ audit 12 img scratch
+  unfolding audited first scratch-ok borrowed
+  audit-judged a room {b} c = numbered b ∙ by-tests true true b a (le-leb _ _ room) c
+    where
+      numbered : (b : Bool) → record { status = cond b 0 21; scratch = cleared (pages-in 12 img) scratch }
+          ≡ audited true true b (cleared (pages-in 12 img) scratch) scratch
+      numbered true = refl
+      numbered false = refl

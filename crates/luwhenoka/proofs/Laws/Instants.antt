@@ -37,18 +37,28 @@ module _ (t : ℕ) (img : List ℕ) where
   unfolding answered first
   instant-12 a l = by-tests true true false _ a (le-leb _ _ l) (le-ltb _ _ l) refl refl
 
+  -- length, instant and head fit
+  pub record Passed : Type 0 where
+    pub whole : length-ok 12 img ≡ true
+    pub early : t < END
+    pub headed : head-ok 12 img ≡ true
+
   module _ (a : length-ok 12 img ≡ true) (l : t < END) where
     pub instant-head : head-ok 12 img ≡ false → record { status = 21; pair = none; pages = 0 } ≡ instant 12 t img
     unfolding answered first
     instant-head d = by-tests true false true false a (lt-leb _ _ l) (lt-ltb _ _ l) d refl
 
-    module _ (d : head-ok 12 img ≡ true) {p : Pair} {n : ℕ} where
+  module _ (k : Passed) where
+    looked : {w : Lookup} → w ≡ look-up 12 img t → answered true false true true w ≡ instant 12 t img
+    looked e = by-tests true false true true (k .whole) (lt-leb _ _ (k .early)) (lt-ltb _ _ (k .early)) (k .headed) e
+
+    module _ {p : Pair} {n : ℕ} where
       pub instant-21 : record { fit = false; pair = p; pages = n } ≡ look-up 12 img t
           → record { status = 21; pair = none; pages = n } ≡ instant 12 t img
       unfolding answered first
-      instant-21 e = by-tests true false true true a (lt-leb _ _ l) (lt-ltb _ _ l) d e
+      instant-21 e = looked e
 
       pub instant-0 : record { fit = true; pair = p; pages = n } ≡ look-up 12 img t
           → record { status = 0; pair = p; pages = n } ≡ instant 12 t img
       unfolding answered first
-      instant-0 e = by-tests true false true true a (lt-leb _ _ l) (lt-ltb _ _ l) d e
+      instant-0 e = looked e

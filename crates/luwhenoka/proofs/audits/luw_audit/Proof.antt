@@ -1,11 +1,12 @@
 -- `luwhenoka::audits::luw_audit` meets its contract: a law for each way out. Assumes nothing.
 use mathlib.Core.Path.{_≡_, sym, ap, _∙_}
-use mathlib.Core.Bool.{true}
+use mathlib.Core.Bool.{Bool, true, cond}
 use borrow.Author.Needs.{needs}
 use borrow.Author.Tests.{not-true, not-false}
 use Rattle.image.specs.Images.{pages-in, length-ok}
 use Rattle.calls.specs.Refusals.{borrowed, cleared}
-use Rattle.luwhenoka.proofs.Laws.Audits.{audit-16, audit-17, audit-21, audit-0}
+use Rattle.calls.specs.Calls.{audit}
+use Rattle.luwhenoka.proofs.Laws.Audits.{audit-16, audit-17, audit-judged}
 use Rattle.luwhenoka.proofs.audits.luw_audit.Statement.{statement}
 use Rattle.luwhenoka.proofs.audits.luw_audit.Tie as tie
 
@@ -23,29 +24,25 @@ returns-2 : tie.Need-returns-2
 unfolding pages-in
 returns-2 c = audit-17 _ _ (fits (c .before)) (c .if2 .taken)
 
--- where the scratch had been filled
-abbrev filled : tie.After-sound → tie.After-fill
-filled c = c .before .before .before
+-- the scratch had been filled, and the image judged
+module _ (c : tie.After-sound) where
+  abbrev fill : tie.After-fill
+  fill = c .before .before .before
 
-returns-3 : tie.Need-returns-3
-unfolding pages-in cleared borrowed
-returns-3 c =
-    let fill = filled (c .before) in
-    let room = fill .before .before in
-    ap (λ s. record { status = 0; scratch = s }) (fill .fill .ensures)
-    ∙ audit-0 _ _ (fits (room .before)) (room .if2 .left) (sym (c .before .sound .ensures) ∙ c .if3 .taken)
+  abbrev room : tie.Else2
+  room = fill .before .before
 
-returns-4 : tie.Need-returns-4
-unfolding pages-in cleared borrowed
-returns-4 c =
-    let fill = filled (c .before) in
-    let room = fill .before .before in
-    ap (λ s. record { status = 21; scratch = s }) (fill .fill .ensures)
-    ∙ audit-21 _ _ (fits (room .before)) (room .if2 .left) (sym (c .before .sound .ensures) ∙ c .if3 .left)
+  judged : {b : Bool} → c .sound .result ≡ b → record { status = cond b 0 21; scratch = fill .fill .last .0 }
+      ≡ audit 12 (began (room .before) .args .img .now) (began (room .before) .args .scratch .now)
+  unfolding pages-in cleared borrowed
+  judged {b} told =
+      ap (λ s. record { status = cond b 0 21; scratch = s }) (fill .fill .ensures)
+      ∙ audit-judged _ _ (fits (room .before)) (room .if2 .left) (sym (c .sound .ensures) ∙ told)
 
 pub luw-audit-spec : {M : Type 1} → statement M
 luw-audit-spec =
     tie.close
     (tie.spec (λ c κs. search needs) returns returns-2 (λ c κs. search needs)
     (λ c κs. let fill = c .before .before in let room = fill .before .before in fits (room .before))
-    (λ c. search needs) returns-3 (λ c. search needs) returns-4)
+    (λ c. search needs) (λ c. judged (c .before) (c .if3 .taken))
+    (λ c. search needs) (λ c. judged (c .before) (c .if3 .left)))

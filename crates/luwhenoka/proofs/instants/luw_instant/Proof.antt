@@ -12,7 +12,7 @@ use Rattle.access.specs.Access.{Open-image}
 use Rattle.access.proofs.Laws.{opened, shut}
 use Rattle.lookup.specs.Answers.{lookup-of}
 use Rattle.luwhenoka.specs.Answers.{instant-answer}
-use Rattle.luwhenoka.proofs.Laws.Instants.{instant-16, instant-12, instant-head, instant-21, instant-0}
+use Rattle.luwhenoka.proofs.Laws.Instants.{instant-16, instant-12, instant-head, Passed, instant-21, instant-0}
 use Rattle.luwhenoka.proofs.instants.luw_instant.Statement.{statement}
 use Rattle.luwhenoka.proofs.instants.luw_instant.Tie as tie
 
@@ -32,9 +32,9 @@ before-end c = omega (arith, c .if2 .left)
 headed : (c : tie.After-h) → Open-image 12 (began (timed c .before) .args .img .now) (c .h .given .0 .0)
 headed c = opened 12 _ (fits (timed c .before)) (sym (c .h .given .1) ∙ c .before .before .open-head .ensures)
 
-head-fits : (c : tie.After-h) → head-ok 12 (began (timed c .before) .args .img .now) ≡ true
+passed : (c : tie.After-h) → Passed (began (timed c .before) .args .t) (began (timed c .before) .args .img .now)
 unfolding head-ok
-head-fits c = headed c .fit
+passed c = record { whole = fits (timed c .before); early = before-end (timed c); headed = headed c .fit }
 
 returns : tie.Need-returns
 returns c =
@@ -59,24 +59,16 @@ unfolding lookup-of
 returns-4 c =
     let found = c .before .before in
     let look = found .before .before in
-    let head = look .before .before in
-    let end = timed head in
     c .accepted .ensures
-    ∙ ap instant-answer
-    (instant-0 _ _ (fits (end .before)) (before-end end) (head-fits head)
-    (ap lookup-of (sym (found .pair .given .1)) ∙ look .look-up .ensures))
+    ∙ ap instant-answer (instant-0 _ _ (passed (look .before .before)) (ap lookup-of (sym (found .pair .given .1)) ∙ look .look-up .ensures))
 
 returns-5 : tie.Need-returns-5
 unfolding lookup-of
 returns-5 c =
     let found = c .before .before in
     let look = found .before .before in
-    let head = look .before .before in
-    let end = timed head in
     c .refused4 .ensures
-    ∙ ap instant-answer
-    (instant-21 _ _ (fits (end .before)) (before-end end) (head-fits head)
-    (ap lookup-of (sym (found .pages .given .1)) ∙ look .look-up .ensures))
+    ∙ ap instant-answer (instant-21 _ _ (passed (look .before .before)) (ap lookup-of (sym (found .pages .given .1)) ∙ look .look-up .ensures))
 
 pub luw-instant-spec : {M : Type 1} → statement M
 luw-instant-spec =
