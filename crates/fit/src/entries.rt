@@ -9,12 +9,12 @@ use rule::top_bits::TOP_BIT;
 use rule::top_bits::at_most;
 use rule::top_bits::within;
 ghost use mathlib.Core.Path.{_≡_};
-ghost use mathlib.Core.Bool.{_&&_};
+ghost use mathlib.Core.Bool.{true, _&&_};
 ghost use Prim.Native.Nat.{_/_, _%_, _^_};
 ghost use Rattle.rule.specs.Bounds.{top-clear};
 ghost use Rattle.page.specs.Fit.{children-ok, pairs-ok};
 ghost use Rattle.fit.specs.Contexts.{Compared};
-ghost use Rattle.fit.specs.Limits.{Small, allows};
+ghost use Rattle.fit.specs.Limits.{Small, Leaf, allows, Tells};
 
 // The count is the lower half of a word, the child the upper.
 const COUNT_SPAN: u64 = 4294967296;
@@ -32,12 +32,12 @@ fn overstep(l: Limits, sum: u64, mark: u64) -> u64
         | (within(sum, l.sum + l.each * count) | at_most((count + l.below) % COUNT_SPAN, l.span))
 }
 
-// Whether the pairs and children of a page of n entries may stand there: no exit in the loop, and one comparison behind it.
-pub(crate) fn entries_ok(half: usize, s: &[u8], n: usize, h: Head, at: PageContext) -> bool
+// Whether n entries are within the limits: no exit in the loop, and one comparison behind it.
+fn all_within(half: usize, s: &[u8], n: usize, l: Limits) -> bool
     requires { ⌜ Compared half (now s) n ⌝ }
-    ensures { λ r. ⌜ r ≡ children-ok half (h .pages) at (now (s .entry)) && pairs-ok half h at (now (s .entry)) ⌝ }
+    requires { ⌜ Small l ⌝ }
+    ensures { λ r. ⌜ Tells half l (now (s .entry)) n r ⌝ }
 {
-    let l = limits(h, at);
     let mut over = 0;
     let mut i = 0;
     while i < n {
@@ -45,4 +45,37 @@ pub(crate) fn entries_ok(half: usize, s: &[u8], n: usize, h: Head, at: PageConte
         i += 1;
     }
     over < TOP_BIT
+}
+
+// Whether n entries of a leaf are clearly within the limits: a quick test, which most leaves pass. An `or` is at least each of its
+// numbers, so that it is compared in their place: for an entry two `or` and an addition (30% of an audit of full pages). It fails where a
+// count is below zero or a sum comes near to the limit, and tells nothing then.
+fn clearly_within(half: usize, s: &[u8], n: usize, l: Limits) -> bool
+    requires { ⌜ Compared half (now s) n ⌝ }
+    requires { ⌜ Small l × Leaf l ⌝ }
+    ensures { λ r. ⌜ (r ≡ true → Tells half l (now (s .entry)) n true) ⌝ }
+{
+    let mut sums = 0;
+    let mut marks = 0;
+    let mut i = 0;
+    while i < n {
+        sums = sums | std::num::wrapping_add_u64(sum_bits_at(half, s, i), l.sum);
+        marks = marks | count_and_child_at(half, s, i);
+        i += 1;
+    }
+    (sums <= 2 * l.sum) & (marks <= l.below)
+}
+
+// Whether the pairs and children of a page of n entries may stand there. The quick test is for leaves of totals.
+pub(crate) fn entries_ok(half: usize, s: &[u8], n: usize, h: Head, at: PageContext) -> bool
+    requires { ⌜ Compared half (now s) n ⌝ }
+    ensures { λ r. ⌜ r ≡ children-ok half (h .pages) at (now (s .entry)) && pairs-ok half h at (now (s .entry)) ⌝ }
+{
+    let l = limits(h, at);
+    if (l.first == 0) & (l.past == 1) & (l.each == 0) {
+        if clearly_within(half, s, n, l) {
+            return true;
+        }
+    }
+    all_within(half, s, n, l)
 }

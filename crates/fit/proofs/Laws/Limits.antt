@@ -135,6 +135,7 @@ module _ (h : Head) (at : Page-context) (first past : ℕ) (e : first ≡ first-
           span = omega arith;
           first = first-low;
           past = past-low p;
+          twice = omega arith;
         };
         same = λ x c i _ g. ap₂ _&&_ (child-of i) (value-within x c g ∙ sym (pair-mark h at _ k));
       }
@@ -160,6 +161,7 @@ module _ (h : Head) (at : Page-context) (first past : ℕ) (e : first ≡ first-
           span = omega arith;
           first = first-low;
           past = past-low p;
+          twice = omega arith;
         };
         same = λ x c i _ g.
             let room : most-value * h .changes - at .sums + 0 * c ≡ most-value * h .changes - at .sums = omega arith in
@@ -181,6 +183,7 @@ module _ (h : Head) (at : Page-context) (first past : ℕ) (e : first ≡ first-
           span = omega arith;
           first = first-low;
           past = omega arith;
+          twice = omega arith;
         };
         same = λ x c i _ g.
             none-below (leb first i) i _
