@@ -3,82 +3,63 @@ use mathlib.Core.Path.{_≡_, refl, sym, ap, ap₂, _∙_}
 use mathlib.Core.Bool.{Bool, true, false, _&&_}
 use mathlib.Core.List.{List}
 use Prim.Native.Nat.{ℕ, _+_, _-_}
-use native.Mathlib.Omega.{arith}
 use lib.ListN.{length}
 use lib.Dec.{eqb}
 use Rattle.fields.specs.Bytes.{every}
 use Rattle.page.specs.declared.Head.{Head}
 use Rattle.page.specs.Layout.{never-used-ok}
-use Rattle.page.specs.Fit.{Page-context, root-context}
+use Rattle.page.specs.Fit.{root-context}
 use Rattle.image.specs.Images.{page-at, pages-in, length-ok}
 use Rattle.image.specs.Sound.{tree-fit, tree-pages, sound}
 use Rattle.fit.proofs.Tests.{passes, fails}
-use Rattle.fit.proofs.Laws.Paths.{root-path}
 use Rattle.audit.specs.declared.PageCount.{PageCount}
 use Rattle.audit.specs.declared.PageCount.the-variants.{Fit, Unfit}
 use Rattle.soundness.specs.Counting.{chain-ends, sound-by-counting}
 use Rattle.access.specs.Access.{Open-image}
-use Rattle.image.proofs.Sizes.{sized}
-use Rattle.access.proofs.Laws.{opened-ranges, opened-size}
-use Rattle.audit.specs.Walks.{Standing, page-count}
+use Rattle.access.proofs.Laws.{opened-ranges}
+use Rattle.audit.specs.Walks.{page-count}
 use Rattle.audit.proofs.Walks.{counted-fit, counted-unfit, false-of}
 use Rattle.soundness.proofs.Sound.{head-test}
 use Rattle.soundness.proofs.Counting.{counting-sound}
 
 -- and a is what the walk from the root down answered
-pub record Walked (img : List ℕ) (h : Head) (a : PageCount) : Type 0 where
-  pub opened : Open-image 12 img h
-  pub answer : a ≡ page-count 12 h img (root-context h) (h .root)
+pub record Walked (half : ℕ) (img : List ℕ) (h : Head) (a : PageCount) : Type 0 where
+  pub opened : Open-image half img h
+  pub answer : a ≡ page-count half h img (root-context h) (h .root)
 
-pub unsound-head : (img : List ℕ) → length-ok 12 img ≡ true → head-test 12 img ≡ false → false ≡ sound 12 img
+pub unsound-head : (half : ℕ) (img : List ℕ) → length-ok half img ≡ true → head-test half img ≡ false → false ≡ sound half img
 unfolding sound-by-counting
-unsound-head img ok f = passes ok (fails _ f) ∙ counting-sound 12 img
+unsound-head half img ok f = passes ok (fails _ f) ∙ counting-sound half img
 
-module _ {img : List ℕ} {h : Head} (o : Open-image 12 img h) where
-  pub root-standing : Standing img h (root-context h) (h .root)
-  root-standing =
-      let r = opened-ranges o in
-      record {
-        size = opened-size o;
-        most = omega (arith, sized 12 img (o .whole) .most, r .pages-is);
-        changes = r .changes-most;
-        above = 0;
-        path = root-path (pages-in 12 img) h r;
-        some = r .root-least;
-        below = omega (arith, r .root-below, r .pages-is);
-      }
-
-  pub root-walked : {b : Page-context} {a : PageCount} → b ≡ root-context h → a ≡ page-count 12 h img b (h .root) → Walked img h a
-  root-walked x y = record { opened = o; answer = y ∙ ap (λ b. page-count 12 h img b (h .root)) x }
-
-  sound-parts : (tree-fit 12 h img (root-context h .level) (root-context h) (h .root)
-      && (eqb (length (tree-pages 12 img (root-context h .level) (h .root)) + h .chain) (h .mark - 1)
-      && (chain-ends 12 img (h .chain) (h .free)
-      && every (pages-in 12 img - h .mark) (λ i. never-used-ok (page-at 12 img (h .mark + i))))))
-      ≡ sound 12 img
+module _ {half : ℕ} {img : List ℕ} {h : Head} (o : Open-image half img h) where
+  sound-parts : (tree-fit half h img (root-context h .level) (root-context h) (h .root)
+      && (eqb (length (tree-pages half img (root-context h .level) (h .root)) + h .chain) (h .mark - 1)
+      && (chain-ends half img (h .chain) (h .free)
+      && every (pages-in half img - h .mark) (λ i. never-used-ok (page-at half img (h .mark + i))))))
+      ≡ sound half img
   unfolding sound-by-counting root-context
-  sound-parts = rw (o .shown) (passes (o .whole) (passes (o .fit) refl) ∙ counting-sound 12 img)
+  sound-parts = rw (o .shown) (passes (o .whole) (passes (o .fit) refl) ∙ counting-sound half img)
 
-module _ {img : List ℕ} {h : Head} {a : PageCount} (w : Walked img h a) where
-  pub unsound-tree : a ≡ Unfit → false ≡ sound 12 img
+module _ {half : ℕ} {img : List ℕ} {h : Head} {a : PageCount} (w : Walked half img h a) where
+  pub unsound-tree : a ≡ Unfit → false ≡ sound half img
   unsound-tree z =
-      fails _ (false-of _ (counted-unfit 12 h img (root-context h) (h .root) (sym (w .answer) ∙ z))) ∙ sound-parts (w .opened)
+      fails _ (false-of _ (counted-unfit half h img (root-context h) (h .root) (sym (w .answer) ∙ z))) ∙ sound-parts (w .opened)
 
   module _ (k : ℕ) (z : a ≡ Fit k) where
-    fit-tree : tree-fit 12 h img (root-context h .level) (root-context h) (h .root) ≡ true
-    fit-tree = counted-fit 12 h img (root-context h) (h .root) k (sym (w .answer) ∙ z) .0
+    fit-tree : tree-fit half h img (root-context h .level) (root-context h) (h .root) ≡ true
+    fit-tree = counted-fit half h img (root-context h) (h .root) k (sym (w .answer) ∙ z) .0
 
-    same-count : eqb (length (tree-pages 12 img (root-context h .level) (h .root)) + h .chain) (h .mark - 1) ≡
+    same-count : eqb (length (tree-pages half img (root-context h .level) (h .root)) + h .chain) (h .mark - 1) ≡
         eqb (k + h .chain) (h .mark - 1)
-    same-count = ap (λ n. eqb (n + h .chain) (h .mark - 1)) (counted-fit 12 h img (root-context h) (h .root) k (sym (w .answer) ∙ z) .1)
+    same-count = ap (λ n. eqb (n + h .chain) (h .mark - 1)) (counted-fit half h img (root-context h) (h .root) k (sym (w .answer) ∙ z) .1)
 
-    pub unsound-count : eqb (k + h .chain) (h .mark - 1) ≡ false → false ≡ sound 12 img
+    pub unsound-count : eqb (k + h .chain) (h .mark - 1) ≡ false → false ≡ sound half img
     unsound-count s = passes fit-tree (fails _ (same-count ∙ s)) ∙ sound-parts (w .opened)
 
-    pub sound-rest : {c u : Bool} → eqb (k + h .chain) (h .mark - 1) ≡ true → c ≡ chain-ends 12 img (h .chain) (h .free)
-        → u ≡ every (h .pages - h .mark) (λ i. never-used-ok (page-at 12 img (h .mark + i))) → (c && u) ≡ sound 12 img
+    pub sound-rest : {c u : Bool} → eqb (k + h .chain) (h .mark - 1) ≡ true → c ≡ chain-ends half img (h .chain) (h .free)
+        → u ≡ every (h .pages - h .mark) (λ i. never-used-ok (page-at half img (h .mark + i))) → (c && u) ≡ sound half img
     sound-rest s v x =
         let n = opened-ranges (w .opened) .pages-is in
         passes fit-tree
-        (passes (same-count ∙ s) (ap₂ _&&_ v (x ∙ ap (λ k. every (k - h .mark) (λ i. never-used-ok (page-at 12 img (h .mark + i)))) n)))
+        (passes (same-count ∙ s) (ap₂ _&&_ v (x ∙ ap (λ k. every (k - h .mark) (λ i. never-used-ok (page-at half img (h .mark + i)))) n)))
         ∙ sound-parts (w .opened)

@@ -9,17 +9,19 @@ use lib.ListN.{length}
 use borrow.Author.Count.{below-none, below-more}
 use Rattle.fields.proofs.Laws.Tests.{every-of}
 use Rattle.page.specs.declared.Head.{Head}
-use Rattle.page.specs.Layout.{entry-count, child-at}
-use Rattle.page.specs.Fit.{Page-context, context-below, page-fit}
-use Rattle.image.specs.Images.{page-at}
+use Rattle.page.specs.Layout.{capacity, page-size, entry-count, child-at}
+use Rattle.page.specs.Fit.{Page-context, root-context, context-below, page-fit}
+use Rattle.page.proofs.Laws.Offsets.{page-within}
+use Rattle.image.specs.Images.{page-at, pages-in}
 use Rattle.image.specs.Sound.{tree-fit, tree-pages}
+use Rattle.image.proofs.Sizes.{sized}
 use Rattle.fit.specs.Contexts.{Bounded}
 use Rattle.fit.proofs.Laws.Pages.{PageFit, page-fit-is}
-use Rattle.fit.proofs.Laws.Paths.{path-bounded, below-path}
+use Rattle.fit.proofs.Laws.Paths.{root-path, path-bounded, below-path}
 use Rattle.audit.specs.declared.PageCount.{PageCount}
 use Rattle.audit.specs.declared.PageCount.the-variants.{Fit, Unfit}
-use Rattle.access.specs.Access.{Page-in}
-use Rattle.access.proofs.Laws.{page-length}
+use Rattle.access.specs.Access.{Page-in, Open-image}
+use Rattle.access.proofs.Laws.{page-length, opened-ranges, opened-size}
 use Rattle.audit.specs.Walks.{Standing, Inner, page-count, page-count-below}
 use Rattle.lists.specs.Lists.{total}
 use Rattle.soundness.proofs.Tree.{top-fit, tree-parts, tree-length, tree-short}
@@ -84,95 +86,119 @@ module _ (half : ℕ) (h : Head) (img : List ℕ) (at : Page-context) (p : ℕ) 
 
 -- ---- where the walk may go
 
-pub standing-within : {img : List ℕ} {h : Head} {at : Page-context} {p : ℕ} → Standing img h at p → Page-in 12 img p
-standing-within w = omega (arith, w .size, w .below)
+pub standing-within : {half : ℕ} {img : List ℕ} {h : Head} {at : Page-context} {p : ℕ} → Standing half img h at p → Page-in half img p
+standing-within {half} w = omega (arith, w .size, page-within half (w .below))
 
-pub standing-size : {img : List ℕ} {h : Head} {at : Page-context} {p : ℕ} {s : List ℕ} → Standing img h at p
-    → s ≡ page-at 12 img p → length s ≡ 512
-standing-size w d = ap length d ∙ page-length 12 _ _ (standing-within w)
+pub standing-size : {half : ℕ} {img : List ℕ} {h : Head} {at : Page-context} {p : ℕ} {s : List ℕ} → Standing half img h at p
+    → s ≡ page-at half img p → length s ≡ page-size half
+standing-size w d = ap length d ∙ page-length _ _ _ (standing-within w)
 
-pub standing-bounded : {img : List ℕ} {h : Head} {at : Page-context} {p : ℕ} → Standing img h at p → Bounded at
+pub standing-bounded : {half : ℕ} {img : List ℕ} {h : Head} {at : Page-context} {p : ℕ} → Standing half img h at p → Bounded at
 standing-bounded w = path-bounded (w .path) (w .changes)
 
-module _ {img : List ℕ} {h : Head} {at : Page-context} {p i : ℕ} (w : Standing img h at p) (e : Inner img h at p i) where
-  page-is-fit : PageFit 12 h at (page-at 12 img p)
-  page-is-fit = page-fit-is 12 h at (page-at 12 img p) .0 (e .fit)
+pub root-standing : {half : ℕ} {img : List ℕ} {h : Head} {b : Page-context} → 1 ≤ half → half ≤ 12 → Open-image half img h
+    → b ≡ root-context h → Standing half img h b (h .root)
+root-standing {half} {img} {h} least most o x =
+    let r = opened-ranges o in
+    rw x
+    (record {
+      half-least = least;
+      half-most = most;
+      size = opened-size o;
+      most = omega (arith, sized half img (o .whole) .most, r .pages-is);
+      changes = r .changes-most;
+      above = 0;
+      path = root-path (pages-in half img) h r;
+      some = r .root-least;
+      below = omega (arith, r .root-below, r .pages-is);
+    })
 
-  pub entries-most : entry-count (page-at 12 img p) ≤ 24
+-- the walk goes on to page q in the context b, the page below the i-th entry of page p
+pub record Entered (half : ℕ) (img : List ℕ) (h : Head) (at : Page-context) (p i : ℕ) (b : Page-context) (q : ℕ) : Type 0 where
+  pub standing : Standing half img h b q
+  pub level : b .level ≡ at .level - 1
+  pub counted : page-count half h img b q ≡ page-count-below half h img at p i
+
+module _ {half : ℕ} {img : List ℕ} {h : Head} {at : Page-context} {p i : ℕ} (w : Standing half img h at p)
+    (e : Inner half img h at p i) where
+  page-is-fit : PageFit half h at (page-at half img p)
+  page-is-fit = page-fit-is half h at (page-at half img p) .0 (e .fit)
+
+  pub entries-most : entry-count (page-at half img p) ≤ capacity half
   entries-most = page-is-fit .most
 
-  pub standing-below : Standing img h (context-below 12 (page-at 12 img p) at i) (child-at 12 (page-at 12 img p) i)
+  pub standing-below : Standing half img h (context-below half (page-at half img p) at i) (child-at half (page-at half img p) i)
   standing-below =
       let child = page-is-fit .children i (e .entry) .inner (e .level) in
       record {
+        half-least = w .half-least;
+        half-most = w .half-most;
         size = w .size;
         most = w .most;
         changes = w .changes;
         above = w .above + 1;
-        path = below-path (w .path) page-is-fit (omega arith) i (e .entry) (e .level);
+        path = below-path (w .path) page-is-fit (w .half-least) i (e .entry) (e .level);
         some = child .0;
         below = child .1;
       }
 
   -- the page's bytes as the code has them, and the context and the page that it goes on to
-  module _ {s : List ℕ} (d : s ≡ page-at 12 img p) where
-    pub entry-reads : (i < 24) × (entry-count s ≤ 24)
+  module _ {s : List ℕ} (d : s ≡ page-at half img p) where
+    pub entry-reads : (i < capacity half) × (entry-count s ≤ capacity half)
     entry-reads =
-        let same : entry-count s ≡ entry-count (page-at 12 img p) = ap entry-count d in
+        let same : entry-count s ≡ entry-count (page-at half img p) = ap entry-count d in
         (omega (arith, entries-most, e .entry), omega (arith, entries-most))
 
-    module _ {b : Page-context} {q : ℕ} (x : b ≡ context-below 12 s at i) (y : q ≡ child-at 12 s i) where
-      pub below-level : b .level ≡ at .level - 1
-      unfolding context-below
-      below-level = ap (λ a. a .level) x
-
-      pub below-counted : page-count 12 h img b q ≡ page-count-below 12 h img at p i
-      below-counted = ap₂ (page-count 12 h img) (x ∙ ap (λ l. context-below 12 l at i) d) (y ∙ ap (λ l. child-at 12 l i) d)
-
-      pub below-standing : Standing img h b q
-      below-standing = rw (x, y, d) standing-below
+    pub entered : {b : Page-context} {q : ℕ} → b ≡ context-below half s at i → q ≡ child-at half s i → Entered half img h at p i b q
+    unfolding context-below
+    entered x y =
+        record {
+          standing = rw (x, y, d) standing-below;
+          level = ap (λ a. a .level) x;
+          counted = ap₂ (page-count half h img) (x ∙ ap (λ l. context-below half l at i) d) (y ∙ ap (λ l. child-at half l i) d);
+        }
 
 -- ---- what the walk has counted below a page's entries
 
 -- the pages below the first i entries are fit, and with the page itself there are so many
-pub record Passing (img : List ℕ) (h : Head) (at : Page-context) (p n pages i : ℕ) : Type 0 where
-  pub standing : Standing img h at p
+pub record Passing (half : ℕ) (img : List ℕ) (h : Head) (at : Page-context) (p n pages i : ℕ) : Type 0 where
+  pub standing : Standing half img h at p
   pub level : 1 ≤ at .level
-  pub fit : page-fit 12 h at (page-at 12 img p) ≡ true
-  pub len : n ≡ entry-count (page-at 12 img p)
+  pub fit : page-fit half h at (page-at half img p) ≡ true
+  pub len : n ≡ entry-count (page-at half img p)
   pub within : i ≤ n
   pub each : (j : ℕ) → j < i
-      → tree-fit 12 h img (at .level - 1) (context-below 12 (page-at 12 img p) at j) (child-at 12 (page-at 12 img p) j) ≡ true
-  pub count : pages ≡ suc (total i (λ j. length (tree-pages 12 img (at .level - 1) (child-at 12 (page-at 12 img p) j))))
+      → tree-fit half h img (at .level - 1) (context-below half (page-at half img p) at j) (child-at half (page-at half img p) j) ≡ true
+  pub count : pages ≡ suc (total i (λ j. length (tree-pages half img (at .level - 1) (child-at half (page-at half img p) j))))
   pub most : pages ≤ 1 + 1024 * i
 
-pub passing-none : {img : List ℕ} {h : Head} {at : Page-context} {p n : ℕ} → Standing img h at p → 1 ≤ at .level
-    → page-fit 12 h at (page-at 12 img p) ≡ true
-    → n ≡ entry-count (page-at 12 img p) → Passing img h at p n 1 0
+pub passing-none : {half : ℕ} {img : List ℕ} {h : Head} {at : Page-context} {p n : ℕ} → Standing half img h at p → 1 ≤ at .level
+    → page-fit half h at (page-at half img p) ≡ true
+    → n ≡ entry-count (page-at half img p) → Passing half img h at p n 1 0
 unfolding total
 passing-none w l f e =
     record { standing = w; level = l; fit = f; len = e; within = omega arith; each = below-none _; count = refl; most = omega arith }
 
-module _ {img : List ℕ} {h : Head} {at : Page-context} {p n pages i : ℕ} (r : Passing img h at p n pages i) where
-  pub passing-inner : i < n → Inner img h at p i
+module _ {half : ℕ} {img : List ℕ} {h : Head} {at : Page-context} {p n pages i : ℕ} (r : Passing half img h at p n pages i) where
+  pub passing-inner : i < n → Inner half img h at p i
   passing-inner l = record { level = r .level; fit = r .fit; entry = omega (arith, r .len) }
 
-  pub passing-most : n ≤ 24
-  passing-most = omega (arith, r .len, page-fit-is 12 h at (page-at 12 img p) .0 (r .fit) .most)
+  pub passing-most : n ≤ capacity half
+  passing-most = omega (arith, r .len, page-fit-is half h at (page-at half img p) .0 (r .fit) .most)
 
   level-is : at .level ≡ suc (at .level - 1)
   level-is = omega (arith, r .level)
 
-  pub passing-more : (k : ℕ) {a : PageCount} → i < n → a ≡ page-count-below 12 h img at p i → a ≡ Fit k
-      → Passing img h at p n (pages + k) (i + 1)
+  pub passing-more : (k : ℕ) {a : PageCount} → i < n → a ≡ page-count-below half h img at p i → a ≡ Fit k
+      → Passing half img h at p n (pages + k) (i + 1)
   unfolding context-below total
   passing-more k l e f =
-      let s : List ℕ = page-at 12 img p in
-      let b : Page-context = context-below 12 s at i in
-      let here = counted-fit 12 h img b (child-at 12 s i) k (sym e ∙ f) in
-      let w : Standing img h b (child-at 12 s i) = standing-below (r .standing) (passing-inner l) in
-      let short : length (tree-pages 12 img (at .level - 1) (child-at 12 s i)) < h .pages =
-      tree-short 12 h img (at .level - 1) b (child-at 12 s i) refl (w .some) (w .below) (here .0) in
+      let s : List ℕ = page-at half img p in
+      let b : Page-context = context-below half s at i in
+      let here = counted-fit half h img b (child-at half s i) k (sym e ∙ f) in
+      let w : Standing half img h b (child-at half s i) = standing-below (r .standing) (passing-inner l) in
+      let short : length (tree-pages half img (at .level - 1) (child-at half s i)) < h .pages =
+      tree-short half h img (at .level - 1) b (child-at half s i) refl (w .some) (w .below) (here .0) in
       record {
         standing = r .standing;
         level = r .level;
@@ -184,24 +210,24 @@ module _ {img : List ℕ} {h : Head} {at : Page-context} {p n pages i : ℕ} (r 
         most = omega (arith, r .most, here .1, r .standing .most);
       }
 
-  pub passing-stops : {a : PageCount} → i < n → a ≡ page-count-below 12 h img at p i → a ≡ Unfit
-      → Unfit ≡ page-count 12 h img at p
+  pub passing-stops : {a : PageCount} → i < n → a ≡ page-count-below half h img at p i → a ≡ Unfit
+      → Unfit ≡ page-count half h img at p
   unfolding context-below
   passing-stops l e f =
-      unfit-counted 12 h img at p
+      unfit-counted half h img at p
       (λ t.
-      counted-unfit 12 h img (context-below 12 (page-at 12 img p) at i) (child-at 12 (page-at 12 img p) i) (sym e ∙ f)
-      (tree-parts 12 h img (at .level - 1) at p (ap (λ l. tree-fit 12 h img l at p) (sym level-is) ∙ t) .1 i (omega (arith, r .len))))
+      counted-unfit half h img (context-below half (page-at half img p) at i) (child-at half (page-at half img p) i) (sym e ∙ f)
+      (tree-parts half h img (at .level - 1) at p (ap (λ l. tree-fit half h img l at p) (sym level-is) ∙ t) .1 i (omega (arith, r .len))))
 
-  pub passing-all : n ≤ i → Fit pages ≡ page-count 12 h img at p
+  pub passing-all : n ≤ i → Fit pages ≡ page-count half h img at p
   unfolding tree-fit
   passing-all l =
-      let s : List ℕ = page-at 12 img p in
+      let s : List ℕ = page-at half img p in
       let all : entry-count s ≡ i = omega (arith, r .within, r .len) in
-      fit-counted 12 h img at p
-      (ap (λ l. tree-fit 12 h img l at p) level-is
+      fit-counted half h img at p
+      (ap (λ l. tree-fit half h img l at p) level-is
       ∙ and-eq-true-iff _ _ .1 (r .fit, every-of _ _ (λ j k. r .each j (omega arith))))
-      (ap (λ l. length (tree-pages 12 img l p)) level-is
-      ∙ tree-length 12 img (at .level - 1) p (omega (arith, passing-most, r .len))
-      ∙ ap (λ k. suc (total k (λ j. length (tree-pages 12 img (at .level - 1) (child-at 12 s j))))) all
+      (ap (λ l. length (tree-pages half img l p)) level-is
+      ∙ tree-length half img (at .level - 1) p (omega (arith, passing-most, r .len))
+      ∙ ap (λ k. suc (total k (λ j. length (tree-pages half img (at .level - 1) (child-at half s j))))) all
       ∙ sym (r .count))

@@ -6,7 +6,7 @@ use mathlib.Core.List.{List}
 use lib.ListN.{length}
 use lib.Dec.{leb, ltb}
 use Rattle.page.specs.declared.Head.{Head}
-use Rattle.page.specs.Layout.{entry-count, child-at, free-ok}
+use Rattle.page.specs.Layout.{page-size, entry-count, child-at, free-ok}
 use Rattle.page.specs.Fit.{Page-context, context-below, page-fit, most-changes}
 use Rattle.image.specs.Images.{page-at}
 use Rattle.image.specs.Sound.{tree-fit, tree-pages}
@@ -29,8 +29,10 @@ unfoldable pub leads-to-free : ℕ → List ℕ → ℕ → ℕ → Bool
 leads-to-free half img n p = leb 1 p && (ltb p n && free-ok half (page-at half img p))
 
 -- a walk down from a fit head has come to page p and its context
-pub record Standing (img : List ℕ) (h : Head) (at : Page-context) (p : ℕ) : Type 0 where
-  pub size : length img ≡ 512 * h .pages
+pub record Standing (half : ℕ) (img : List ℕ) (h : Head) (at : Page-context) (p : ℕ) : Type 0 where
+  pub half-least : 1 ≤ half
+  pub half-most : half ≤ 12
+  pub size : length img ≡ page-size half * h .pages
   pub most : h .pages ≤ 1024
   pub changes : h .changes ≤ most-changes
   pub above : ℕ
@@ -39,7 +41,7 @@ pub record Standing (img : List ℕ) (h : Head) (at : Page-context) (p : ℕ) : 
   pub below : p < h .pages
 
 -- it has found the page fit, and goes on below its i-th entry
-pub record Inner (img : List ℕ) (h : Head) (at : Page-context) (p i : ℕ) : Type 0 where
+pub record Inner (half : ℕ) (img : List ℕ) (h : Head) (at : Page-context) (p i : ℕ) : Type 0 where
   pub level : 1 ≤ at .level
-  pub fit : page-fit 12 h at (page-at 12 img p) ≡ true
-  pub entry : i < entry-count (page-at 12 img p)
+  pub fit : page-fit half h at (page-at half img p) ≡ true
+  pub entry : i < entry-count (page-at half img p)

@@ -2,11 +2,9 @@
 use super::PageCount;
 use super::free::chain_ends;
 use super::unused::never_used;
-use super::walk::audit_page;
+use super::walk::audit_root;
 use access::HeadCheck;
 use access::heads::open_head;
-use fit::contexts::root_context;
-use page::layout::HALF;
 ghost use mathlib.Core.Path.{_≡_};
 ghost use mathlib.Core.Bool.{true};
 ghost use Prim.Native.Nat.{_+_, _*_, _-_, _≤_};
@@ -25,18 +23,18 @@ fn adds_up(tree: u32, chain: u32, mark: u32) -> bool
 // "An image is sound if head and all tree pages are fit, each page below the high mark except 0 is once in the tree or once in
 // the chain, the chain length is true, and free and never used pages read as above." A sound image's length is in range too, which
 // every call has tested (16) before this.
-pub fn sound(img: &[u8]) -> bool
-    requires { ⌜ length-ok 12 (now img) ≡ true ⌝ }
-    ensures { λ r. ⌜ r ≡ sound 12 (now (img .entry)) ⌝ }
+pub fn sound(half: usize, img: &[u8]) -> bool
+    requires { ⌜ (1 ≤ half) × (half ≤ 12) × (length-ok half (now img) ≡ true) ⌝ }
+    ensures { λ r. ⌜ r ≡ sound half (now (img .entry)) ⌝ }
 {
-    let HeadCheck::Fit(h) = open_head(HALF, img) else {
+    let HeadCheck::Fit(h) = open_head(half, img) else {
         return false;
     };
-    let PageCount::Fit(tree) = audit_page(img, h, root_context(h), h.root) else {
+    let PageCount::Fit(tree) = audit_root(half, img, h) else {
         return false;
     };
     if !adds_up(tree, h.chain, h.mark) {
         return false;
     }
-    chain_ends(img, h.pages, h.chain, h.free) & never_used(img, h.pages, h.mark)
+    chain_ends(half, img, h.pages, h.chain, h.free) & never_used(half, img, h.pages, h.mark)
 }

@@ -2,34 +2,36 @@
 use super::PageCount;
 use access::pages::page_at;
 use fit::contexts::context_below;
+use fit::contexts::root_context;
 use fit::tree_page::page_fit;
 use page::Head;
 use page::PageContext;
 use page::at::child_at;
 use page::at::entry_count;
-use page::layout::HALF;
 ghost use mathlib.Core.Path.{_≡_};
+ghost use mathlib.Core.Bool.{true};
+ghost use Prim.Native.Nat.{_≤_};
+ghost use Rattle.page.specs.Fit.{page-fit, root-context};
+ghost use Rattle.image.specs.Images.{page-at};
+ghost use Rattle.access.specs.Access.{Open-image};
 ghost use Rattle.audit.specs.Walks.{Standing, Inner, page-count, page-count-below};
 
-// The tree pages from page p in its context down, if all are fit: it ends at the first that is not. A page is fit in no two contexts, so
+// The tree pages from a fit page p on down, if all are fit: it ends at the first that is not. A page is fit in no two contexts, so
 // none is found fit twice; only the last look, at an unfit page, may be at one that was met before.
-pub(crate) fn audit_page(img: &[u8], h: Head, at: PageContext, p: u32) -> PageCount
-    requires { ⌜ Standing (now img) h at p ⌝ }
-    ensures { λ r. ⌜ r ≡ page-count 12 h (now (img .entry)) at p ⌝ }
+fn audit_page(half: usize, img: &[u8], h: Head, at: PageContext, p: u32) -> PageCount
+    requires { ⌜ Standing half (now img) h at p ⌝ }
+    requires { ⌜ page-fit half h at (page-at half (now img) p) ≡ true ⌝ }
+    ensures { λ r. ⌜ r ≡ page-count half h (now (img .entry)) at p ⌝ }
 {
-    let s = page_at(HALF, img, p);
-    if !page_fit(HALF, s, h, at) {
-        return PageCount::Unfit;
-    }
     let mut pages = 1;
     // A leaf has no page below.
     if at.level == 0 {
         return PageCount::Fit(pages);
     }
-    let n = entry_count(s) as usize;
+    let n = entry_count(page_at(half, img, p)) as usize;
     let mut i = 0;
     while i < n {
-        let PageCount::Fit(below) = audit_entry(img, h, at, p, i) else {
+        let PageCount::Fit(below) = audit_entry(half, img, h, at, p, i) else {
             return PageCount::Unfit;
         };
         pages += below;
@@ -38,13 +40,33 @@ pub(crate) fn audit_page(img: &[u8], h: Head, at: PageContext, p: u32) -> PageCo
     PageCount::Fit(pages)
 }
 
-// The same from the page below the i-th entry of a fit inner page: the level falls.
-fn audit_entry(img: &[u8], h: Head, at: PageContext, p: u32, i: usize) -> PageCount
-    requires { ⌜ Standing (now img) h at p ⌝ }
-    requires { ⌜ Inner (now img) h at p i ⌝ }
-    ensures { λ r. ⌜ r ≡ page-count-below 12 h (now (img .entry)) at p i ⌝ }
+// The same from the page below the i-th entry of a fit inner page: the level falls. The page is checked here, where its context was
+// made: read back by a call, the context would have to wait for its stores. Most pages are leaves, and no call is made for one.
+fn audit_entry(half: usize, img: &[u8], h: Head, at: PageContext, p: u32, i: usize) -> PageCount
+    requires { ⌜ Standing half (now img) h at p ⌝ }
+    requires { ⌜ Inner half (now img) h at p i ⌝ }
+    ensures { λ r. ⌜ r ≡ page-count-below half h (now (img .entry)) at p i ⌝ }
 {
-    let s = page_at(HALF, img, p);
-    let below = context_below(HALF, s, at, i);
-    audit_page(img, h, below, child_at(HALF, s, i))
+    let s = page_at(half, img, p);
+    let below = context_below(half, s, at, i);
+    let child = child_at(half, s, i);
+    if !page_fit(half, page_at(half, img, child), h, below) {
+        return PageCount::Unfit;
+    }
+    if below.level == 0 {
+        return PageCount::Fit(1);
+    }
+    audit_page(half, img, h, below, child)
+}
+
+// The same from the root on.
+pub(crate) fn audit_root(half: usize, img: &[u8], h: Head) -> PageCount
+    requires { ⌜ (1 ≤ half) × (half ≤ 12) × Open-image half (now img) h ⌝ }
+    ensures { λ r. ⌜ r ≡ page-count half h (now (img .entry)) (root-context h) (h .root) ⌝ }
+{
+    let at = root_context(h);
+    if !page_fit(half, page_at(half, img, h.root), h, at) {
+        return PageCount::Unfit;
+    }
+    audit_page(half, img, h, at, h.root)
 }

@@ -25,7 +25,7 @@ pub(crate) fn check_state(img: &[u8], withdraws: bool, s: u32, e: u32) -> StateC
     requires { ⌜ s < e ⌝ }
     ensures { λ r. ⌜ r ≡ state-check (side-of withdraws) s e (now (img .entry)) ⌝ }
 {
-    if !sound(img) {
+    if !sound(HALF, img) {
         return StateCheck::Refused(UNSOUND);
     }
     let h = read_head(page_at(HALF, img, 0));

@@ -9,7 +9,7 @@ use lib.IntN.{natAbs}
 use Rattle.rule.specs.declared.Pair.{Pair}
 use Rattle.rule.specs.Bounds.{value-or-none}
 use Rattle.page.specs.declared.Head.{Head}
-use Rattle.page.specs.Layout.{entry-count}
+use Rattle.page.specs.Layout.{page-size, entry-count}
 use Rattle.page.specs.Fit.{Page-context, most-changes, page-fit}
 use Rattle.fit.specs.Paths.{Path}
 use Rattle.listing.specs.declared.SpanQuery.{SpanQuery}
@@ -24,7 +24,9 @@ pub record Above (h : Head) (at : Page-context) (p : Pair) : Type 0 where
 
 -- The page is one of the image's, and its context is under fit entries.
 pub record Valid-cursor (img : List ℕ) (q : SpanQuery) (on : Cursor) : Type 0 where
-  pub size : length img ≡ 512 * q .head .pages
+  pub half-least : 1 ≤ q .half
+  pub half-most : q .half ≤ 12
+  pub size : length img ≡ page-size (q .half) * q .head .pages
   pub changes : q .head .changes ≤ most-changes
   pub page : on .page < q .head .pages
   pub depth : ℕ
@@ -33,10 +35,10 @@ pub record Valid-cursor (img : List ℕ) (q : SpanQuery) (on : Cursor) : Type 0 
 
 -- Where runs are written, the page has been found fit.
 pub record Known-fit (img : List ℕ) (q : SpanQuery) (on : Cursor) : Type 0 where
-  pub known : q .writing ≡ true → page-fit 12 (q .head) (on .at) (bytes-at img on) ≡ true
+  pub known : q .writing ≡ true → page-fit (q .half) (q .head) (on .at) (bytes-at (q .half) img on) ≡ true
 
 -- The page is fit, and the i-th is one of its entries and overlaps the span.
 pub record Valid-entry (img : List ℕ) (q : SpanQuery) (on : Cursor) (i : ℕ) : Type 0 where
-  pub fit : page-fit 12 (q .head) (on .at) (bytes-at img on) ≡ true
-  pub within : i < entry-count (bytes-at img on)
-  pub met : meets q (bytes-at img on) on i ≡ true
+  pub fit : page-fit (q .half) (q .head) (on .at) (bytes-at (q .half) img on) ≡ true
+  pub within : i < entry-count (bytes-at (q .half) img on)
+  pub met : meets q (bytes-at (q .half) img on) on i ≡ true

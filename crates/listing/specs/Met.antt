@@ -26,9 +26,9 @@ pub record Past-met (s : List ℕ) (n b i : ℕ) : Type 0 where
 pub record Met (img : List ℕ) (q : SpanQuery) (on : Cursor) (n : ℕ) (r : EntryRange) : Type 0 where
   pub from-most : r .from ≤ n
   pub to-most : r .to ≤ n
-  pub before : (k : ℕ) → k < r .from → meets q (bytes-at img on) on k ≡ false
-  pub inside : (k : ℕ) → r .from ≤ k → k < r .to → meets q (bytes-at img on) on k ≡ true
-  pub behind : (k : ℕ) → r .to ≤ k → k < n → meets q (bytes-at img on) on k ≡ false
+  pub before : (k : ℕ) → k < r .from → meets q (bytes-at (q .half) img on) on k ≡ false
+  pub inside : (k : ℕ) → r .from ≤ k → k < r .to → meets q (bytes-at (q .half) img on) on k ≡ true
+  pub behind : (k : ℕ) → r .to ≤ k → k < n → meets q (bytes-at (q .half) img on) on k ≡ false
 
 -- the leaves of a page above leaves that overlap the span; a leaf has one, itself
 pub record Leaf-range (img : List ℕ) (q : SpanQuery) (on : Cursor) (n : ℕ) (r : EntryRange) : Type 0 where

@@ -53,20 +53,20 @@ count w = cond (w .fit) (counted.Runs (length (join (w .runs)))) counted.Unfit
 
 -- ---- a page
 
-abbrev pub bytes-at : List ℕ → Cursor → List ℕ
-bytes-at img on = page-at 12 img (on .page)
+abbrev pub bytes-at : ℕ → List ℕ → Cursor → List ℕ
+bytes-at half img on = page-at half img (on .page)
 
 -- the walk from a page on
 unfoldable pub page-walk : List ℕ → SpanQuery → Cursor → image.Walked
 page-walk img q on =
     under (combine (q .head .kind)) (on .above)
-    (walk 12 (q .head) img (q .a) (q .b) (on .at .level) (on .at) (on .page))
+    (walk (q .half) (q .head) img (q .a) (q .b) (on .at .level) (on .at) (on .page))
 
 -- its count of entries, if it is fit
 unfoldable pub page-check : List ℕ → SpanQuery → Cursor → PageCheck
 page-check img q on =
-    let s = bytes-at img on in
-    cond (page-fit 12 (q .head) (on .at) s) (opened.Entries (entry-count s)) opened.Unfit
+    let s = bytes-at (q .half) img on in
+    cond (page-fit (q .half) (q .head) (on .at) s) (opened.Entries (entry-count s)) opened.Unfit
 
 -- ---- an entry
 
@@ -78,9 +78,9 @@ root-cursor h = record { at = root-context h; page = h .root; above = none }
 abbrev pub cursor-below : SpanQuery → List ℕ → Cursor → ℕ → Cursor
 cursor-below q s on i =
     record {
-      at = context-below 12 s (on .at) i;
-      page = child-at 12 s i;
-      above = combine (q .head .kind) (on .above) (pair-at 12 s i);
+      at = context-below (q .half) s (on .at) i;
+      page = child-at (q .half) s i;
+      above = combine (q .head .kind) (on .above) (pair-at (q .half) s i);
     }
 
 -- the i-th entry overlaps the span
@@ -94,7 +94,7 @@ one-run start pair = record { fit = true; runs = record { start = start; pair = 
 -- the walk of the i-th entry, where it overlaps the span: a leaf entry's run, or the page below
 unfoldable pub entry-walk : List ℕ → SpanQuery → Cursor → ℕ → image.Walked
 entry-walk img q on i =
-    let s = bytes-at img on in
+    let s = bytes-at (q .half) img on in
     let below = cursor-below q s on i in
     cond (meets q s on i)
     (cond (eqb (on .at .level) 0) (one-run (max (q .a) (start-at s i)) (below .above)) (page-walk img q below))
@@ -104,4 +104,4 @@ entry-walk img q on i =
 
 -- the leaf below the i-th entry of a page above leaves; a leaf is its own
 unfoldable pub leaf-cursor : List ℕ → SpanQuery → Cursor → ℕ → Cursor
-leaf-cursor img q on i = cond (eqb (on .at .level) 0) on (cursor-below q (bytes-at img on) on i)
+leaf-cursor img q on i = cond (eqb (on .at .level) 0) on (cursor-below q (bytes-at (q .half) img on) on i)

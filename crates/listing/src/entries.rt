@@ -6,7 +6,6 @@ use fit::contexts::context_below;
 use page::at::child_at;
 use page::at::pair_at;
 use page::at::start_at;
-use page::layout::HALF;
 use rule::Pair;
 use rule::combine::combine;
 ghost use mathlib.Core.Path.{_≡_};
@@ -26,22 +25,22 @@ fn later(a: u32, b: u32) -> u32
 pub(crate) fn run_start(img: &[u8], q: SpanQuery, on: Cursor, i: usize) -> u32
     requires { ⌜ Valid-cursor (now img) q on ⌝ }
     requires { ⌜ Valid-entry (now img) q on i ⌝ }
-    ensures { λ r. ⌜ r ≡ max (q .a) (start-at (bytes-at (now (img .entry)) on) i) ⌝ }
+    ensures { λ r. ⌜ r ≡ max (q .a) (start-at (bytes-at (q .half) (now (img .entry)) on) i) ⌝ }
 {
-    later(q.a, start_at(page_at(HALF, img, on.page), i))
+    later(q.a, start_at(page_at(q.half, img, on.page), i))
 }
 
 // The i-th entry's pair, combined with those above it.
 pub(crate) fn total_at(img: &[u8], q: SpanQuery, on: Cursor, i: usize) -> Pair
     requires { ⌜ Valid-cursor (now img) q on ⌝ }
     requires { ⌜ Valid-entry (now img) q on i ⌝ }
-    ensures { λ r. ⌜ r ≡ cursor-below q (bytes-at (now (img .entry)) on) on i .above ⌝ }
+    ensures { λ r. ⌜ r ≡ cursor-below q (bytes-at (q .half) (now (img .entry)) on) on i .above ⌝ }
 {
     let above = on.above;
     combine(
         q.head.kind,
         above,
-        pair_at(HALF, page_at(HALF, img, on.page), i),
+        pair_at(q.half, page_at(q.half, img, on.page), i),
     )
 }
 
@@ -50,13 +49,13 @@ pub(crate) fn cursor_below(img: &[u8], q: SpanQuery, on: Cursor, i: usize) -> Cu
     requires { ⌜ Valid-cursor (now img) q on ⌝ }
     requires { ⌜ Valid-entry (now img) q on i ⌝ }
     requires { ⌜ 1 ≤ on .at .level ⌝ }
-    ensures { λ r. ⌜ r ≡ cursor-below q (bytes-at (now (img .entry)) on) on i ⌝ }
+    ensures { λ r. ⌜ r ≡ cursor-below q (bytes-at (q .half) (now (img .entry)) on) on i ⌝ }
 {
-    let s = page_at(HALF, img, on.page);
+    let s = page_at(q.half, img, on.page);
     let at = on.at;
     Cursor {
-        at: context_below(HALF, s, at, i),
-        page: child_at(HALF, s, i),
+        at: context_below(q.half, s, at, i),
+        page: child_at(q.half, s, i),
         above: total_at(img, q, on, i),
     }
 }

@@ -6,9 +6,10 @@ use crate::SpanQuery;
 use access::pages::page_at;
 use fit::contexts::end_at;
 use page::at::start_at;
-use page::layout::HALF;
 ghost use mathlib.Core.Path.{_≡_};
-ghost use Rattle.fit.specs.Contexts.{Compared};
+ghost use Prim.Native.Nat.{_≤_};
+ghost use lib.ListN.{length};
+ghost use Rattle.page.specs.Layout.{start-offset, entry-count};
 ghost use Rattle.listing.specs.Cursors.{Valid-cursor};
 ghost use Rattle.listing.specs.Met.{First-met, Past-met, Met};
 ghost use Rattle.listing.specs.Walks.{page-check};
@@ -16,7 +17,7 @@ ghost use Rattle.listing.specs.declared.PageCheck.the-variants.{Entries}
 
 // The index of the first of n entries that ends behind a: in most pages of a listing the first of all.
 fn first_met(s: &[u8], n: usize, hi: u32, a: u32) -> usize
-    requires { ⌜ Compared 12 (now s) n ⌝ }
+    requires { ⌜ (n ≡ entry-count (now s)) × (start-offset n ≤ length (now s)) ⌝ }
     ensures { λ r. ⌜ First-met (now (s .entry)) n hi a r ⌝ }
 {
     let mut i = 0;
@@ -31,7 +32,7 @@ fn first_met(s: &[u8], n: usize, hi: u32, a: u32) -> usize
 
 // The index behind the last of n entries that starts before b: in most pages of a listing the last of all.
 fn past_met(s: &[u8], n: usize, b: u32) -> usize
-    requires { ⌜ Compared 12 (now s) n ⌝ }
+    requires { ⌜ start-offset n ≤ length (now s) ⌝ }
     ensures { λ r. ⌜ Past-met (now (s .entry)) n b r ⌝ }
 {
     let mut i = n;
@@ -50,7 +51,7 @@ pub(crate) fn entries_met(img: &[u8], q: SpanQuery, on: Cursor, n: usize) -> Ent
     requires { ⌜ Entries n ≡ page-check (now img) q on ⌝ }
     ensures { λ r. ⌜ Met (now (img .entry)) q on n r ⌝ }
 {
-    let s = page_at(HALF, img, on.page);
+    let s = page_at(q.half, img, on.page);
     EntryRange {
         from: first_met(s, n, on.at.hi, q.a),
         to: past_met(s, n, q.b),

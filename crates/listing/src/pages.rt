@@ -7,26 +7,27 @@ use fit::tree_page::page_fit;
 use page::Head;
 use page::PageContext;
 use page::at::entry_count;
-use page::layout::HALF;
 ghost use mathlib.Core.Path.{_≡_};
 ghost use mathlib.Core.Bool.{true};
+ghost use Prim.Native.Nat.{_≤_};
 ghost use lib.ListN.{length};
+ghost use Rattle.page.specs.Layout.{page-size};
 ghost use Rattle.page.specs.Fit.{page-fit};
 ghost use Rattle.fit.specs.Contexts.{Bounded};
 ghost use Rattle.listing.specs.Cursors.{Valid-cursor, Known-fit};
 ghost use Rattle.listing.specs.Walks.{page-check};
 
 // Whether a page is fit, if it isn't known to be.
-fn found_fit(s: &[u8], known: bool, h: Head, at: PageContext) -> bool
-    requires { ⌜ length (now s) ≡ 512 ⌝ }
+fn found_fit(half: usize, s: &[u8], known: bool, h: Head, at: PageContext) -> bool
+    requires { ⌜ (1 ≤ half) × (length (now s) ≡ page-size half) ⌝ }
     requires { ⌜ Bounded at ⌝ }
-    requires { ⌜ (known ≡ true → page-fit 12 h at (now s) ≡ true) ⌝ }
-    ensures { λ r. ⌜ r ≡ page-fit 12 h at (now (s .entry)) ⌝ }
+    requires { ⌜ (known ≡ true → page-fit half h at (now s) ≡ true) ⌝ }
+    ensures { λ r. ⌜ r ≡ page-fit half h at (now (s .entry)) ⌝ }
 {
     if known {
         return true;
     }
-    page_fit(HALF, s, h, at)
+    page_fit(half, s, h, at)
 }
 
 // A page is checked before anything in it is used. The walk that writes follows one that has found every page fit, and checks none
@@ -36,8 +37,8 @@ pub(crate) fn check_page(img: &[u8], q: SpanQuery, on: Cursor) -> PageCheck
     requires { ⌜ Known-fit (now img) q on ⌝ }
     ensures { λ r. ⌜ r ≡ page-check (now (img .entry)) q on ⌝ }
 {
-    let s = page_at(HALF, img, on.page);
-    if found_fit(s, q.writing, q.head, on.at) {
+    let s = page_at(q.half, img, on.page);
+    if found_fit(q.half, s, q.writing, q.head, on.at) {
         return PageCheck::Entries(entry_count(s) as usize);
     }
     PageCheck::Unfit

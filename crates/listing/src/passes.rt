@@ -23,9 +23,9 @@ ghost use Rattle.listing.specs.Walks.{count, Room, Does};
 
 // The walk from the root, before any run.
 fn walk_root(img: &[u8], out: &mut [u8], q: SpanQuery) -> WalkAnswer
-    requires { ⌜ Open-image 12 (now img) (q .head) ⌝ }
-    requires { ⌜ Room (q .writing) no-run (walk-over 12 (now img) (q .a) (q .b)) (now out) ⌝ }
-    ensures { λ r. ⌜ Does (q .writing) no-run (walk-over 12 (now (img .entry)) (q .a) (q .b)) (now (out .entry)) r (now (out .exit)) ⌝ }
+    requires { ⌜ (1 ≤ q .half) × (q .half ≤ 12) × Open-image (q .half) (now img) (q .head) ⌝ }
+    requires { ⌜ Room (q .writing) no-run (walk-over (q .half) (now img) (q .a) (q .b)) (now out) ⌝ }
+    ensures { λ r. ⌜ Does (q .writing) no-run (walk-over (q .half) (now (img .entry)) (q .a) (q .b)) (now (out .entry)) r (now (out .exit)) ⌝ }
 {
     let none = Pair { sum: 0, count: 0 };
     let root = Cursor {
@@ -45,12 +45,13 @@ fn walk_root(img: &[u8], out: &mut [u8], q: SpanQuery) -> WalkAnswer
 }
 
 // The first pass: the number of runs over [a, b), unless a page that the walk meets is unfit.
-pub fn count_runs(img: &[u8], h: Head, a: u32, b: u32) -> RunCount
-    requires { ⌜ Open-image 12 (now img) h ⌝ }
-    ensures { λ r. ⌜ r ≡ count (walk-over 12 (now (img .entry)) a b) ⌝ }
+pub fn count_runs(half: usize, img: &[u8], h: Head, a: u32, b: u32) -> RunCount
+    requires { ⌜ (1 ≤ half) × (half ≤ 12) × Open-image half (now img) h ⌝ }
+    ensures { λ r. ⌜ r ≡ count (walk-over half (now (img .entry)) a b) ⌝ }
 {
     let mut unwritten = [0u8; 1];
     let q = SpanQuery {
+        half,
         head: h,
         a: a,
         b: b,
@@ -63,13 +64,14 @@ pub fn count_runs(img: &[u8], h: Head, a: u32, b: u32) -> RunCount
 }
 
 // The second pass: the runs over [a, b) are written from the output's first byte on.
-pub fn write_runs(img: &[u8], h: Head, a: u32, b: u32, out: &mut [u8])
-    requires { ⌜ Open-image 12 (now img) h ⌝ }
-    requires { ⌜ walk-over 12 (now img) a b .fit ≡ true ⌝ }
-    requires { ⌜ 16 * length (join (walk-over 12 (now img) a b .runs)) ≤ length (now out) ⌝ }
-    ensures { λ _. ⌜ now (out .exit) ≡ patch (now (out .entry)) 0 (concat-map run-bytes (join (walk-over 12 (now (img .entry)) a b .runs))) ⌝ }
+pub fn write_runs(half: usize, img: &[u8], h: Head, a: u32, b: u32, out: &mut [u8])
+    requires { ⌜ (1 ≤ half) × (half ≤ 12) × Open-image half (now img) h ⌝ }
+    requires { ⌜ walk-over half (now img) a b .fit ≡ true ⌝ }
+    requires { ⌜ 16 * length (join (walk-over half (now img) a b .runs)) ≤ length (now out) ⌝ }
+    ensures { λ _. ⌜ now (out .exit) ≡ patch (now (out .entry)) 0 (concat-map run-bytes (join (walk-over half (now (img .entry)) a b .runs))) ⌝ }
 {
     let q = SpanQuery {
+        half,
         head: h,
         a: a,
         b: b,

@@ -1,14 +1,11 @@
 // Search in a page.
 use page::at::start_at;
-ghost use mathlib.Core.Path.{_≡_};
-ghost use Rattle.page.specs.Entries.{index-of};
-ghost use Rattle.page.specs.Layout.{entries-of};
-ghost use Rattle.lookup.specs.Levels.{Page-searchable};
+ghost use Rattle.lookup.specs.Levels.{Page-searchable, Index-found};
 
 // The index of the last entry starting at t or before: the search goes on while the next one does too.
 pub fn find(s: &[u8], n: usize, t: u32) -> usize
     requires { ⌜ Page-searchable (now s) n t ⌝ }
-    ensures { λ r. ⌜ r ≡ index-of t (entries-of 12 (now (s .entry))) ⌝ }
+    ensures { λ r. ⌜ Index-found t (now (s .entry)) r ⌝ }
 {
     let mut i = 0;
     while i + 1 < n {

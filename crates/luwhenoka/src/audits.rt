@@ -23,7 +23,7 @@ pub extern "C" fn luw_audit(img: &[u8], scratch: &mut [u8]) -> u32
         return SCRATCH_SHORT;
     }
     fill(scratch, 0, n, 0);
-    if sound(img) {
+    if sound(HALF, img) {
         return ACCEPTED;
     }
     UNSOUND

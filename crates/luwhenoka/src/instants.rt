@@ -54,7 +54,7 @@ pub extern "C" fn luw_instant(img: &[u8], t: u32) -> InstantAnswer
     let HeadCheck::Fit(h) = open_head(HALF, img) else {
         return refused(UNSOUND, 0);
     };
-    match look_up(img, h, t) {
+    match look_up(HALF, img, h, t) {
         LookupAnswer::Answered(pair, pages) => accepted(pair, pages),
         LookupAnswer::Unfit(pages) => refused(UNSOUND, pages),
     }

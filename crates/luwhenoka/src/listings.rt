@@ -40,13 +40,13 @@ pub extern "C" fn luw_listing(img: &[u8], a: u32, b: u32, out: &mut [u8]) -> Lis
     let HeadCheck::Fit(h) = open_head(HALF, img) else {
         return refused(UNSOUND);
     };
-    let RunCount::Runs(runs) = count_runs(img, h, a, b) else {
+    let RunCount::Runs(runs) = count_runs(HALF, img, h, a, b) else {
         return refused(UNSOUND);
     };
     if out.len() / RUN_BYTES < runs as usize {
         return refused(OUTPUT_SHORT);
     }
-    write_runs(img, h, a, b, out);
+    write_runs(HALF, img, h, a, b, out);
     ListingAnswer {
         status: ACCEPTED,
         runs: runs,

@@ -17,7 +17,8 @@ ghost use Prim.Native.Nat.{_+_, _≤_, _<_, _/_, _%_, _^_};
 ghost use lib.ListN.{length};
 ghost use mir.Syntax.{w32, w64};
 ghost use mir.Val.{toZ};
-ghost use Rattle.page.specs.Layout.{capacity, start-offset, page-size, level-of, entry-count, next-of, start-at, pair-at, child-at, entry-at};
+ghost use Rattle.page.specs.Layout.{capacity, start-offset, page-size, level-of, entry-count, next-of};
+ghost use Rattle.page.specs.Layout.{start-at, pair-at, child-at, entry-at};
 
 // The level of a tree page, or the mark of a free page.
 pub fn level_of(s: &[u8]) -> u32

@@ -18,7 +18,7 @@ use Rattle.page.specs.Layout.{entry-count, start-at, entry-at, entries-of}
 use Rattle.page.proofs.Laws.Trees.{at-entries-of}
 use Rattle.image.specs.Images.{Image, page-at}
 use Rattle.access.proofs.Laws.{page-length}
-use Rattle.lookup.specs.Levels.{Page-searchable}
+use Rattle.lookup.specs.Levels.{Page-searchable, Index-found}
 use Rattle.edit.proofs.Edits.{has-len}
 use Rattle.steps.specs.Supply.{entries}
 use Rattle.steps.specs.Combine.{next-start}
@@ -97,13 +97,9 @@ module _ {img : List ℕ} {X : Image} {l p t : ℕ} (h : Encodes img X) (k : Sea
   lent-searched {n} e =
       let r = lent-read h (k .tree-page) same in
       record {
-        compared =
-            record {
-              size = lent-size h (k .tree-page) same;
-              len = e;
-              some = omega (arith, r .len, k .some);
-              most = omega (arith, r .len, r .few);
-            };
+        len = e;
+        some = omega (arith, r .len, k .some);
+        inside = omega (arith, lent-size h (k .tree-page) same, r .len, r .few);
         rising =
             λ i m.
             let j : suc i < length (entries X p) = omega (arith, r .len) in
@@ -111,18 +107,20 @@ module _ {img : List ℕ} {X : Image} {l p t : ℕ} (h : Encodes img X) (k : Sea
         first = omega (arith, start-is 0 (k .some), k .first);
       }
 
-  pub lent-found : {n i : ℕ} {e : Entry} → n ≡ entry-count s → i ≡ index-of t (entries-of 12 s) → e ≡ entry-at 12 s i
+  pub lent-found : {n i : ℕ} {e : Entry} → n ≡ entry-count s → Index-found t s i → e ≡ entry-at 12 s i
       → record { count = n; index = i; entry = e } ≡ found-in t (entries X p)
   unfolding found-in
   lent-found {n} {i} {e} a b c =
       let r = lent-read h (k .tree-page) same in
       let es : List Entry = entries X p in
-      let here : i ≡ index-of t es = lent-slot h (k .tree-page) same t b in
+      let here : i ≡ index-of t es = lent-slot h (k .tree-page) same t (b 12 (omega (arith, r .len, r .few))) in
       let found : e ≡ at es (index-of t es) =
       c ∙ ap (entry-at 12 s) here ∙ lent-entry h (k .tree-page) same (index-of t es) (slot-inside t es (k .some)) in
       let count : n ≡ length es = a ∙ r .len in
       λ j. record { count = count j; index = here j; entry = found j }
 
-  pub lent-inside : {i : ℕ} → i ≡ index-of t (entries-of 12 s) → i < 24
+  pub lent-inside : {i : ℕ} → Index-found t s i → i < 24
   lent-inside {i} b =
-      omega (arith, lent-slot h (k .tree-page) same t b, slot-inside t (entries X p) (k .some), lent-read h (k .tree-page) same .few)
+      let r = lent-read h (k .tree-page) same in
+      let here = lent-slot h (k .tree-page) same t (b 12 (omega (arith, r .len, r .few))) in
+      omega (arith, here, slot-inside t (entries X p) (k .some), r .few)

@@ -39,9 +39,9 @@ not-leaf on z =
 
 module _ {img : List ℕ} {q : SpanQuery} {on : Cursor} {n : ℕ} {r : EntryRange} (e : Entries n ≡ page-check img q on)
     (range : Leaf-range img q on n r) where
-  pub leaves-ranged : Ranged (page-walk img q on) (leaf-walk img q on) (leaf-count on n) r
+  pub leaves-ranged : q .half ≤ 12 → Ranged (page-walk img q on) (leaf-walk img q on) (leaf-count on n) r
   unfolding leaf-walk leaf-count
-  leaves-ranged = go (eqb (on .at .level) 0) refl
+  leaves-ranged few = go (eqb (on .at .level) 0) refl
     where
       f : Bool → ℕ → Walked
       f b i = cond b (page-walk img q on) (entry-walk img q on i)
@@ -57,7 +57,7 @@ module _ {img : List ℕ} {q : SpanQuery} {on : Cursor} {n : ℕ} {r : EntryRang
             before = λ k l. absurd (omega (arith, is .0));
             behind = λ k l h. absurd (omega (arith, is .1));
           }
-      go false z = entries-ranged img q on e (range .below (not-leaf on z))
+      go false z = entries-ranged img q on few e (range .below (not-leaf on z))
 
   pub leaf-entry : {i : ℕ} → r .from ≤ i → i < r .to → 1 ≤ on .at .level → Valid-entry img q on i
   leaf-entry l h inner = entry-met img q on e (range .below inner) l h
@@ -75,7 +75,7 @@ pub leaf-at : {img : List ℕ} {q : SpanQuery} {on leaf : Cursor} {i : ℕ} → 
 unfolding leaf-walk leaf-cursor
 leaf-at {img} {q} {on} {leaf} {i} sits low here d = go (eqb (on .at .level) 0) refl d
   where
-    go : (b : Bool) → eqb (on .at .level) 0 ≡ b → leaf ≡ cond b on (cursor-below q (bytes-at img on) on i) → Leaf img q on i leaf
+    go : (b : Bool) → eqb (on .at .level) 0 ≡ b → leaf ≡ cond b on (cursor-below q (bytes-at (q .half) img on) on i) → Leaf img q on i leaf
     go true z k = rw k (record { stands = sits; bottom = eqb-true _ _ z; gives = rw z })
     go false z k =
         let inner = not-leaf on z in
@@ -98,6 +98,6 @@ module _ (img : List ℕ) (q : SpanQuery) (on : Cursor) (i : ℕ) where
   unfolding leaf-cursor
   leaf-itself z = rw (eq-eqb (on .at .level) 0 z)
 
-  pub leaf-below : 1 ≤ on .at .level → cursor-below q (bytes-at img on) on i ≡ leaf-cursor img q on i
+  pub leaf-below : 1 ≤ on .at .level → cursor-below q (bytes-at (q .half) img on) on i ≡ leaf-cursor img q on i
   unfolding leaf-cursor
   leaf-below l = rw (ne-eqb (on .at .level) 0 (λ z. absurd (omega arith)))

@@ -48,7 +48,7 @@ behind-more P {n} {i} all here k l m = go (decLt k i)
 
 -- ---- a page's starts and ends rise with its entries
 
-module _ {h : Head} {at : Page-context} {s : List ℕ} (fit : PageFit 12 h at s) where
+module _ {half : ℕ} {h : Head} {at : Page-context} {s : List ℕ} (fit : PageFit half h at s) where
   -- the bounds of two of the page's spans, one before the other
   order : (i j : ℕ) → i ≤ j → j ≤ entry-count s → bound s (at .hi) i ≤ bound s (at .hi) j
   order i j l m = rises (entry-count s) (bound s (at .hi)) (bound-rises fit) i j l m
@@ -74,10 +74,11 @@ module _ {h : Head} {at : Page-context} {s : List ℕ} (fit : PageFit 12 h at s)
         bound-next s (at .hi) k,
       )
 
-pub met-range : {img : List ℕ} {q : SpanQuery} {on : Cursor} {n from to : ℕ} → PageFit 12 (q .head) (on .at) (bytes-at img on)
-    → n ≡ entry-count (bytes-at img on)
-    → First-met (bytes-at img on) n (on .at .hi) (q .a) from
-    → Past-met (bytes-at img on) n (q .b) to
+pub met-range : {img : List ℕ} {q : SpanQuery} {on : Cursor} {n from to : ℕ}
+    → PageFit (q .half) (q .head) (on .at) (bytes-at (q .half) img on)
+    → n ≡ entry-count (bytes-at (q .half) img on)
+    → First-met (bytes-at (q .half) img on) n (on .at .hi) (q .a) from
+    → Past-met (bytes-at (q .half) img on) n (q .b) to
     → Met img q on n (record { from = from; to = to })
 met-range fit len first past =
     record {

@@ -49,18 +49,19 @@ under-turn comb p (suc n) f =
 -- ---- an entry, by whether it overlaps the span
 
 module _ (img : List ℕ) (q : SpanQuery) (on : Cursor) (i : ℕ) where
-  pub entry-apart : meets q (bytes-at img on) on i ≡ false → entry-walk img q on i ≡ nothing
+  pub entry-apart : meets q (bytes-at (q .half) img on) on i ≡ false → entry-walk img q on i ≡ nothing
   unfolding entry-walk
   entry-apart e = rw e
 
-  pub entry-leaf : meets q (bytes-at img on) on i ≡ true → on .at .level ≡ 0
-      → {start : ℕ} {pair : Pair} → start ≡ max (q .a) (start-at (bytes-at img on) i) → pair ≡ cursor-below q (bytes-at img on) on i .above
+  pub entry-leaf : meets q (bytes-at (q .half) img on) on i ≡ true → on .at .level ≡ 0
+      → {start : ℕ} {pair : Pair} → start ≡ max (q .a) (start-at (bytes-at (q .half) img on) i)
+      → pair ≡ cursor-below q (bytes-at (q .half) img on) on i .above
       → entry-walk img q on i ≡ one-run start pair
   unfolding entry-walk
   entry-leaf e z s p = rw (e, eq-eqb (on .at .level) 0 z) (ap₂ one-run (sym s) (sym p))
 
-  pub entry-inner : meets q (bytes-at img on) on i ≡ true → 1 ≤ on .at .level → {below : Cursor}
-      → below ≡ cursor-below q (bytes-at img on) on i
+  pub entry-inner : meets q (bytes-at (q .half) img on) on i ≡ true → 1 ≤ on .at .level → {below : Cursor}
+      → below ≡ cursor-below q (bytes-at (q .half) img on) on i
       → entry-walk img q on i ≡ page-walk img q below
   unfolding entry-walk
   entry-inner e l d = rw (e, ne-eqb (on .at .level) 0 (λ z. absurd (omega arith))) (ap (page-walk img q) (sym d))
@@ -69,7 +70,7 @@ module _ (img : List ℕ) (q : SpanQuery) (on : Cursor) (i : ℕ) where
 
 module _ (img : List ℕ) (q : SpanQuery) (on : Cursor) where
   abbrev s : List ℕ
-  s = bytes-at img on
+  s = bytes-at (q .half) img on
 
   -- the pairs above, combined into a walk
   abbrev total : image.Walked → image.Walked
@@ -77,22 +78,23 @@ module _ (img : List ℕ) (q : SpanQuery) (on : Cursor) where
 
   -- the walk from the page under the i-th entry
   abbrev deeper : ℕ → ℕ → image.Walked
-  deeper i l = walk 12 (q .head) img (q .a) (q .b) l (context-below 12 s (on .at) i) (child-at 12 s i)
+  deeper i l = walk (q .half) (q .head) img (q .a) (q .b) l (context-below (q .half) s (on .at) i) (child-at (q .half) s i)
 
   -- what an entry gives, with the pairs above combined into it, is its walk
   module _ (i : ℕ) where
     leaf-met : on .at .level ≡ 0
-        → total (cond (meets q s on i) (leaf-run (q .a) (start-at s i) (pair-at 12 s i)) nothing) ≡ entry-walk img q on i
+        → total (cond (meets q s on i) (leaf-run (q .a) (start-at s i) (pair-at (q .half) s i)) nothing) ≡ entry-walk img q on i
     unfolding entry-walk under leaf-run nothing
     leaf-met e = rw (eq-eqb (on .at .level) 0 e) (go (meets q s on i))
       where
-        go : (t : Bool) → total (cond t (leaf-run (q .a) (start-at s i) (pair-at 12 s i)) nothing)
+        go : (t : Bool) → total (cond t (leaf-run (q .a) (start-at s i) (pair-at (q .half) s i)) nothing)
             ≡ cond t (one-run (max (q .a) (start-at s i)) (cursor-below q s on i .above)) nothing
         go true = refl
         go false = refl
 
     inner-met : (l : ℕ) → on .at .level ≡ suc l
-        → total (cond (meets q s on i) (under (combine (q .head .kind)) (pair-at 12 s i) (deeper i l)) nothing) ≡ entry-walk img q on i
+        → total (cond (meets q s on i) (under (combine (q .head .kind)) (pair-at (q .half) s i) (deeper i l)) nothing)
+        ≡ entry-walk img q on i
     unfolding entry-walk page-walk under nothing context-below
     inner-met l e = rw (ne-eqb (on .at .level) 0 (λ z. absurd (omega arith))) (go (meets q s on i))
       where
@@ -103,22 +105,22 @@ module _ (img : List ℕ) (q : SpanQuery) (on : Cursor) where
         down = omega arith
 
         go : (t : Bool)
-            → total (cond t (under (combine (q .head .kind)) (pair-at 12 s i) (deeper i l)) nothing) ≡
+            → total (cond t (under (combine (q .head .kind)) (pair-at (q .half) s i) (deeper i l)) nothing) ≡
             cond t (page-walk img q below) nothing
         go true =
-            under-under (q .head .kind) (on .above) (pair-at 12 s i) (deeper i l)
+            under-under (q .head .kind) (on .above) (pair-at (q .half) s i) (deeper i l)
             ∙ ap (λ k. under (combine (q .head .kind)) (below .above) (deeper i k)) down
         go false = refl
 
-  pub page-stopped : page-fit 12 (q .head) (on .at) s ≡ false → page-walk img q on ≡ stopped
+  pub page-stopped : page-fit (q .half) (q .head) (on .at) s ≡ false → page-walk img q on ≡ stopped
   unfolding page-walk walk walk-page under stopped
   page-stopped e = go (on .at .level)
     where
-      go : (l : ℕ) → total (walk 12 (q .head) img (q .a) (q .b) l (on .at) (on .page)) ≡ stopped
+      go : (l : ℕ) → total (walk (q .half) (q .head) img (q .a) (q .b) l (on .at) (on .page)) ≡ stopped
       go zero = rw e
       go (suc l) = rw e
 
-  pub page-in-turn : page-fit 12 (q .head) (on .at) s ≡ true → page-walk img q on ≡ in-turn (entry-count s) (entry-walk img q on)
+  pub page-in-turn : page-fit (q .half) (q .head) (on .at) s ≡ true → page-walk img q on ≡ in-turn (entry-count s) (entry-walk img q on)
   unfolding page-walk walk walk-page
   page-in-turn e = go (on .at .level) refl
     where
@@ -127,6 +129,6 @@ module _ (img : List ℕ) (q : SpanQuery) (on : Cursor) where
       turns f h = under-turn (combine (q .head .kind)) (on .above) (entry-count s) f ∙ ap (in-turn (entry-count s)) (λ j i. h i j)
 
       go : (l : ℕ) → on .at .level ≡ l
-          → total (walk 12 (q .head) img (q .a) (q .b) l (on .at) (on .page)) ≡ in-turn (entry-count s) (entry-walk img q on)
+          → total (walk (q .half) (q .head) img (q .a) (q .b) l (on .at) (on .page)) ≡ in-turn (entry-count s) (entry-walk img q on)
       go zero d = rw e (turns _ (λ i. leaf-met i d))
       go (suc l) d = rw e (turns _ (λ i. inner-met i l d))

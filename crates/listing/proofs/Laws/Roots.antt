@@ -36,32 +36,36 @@ unfoldable pub most-runs : ℕ → ℕ
 most-runs zero = 24
 most-runs (suc l) = 24 * most-runs l
 
-page-few : (h : Head) (a b : ℕ) (at : Page-context) (s : List ℕ) (below : ℕ → image.Walked) (m : ℕ) → ((i : ℕ) → length (below i .runs) ≤ m)
-    → length (walk-page 12 h a b at s below .runs) ≤ 24 * m
+page-few : (half : ℕ) → half ≤ 12 → (h : Head) (a b : ℕ) (at : Page-context) (s : List ℕ) (below : ℕ → image.Walked)
+    (m : ℕ) → ((i : ℕ) → length (below i .runs) ≤ m) → length (walk-page half h a b at s below .runs) ≤ 24 * m
 unfolding walk-page stopped nothing
-page-few h a b at s below m few = go (page-fit 12 h at s) refl
+page-few half most h a b at s below m few = go (page-fit half h at s) refl
   where
     found : ℕ → image.Walked
     found i = cond (overlaps a b (start-at s i) (end-at s (at .hi) i)) (below i) nothing
 
-    go : (t : Bool) → page-fit 12 h at s ≡ t → length (cond t (in-turn (entry-count s) found) stopped .runs) ≤ 24 * m
+    few-entries : page-fit half h at s ≡ true → entry-count s ≤ 24
+    few-entries e = omega (arith, page-fit-is half h at s .0 e .most)
+
+    go : (t : Bool) → page-fit half h at s ≡ t → length (cond t (in-turn (entry-count s) found) stopped .runs) ≤ 24 * m
     go true e =
         omega (
           arith,
           turn-le (entry-count s) found (λ _. 1) m
               (λ i. picked-le (overlaps a b (start-at s i) (end-at s (at .hi) i)) (below i) (m * 1) (omega (arith, few i))),
           ap (λ k. m * k) (total-ones (entry-count s) (λ _. 1) (λ i l. refl)),
-          mul-le-mul-left m (page-fit-is 12 h at s .0 e .most),
+          mul-le-mul-left m (few-entries e),
         )
     go false e = omega arith
 
-pub walk-few : (h : Head) (img : List ℕ) (a b l : ℕ) (at : Page-context) (p : ℕ) → length (walk 12 h img a b l at p .runs) ≤ most-runs l
+pub walk-few : (half : ℕ) → half ≤ 12 → (h : Head) (img : List ℕ) (a b l : ℕ) (at : Page-context) (p : ℕ)
+    → length (walk half h img a b l at p .runs) ≤ most-runs l
 unfolding walk most-runs leaf-run
-walk-few h img a b zero at p = page-few h a b at (page-at 12 img p) _ 1 (λ i. omega arith)
-walk-few h img a b (suc l) at p =
-    let s = page-at 12 img p in
-    page-few h a b at s _ (most-runs l)
-    (λ i. rw length-under (walk-few h img a b l (context-below 12 s at i) (child-at 12 s i)))
+walk-few half most h img a b zero at p = page-few half most h a b at (page-at half img p) _ 1 (λ i. omega arith)
+walk-few half most h img a b (suc l) at p =
+    let s = page-at half img p in
+    page-few half most h a b at s _ (most-runs l)
+    (λ i. rw length-under (walk-few half most h img a b l (context-below half s at i) (child-at half s i)))
 
 most-few : (l : ℕ) → l < 4 → most-runs l ≤ 331776
 unfolding most-runs
@@ -73,34 +77,36 @@ most-few (suc (suc (suc (suc l)))) h = absurd (omega arith)
 
 -- ---- from the root is from the root's cursor, with no pair above
 
-pub root-walk : {img : List ℕ} (q : SpanQuery) → Open-image 12 img (q .head)
-    → page-walk img q (root-cursor (q .head)) ≡ walk-over 12 img (q .a) (q .b)
+pub root-walk : {img : List ℕ} (q : SpanQuery) → Open-image (q .half) img (q .head)
+    → page-walk img q (root-cursor (q .head)) ≡ walk-over (q .half) img (q .a) (q .b)
 unfolding page-walk walk-over root-context
 root-walk {img} q h =
     under-none (q .head .kind) _
-    ∙ ap (λ (k : Head). walk 12 k img (q .a) (q .b) (k .height - 1) (root-context k) (k .root)) (h .shown)
+    ∙ ap (λ (k : Head). walk (q .half) k img (q .a) (q .b) (k .height - 1) (root-context k) (k .root)) (h .shown)
 
-pub over-few : {img : List ℕ} {h : Head} (a b : ℕ) → Open-image 12 img h → length (walk-over 12 img a b .runs) ≤ 331776
+pub over-few : {half : ℕ} {img : List ℕ} {h : Head} (a b : ℕ) → half ≤ 12 → Open-image half img h
+    → length (walk-over half img a b .runs) ≤ 331776
 unfolding walk-over
-over-few {img} {h} a b o =
-    let k = head-of (page-at 12 img 0) in
-    let r = fit-ranges 12 (pages-in 12 img) (page-at 12 img 0) (o .fit) in
-    omega (arith, walk-few k img a b (k .height - 1) (root-context k) (k .root), most-few (k .height - 1) (omega (arith, r .height-most)))
+over-few {half} {img} {h} a b most o =
+    let k = head-of (page-at half img 0) in
+    let r = fit-ranges half (pages-in half img) (page-at half img 0) (o .fit) in
+    let l : ℕ = k .height - 1 in
+    omega (arith, walk-few half most k img a b l (root-context k) (k .root), most-few l (omega (arith, r .height-most)))
 
 -- ---- the two passes
 
-module _ {img : List ℕ} {h : Head} (a b : ℕ) (out : List ℕ) (headed : Open-image 12 img h) where
-  pub room-counting : Room false no-run (walk-over 12 img a b) out
+module _ {half : ℕ} {img : List ℕ} {h : Head} (a b : ℕ) (out : List ℕ) (most : half ≤ 12) (headed : Open-image half img h) where
+  pub room-counting : Room false no-run (walk-over half img a b) out
   room-counting =
-      record { few = omega (arith, over-few a b headed); fit = λ e. absurd (false≢true e); room = λ e. absurd (false≢true e) }
+      record { few = omega (arith, over-few a b most headed); fit = λ e. absurd (false≢true e); room = λ e. absurd (false≢true e) }
 
-  pub room-writing : walk-over 12 img a b .fit ≡ true → 16 * length (join (walk-over 12 img a b .runs)) ≤ length out
-      → Room true no-run (walk-over 12 img a b) out
+  pub room-writing : walk-over half img a b .fit ≡ true → 16 * length (join (walk-over half img a b .runs)) ≤ length out
+      → Room true no-run (walk-over half img a b) out
   room-writing fit room =
       record {
-        few = omega (arith, over-few a b headed);
+        few = omega (arith, over-few a b most headed);
         fit = λ _. fit;
-        room = λ _. omega (arith, written-join (walk-over 12 img a b .runs));
+        room = λ _. omega (arith, written-join (walk-over half img a b .runs));
       }
 
 module _ (w : image.Walked) where

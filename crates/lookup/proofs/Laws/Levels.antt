@@ -8,7 +8,7 @@ use lib.ListN.{length}
 use Rattle.rule.specs.declared.Pair.{Pair}
 use Rattle.page.specs.declared.Head.{Head}
 use Rattle.page.specs.Entries.{index-of}
-use Rattle.page.specs.Layout.{entry-count, pair-at, child-at, entries-of}
+use Rattle.page.specs.Layout.{page-size, entry-count, pair-at, child-at, entries-of}
 use Rattle.page.specs.Fit.{Page-context, page-fit}
 use Rattle.fit.proofs.Laws.Pages.{PageFit, page-fit-is, entry-first}
 use Rattle.lookup.specs.declared.LevelAnswer.{LevelAnswer}
@@ -69,11 +69,13 @@ module _ (half : ℕ) (h : Head) (at : Page-context) (t : ℕ) (s : List ℕ) wh
           absurd (omega arith)
 
 -- a fit page can be searched for an instant that isn't before it
-pub fit-searched : {h : Head} {at : Page-context} {s : List ℕ} {n t : ℕ} → PageFit 12 h at s → length s ≡ 512 → n ≡ entry-count s
-    → at .lo ≤ t → Page-searchable s n t
-fit-searched {n} fit size e l =
+pub fit-searched : {half : ℕ} {h : Head} {at : Page-context} {s : List ℕ} {n t : ℕ} → PageFit half h at s → 1 ≤ half
+    → length s ≡ page-size half → n ≡ entry-count s → at .lo ≤ t → Page-searchable s n t
+fit-searched fit some size e l =
     record {
-      compared = record { size = size; len = e; some = omega (arith, entry-first fit (omega arith)); most = omega (arith, fit .most) };
+      len = e;
+      some = omega (arith, entry-first fit some);
+      inside = omega (arith, fit .most);
       rising = λ i a. fit .rising i (omega arith);
       first = omega (arith, fit .first);
     }

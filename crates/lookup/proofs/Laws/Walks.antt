@@ -10,7 +10,7 @@ use Rattle.rule.specs.Pairs.{none, combine, Lawful}
 use Rattle.rule.specs.Bounds.{Combinable}
 use Rattle.rule.proofs.Laws.{lawful}
 use Rattle.page.specs.declared.Head.{Head}
-use Rattle.page.specs.Layout.{entry-count}
+use Rattle.page.specs.Layout.{capacity, entry-count}
 use Rattle.page.specs.Fit.{Page-context, root-context, context-below, page-fit}
 use Rattle.fit.specs.Paths.{Path}
 use Rattle.fit.proofs.Laws.Paths.{root-path, path-bounded, below-path}
@@ -68,15 +68,15 @@ gone-stopped comb acc n = refl
 
 -- On the path to t, before page p is read in its context: acc combines the pairs of the n pages above, and with what is found from here on
 -- it is the answer.
-pub record Walk (img : List ℕ) (h : Head) (t : ℕ) (at : Page-context) (p : ℕ) (acc : Pair) (n : ℕ) : Type 0 where
+pub record Walk (half : ℕ) (img : List ℕ) (h : Head) (t : ℕ) (at : Page-context) (p : ℕ) (acc : Pair) (n : ℕ) : Type 0 where
   pub path : Path h n at
   pub here : p < h .pages
   pub begun : at .lo ≤ t
   pub carried : Carried h at acc
-  pub answer : gone (combine (h .kind)) acc n (look 12 h img t (at .level) at p) ≡ look-up 12 img t
+  pub answer : gone (combine (h .kind)) acc n (look half h img t (at .level) at p) ≡ look-up half img t
 
-module _ {img : List ℕ} {h : Head} (o : Open-image 12 img h) where
-  pub walk-root : (t : ℕ) → Walk img h t (root-context h) (h .root) none 0
+module _ {half : ℕ} {img : List ℕ} {h : Head} (some : 1 ≤ half) (o : Open-image half img h) where
+  pub walk-root : (t : ℕ) → Walk half img h t (root-context h) (h .root) none 0
   unfolding look-up root-context
   walk-root t =
       let r = opened-ranges o in
@@ -85,49 +85,51 @@ module _ {img : List ℕ} {h : Head} (o : Open-image 12 img h) where
         here = omega (arith, r .root-below, r .pages-is);
         begun = omega arith;
         carried = carried-none h (root-context h);
-        answer = gone-none (lawful (h .kind)) _ (look-none 12 h img t _ _ _)
-            ∙ ap (λ k. look 12 k img t (k .height - 1) (root-context k) (k .root)) (o .shown);
+        answer = gone-none (lawful (h .kind)) _ (look-none half h img t _ _ _)
+            ∙ ap (λ k. look half k img t (k .height - 1) (root-context k) (k .root)) (o .shown);
       }
 
-  module _ {t : ℕ} {at : Page-context} {p : ℕ} {acc : Pair} {n : ℕ} (w : Walk img h t at p acc n) where
-    pub walk-within : Page-in 12 img p
+  module _ {t : ℕ} {at : Page-context} {p : ℕ} {acc : Pair} {n : ℕ} (w : Walk half img h t at p acc n) where
+    pub walk-within : Page-in half img p
     walk-within = opened-within o p (w .here)
 
     pub walk-met : On-path at t
     walk-met = record { begun = w .begun; bounded = path-bounded (w .path) (opened-ranges o .changes-most) }
 
-    pub walk-unfit : page-fit 12 h at (page-at 12 img p) ≡ false → lookup-of (Unfit (n + 1)) ≡ look-up 12 img t
+    pub walk-unfit : page-fit half h at (page-at half img p) ≡ false → lookup-of (Unfit (n + 1)) ≡ look-up half img t
     walk-unfit e =
         sym (gone-stopped (combine (h .kind)) acc n)
-        ∙ ap (gone (combine (h .kind)) acc n) (sym (look-unfit 12 h img t at p (at .level) e)) ∙ w .answer
+        ∙ ap (gone (combine (h .kind)) acc n) (sym (look-unfit half h img t at p (at .level) e)) ∙ w .answer
 
-    module _ {pair : Pair} {child i : ℕ} (f : Found 12 h at t (page-at 12 img p) pair child i) where
-      pub walk-number : (i < 24) × (entry-count (page-at 12 img p) ≤ 24)
+    module _ {pair : Pair} {child i : ℕ} (f : Found half h at t (page-at half img p) pair child i) where
+      pub walk-number : (i < capacity half) × (entry-count (page-at half img p) ≤ capacity half)
       walk-number = omega (arith, found-in f (omega arith), found-fit f .most)
 
       pub walk-combinable : Combinable acc pair
       walk-combinable =
           rw (f .pairs) (carried-combinable (w .carried) (found-fit f .pairs i (found-in f (omega arith))) (opened-ranges o .changes-most))
 
-      pub walk-leaf : at .level ≡ 0 → lookup-of (Answered (combine (h .kind) acc pair) (n + 1)) ≡ look-up 12 img t
+      pub walk-leaf : at .level ≡ 0 → lookup-of (Answered (combine (h .kind) acc pair) (n + 1)) ≡ look-up half img t
       walk-leaf e =
           let c = combine (h .kind) in
           sym (gone-leaf c acc pair n)
-          ∙ ap (gone c acc n) (sym (ap (λ l. look 12 h img t l at p) e ∙ look-leaf 12 h img t at p f)) ∙ w .answer
+          ∙ ap (gone c acc n) (sym (ap (λ l. look half h img t l at p) e ∙ look-leaf half h img t at p f)) ∙ w .answer
 
-      pub walk-below : 1 ≤ at .level → Walk img h t (context-below 12 (page-at 12 img p) at i) child (combine (h .kind) acc pair) (n + 1)
+      pub walk-below : 1 ≤ at .level
+          → Walk half img h t (context-below half (page-at half img p) at i) child (combine (h .kind) acc pair) (n + 1)
       unfolding context-below
       walk-below v =
           let c = combine (h .kind) in
-          let s = page-at 12 img p in
+          let s = page-at half img p in
           let fit = found-fit f in
           let m = found-in f (omega arith) in
           let l : at .level ≡ suc (at .level - 1) = omega arith in
           record {
             path = below-path (w .path) fit (omega arith) i m v;
             here = rw (f .children) (fit .children i m .inner v .1);
-            begun = rw (f .here) (index-started 12 s t (fit .most) (omega (arith, fit .first, w .begun)));
-            carried = rw (f .pairs) (carried-below (under-below 12 s at i) (w .carried) (fit .pairs i m));
+            begun = rw (f .here) (index-started half s t (fit .most) (omega (arith, fit .first, w .begun)));
+            carried = rw (f .pairs) (carried-below (under-below half s at i) (w .carried) (fit .pairs i m));
             answer = sym (gone-above (lawful (h .kind)) acc pair n _)
-                ∙ ap (gone c acc n) (sym (ap (λ k. look 12 h img t k at p) l ∙ look-inner 12 h img t at p f (at .level - 1))) ∙ w .answer;
+                ∙ ap (gone c acc n) (sym (ap (λ k. look half h img t k at p) l ∙ look-inner half h img t at p f (at .level - 1)))
+                ∙ w .answer;
           }

@@ -1,9 +1,10 @@
 -- `audit::free::leads_to_free` meets its contract: at each exit a part fails, and those before it passed. Assumes nothing.
 use mathlib.Core.Path.{ap, _∙_}
-use borrow.Author.Needs.{needs}
+use native.Mathlib.Omega.{arith}
 use borrow.Author.Tests.{le-leb, lt-leb, lt-ltb, le-ltb}
 use lib.ListN.{length}
 use Rattle.page.specs.Layout.{free-ok}
+use Rattle.page.proofs.Laws.Offsets.{page-within}
 use Rattle.fit.proofs.Tests.{passes, fails}
 use Rattle.access.specs.Access.{Page-in}
 use Rattle.access.proofs.Laws.{page-length}
@@ -11,8 +12,8 @@ use Rattle.audit.specs.Walks.{leads-to-free}
 use Rattle.audit.proofs.free.leads_to_free.Statement.{statement}
 use Rattle.audit.proofs.free.leads_to_free.Tie as tie
 
-within : (c : tie.Else2) → Page-in 12 (c .before .before .before .args .img .now) (c .before .before .before .args .p)
-within c = search needs
+within : (c : tie.Else2) → let args = c .before .before .before .args in Page-in (args .half) (args .img .now) (args .p)
+within c = omega (arith, page-within (c .before .before .before .args .half) (c .if2 .left))
 
 returns : tie.Need-returns
 unfolding leads-to-free
@@ -27,10 +28,10 @@ unfolding leads-to-free
 returns-3 c =
     let at = c .before .before in
     passes (le-leb _ _ (at .before .if1 .left))
-    (passes (lt-ltb _ _ (at .if2 .left)) (c .free-ok .ensures ∙ ap (free-ok 12) (c .before .page-at .ensures)))
+    (passes (lt-ltb _ _ (at .if2 .left)) (c .free-ok .ensures ∙ ap (free-ok _) (c .before .page-at .ensures)))
 
 pub leads-to-free-spec : {M : Type 1} → statement M
 leads-to-free-spec =
     tie.close
     (tie.spec returns returns-2 (λ c κs. within c)
-    (λ c κs. ap length (c .page-at .ensures) ∙ page-length 12 _ _ (within (c .before))) returns-3)
+    (λ c κs. ap length (c .page-at .ensures) ∙ page-length _ _ _ (within (c .before))) returns-3)

@@ -6,7 +6,7 @@ use borrow.Author.Needs.{needs}
 use borrow.Author.Tests.{not-true, not-false}
 use Rattle.access.specs.Access.{Open-image}
 use Rattle.access.proofs.Laws.{opened, shut, opened-ranges, opened-size}
-use Rattle.audit.proofs.Verdicts.{Walked, unsound-head, root-standing, root-walked, unsound-tree, unsound-count, sound-rest}
+use Rattle.audit.proofs.Verdicts.{Walked, unsound-head, unsound-tree, unsound-count, sound-rest}
 use Rattle.audit.proofs.verdict.sound.Statement.{statement}
 use Rattle.audit.proofs.verdict.sound.Tie as tie
 
@@ -14,29 +14,31 @@ abbrev start : tie.After-open-head → tie.Start
 start c = c .before .before
 
 -- the places where the head was read, the tree counted, and the count known
-abbrev read-of : tie.After-audit-page → tie.After-h
-read-of c = c .before .before .before
+abbrev read-of : tie.After-audit-root → tie.After-h
+read-of c = c .before .before
 
-abbrev counted : tie.After-tree → tie.After-audit-page
+abbrev counted : tie.After-tree → tie.After-audit-root
 counted c = c .before .before
 
 abbrev told : tie.After-adds-up → tie.After-tree
 told c = c .before .before
 
 -- what the code has found so far, in the definitions' words
-headed : (c : tie.After-h) → Open-image 12 (start (c .before .before) .args .img .now) (c .h .given .0 .0)
+headed : (c : tie.After-h)
+    → let args = start (c .before .before) .args in Open-image (args .half) (args .img .now) (c .h .given .0 .0)
 headed c =
     let read = c .before .before in
-    opened 12 _ (start read .pre) (sym (c .h .given .1) ∙ read .open-head .ensures)
+    opened _ _ (start read .pre .2) (sym (c .h .given .1) ∙ read .open-head .ensures)
 
-walked : (c : tie.After-audit-page)
-    → Walked (start (read-of c .before .before) .args .img .now) (read-of c .h .given .0 .0) (c .audit-page .result)
-walked c = root-walked (headed (read-of c)) (c .before .root-context .ensures) (c .audit-page .ensures)
+walked : (c : tie.After-audit-root)
+    → let args = start (read-of c .before .before) .args in
+    Walked (args .half) (args .img .now) (read-of c .h .given .0 .0) (c .audit-root .result)
+walked c = record { opened = headed (read-of c); answer = c .audit-root .ensures }
 
 returns : tie.Need-returns
 returns c =
     let read = c .before .before in
-    unsound-head _ (start read .pre) (shut 12 _ (sym (c .enum-told .given .1) ∙ read .open-head .ensures))
+    unsound-head _ _ (start read .pre .2) (shut _ _ (sym (c .enum-told .given .1) ∙ read .open-head .ensures))
 
 returns-3 : tie.Need-returns-3
 returns-3 c =
@@ -56,8 +58,7 @@ pub sound-spec : {M : Type 1} → statement M
 sound-spec =
     tie.close
     (tie.spec (λ c κs. search needs) (λ c. search needs) (λ c. search needs) returns
-    (λ c κs. opened-ranges (headed (c .before)) .height-least)
-    (λ c κs. rw (c .root-context .ensures) (root-standing (headed (c .before .before))))
+    (λ c κs. let pre = start (c .before .before .before) .pre in (pre .0, pre .1, headed (c .before)))
     (λ c. search needs) (λ c. search needs)
     (λ c. unsound-tree (walked (c .before .before)) (c .enum-told2 .given .1))
     (λ c κs. omega (arith, opened-ranges (walked (counted (c .before)) .opened) .mark-least))

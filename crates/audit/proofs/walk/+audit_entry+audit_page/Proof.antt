@@ -9,9 +9,9 @@ use borrow.Fn.Kinds.{In}
 use borrow.Fn.PlainCycle.{Measures, is, falls, and}
 use Rattle.page.specs.Layout.{entry-count}
 use Rattle.page.specs.Fit.{page-fit}
-use Rattle.audit.proofs.Walks.{standing-within, standing-size, standing-bounded, entry-reads, below-level, below-counted}
-use Rattle.audit.proofs.Walks.{below-standing, page-unfit, leaf-counted, tested, Passing, passing-none, passing-inner, passing-more}
-use Rattle.audit.proofs.Walks.{passing-stops, passing-most, passing-all}
+use Rattle.audit.proofs.Walks.{standing-within, standing-size, standing-bounded, entry-reads, Entered, entered, page-unfit}
+use Rattle.audit.proofs.Walks.{leaf-counted, tested, Passing, passing-none, passing-inner, passing-more, passing-stops}
+use Rattle.audit.proofs.Walks.{passing-most, passing-all}
 use Rattle.audit.proofs.walk.audit_entry.Reads as audit-entry
 use Rattle.audit.proofs.walk.audit_entry.Kinds as audit-entry-kinds
 use Rattle.audit.proofs.walk.+audit_entry+audit_page.Lts-audit_entry as audit-entry-lts
@@ -27,10 +27,10 @@ use Rattle.audit.proofs.walk.+audit_entry+audit_page.{statement}
 use Rattle.audit.proofs.walk.+audit_entry+audit_page.Tie.{close}
 
 abbrev μ-audit-entry : Measures 1 audit-entry-kinds.ps ℕ
-μ-audit-entry κs a = 2 * a .1 .1 .0 .level
+μ-audit-entry κs a = 2 * a .1 .1 .1 .0 .level
 
 abbrev μ-audit-page : Measures 1 audit-page-kinds.ps ℕ
-μ-audit-page κs a = 2 * a .1 .1 .0 .level + 1
+μ-audit-page κs a = 2 * a .1 .1 .1 .0 .level + 1
 
 -- what each is given at the measure t, and what a call of it asks below t
 abbrev audit-entry-at : ℕ → In 1 audit-entry-kinds.ps
@@ -45,18 +45,35 @@ audit-page-at t = and 1 audit-page-kinds.ps (is 1 audit-page-kinds.ps μ-audit-p
 abbrev audit-page-below : ℕ → In 1 audit-page-kinds.ps
 audit-page-below t = and 1 audit-page-kinds.ps (falls 1 audit-page-kinds.ps _<_ μ-audit-page t) audit-page.Pre
 
+-- the page below an entry, as the code has it
+found : (t : ℕ) (c : audit-entry-lts.After-child-at (
+  page-at-reads.Asked,
+  page-at-reads.Learnt,
+  context-below-reads.Asked,
+  context-below-reads.Learnt,
+  child-at-reads.Asked,
+  child-at-reads.Learnt,
+  page-fit-reads.Asked,
+  page-fit-reads.Learnt,
+  audit-page-below t,
+  audit-page.Post,
+) (audit-entry-at t) audit-entry.Post) → let a = c .before .before .before .before .args in
+    Entered (a .half) (a .img .now) (a .h) (a .at) (a .p) (a .i) (c .before .context-below .result) (c .child-at .result)
+found t c =
+    let b = c .before in
+    let w = b .before .before .before .pre .1 in
+    entered (w .0) (w .1) (b .before .page-at .ensures) (b .context-below .ensures) (c .child-at .ensures)
+
 abbrev Inv-loop : audit-page-lts.InvT-loop
-Inv-loop img h at p pages₀ n i₀ pages i = Passing img h at p n pages i
+Inv-loop half img h at p pages₀ n i₀ pages i = Passing half img h at p n pages i
 
 abbrev μ-loop : audit-page-lts.MeasureT-loop
-μ-loop img h at p pages₀ n i₀ pages i = n - i
+μ-loop half img h at p pages₀ n i₀ pages i = n - i
 
 -- an entry more
 more : (t : ℕ) → audit-page-lts.Need-loop-again (
   page-at-reads.Asked,
   page-at-reads.Learnt,
-  page-fit-reads.Asked,
-  page-fit-reads.Learnt,
   entry-count-reads.Asked,
   entry-count-reads.Learnt,
   audit-entry-below t,
@@ -78,6 +95,8 @@ pub +audit-entry+audit-page-spec : {M : Type 1} → statement M
       context-below-reads.Learnt,
       child-at-reads.Asked,
       child-at-reads.Learnt,
+      page-fit-reads.Asked,
+      page-fit-reads.Learnt,
       audit-page-below t,
       audit-page.Post,
     ) (audit-entry-at t) audit-entry.Post
@@ -90,68 +109,64 @@ pub +audit-entry+audit-page-spec : {M : Type 1} → statement M
     (λ c κs.
     let w = c .before .before .before .pre .1 in
     (standing-size (w .0) (c .before .page-at .ensures), omega (arith, entry-reads (w .0) (w .1) (c .before .page-at .ensures))))
+    (λ c κs. standing-within (found t c .standing))
     (λ c κs.
-    let b = c .before in
-    let start = b .before .before .before in
-    let w = start .pre .1 in
-    let d = b .before .page-at .ensures in (
-      omega (arith, start .pre .0, w .1 .level, below-level (w .0) (w .1) d (b .context-below .ensures) (c .child-at .ensures)),
-      below-standing (w .0) (w .1) d (b .context-below .ensures) (c .child-at .ensures),
-    ))
+    let w = found t (c .before) .standing in
+    ((w .half-least, standing-size w (c .page-at2 .ensures)), standing-bounded w))
     (λ c.
-    let b = c .before .before in
-    let w = b .before .before .before .pre .1 in
-    c .audit-page .ensures
-    ∙ below-counted (w .0) (w .1) (b .before .page-at .ensures) (b .context-below .ensures) (c .before .child-at .ensures)))
+    let fit = c .before in
+    page-unfit _ _ _ _ _ (tested _ _ _ _ _ (fit .before .page-at2 .ensures) (fit .page-fit .ensures) (not-true _ (c .if1 .taken)))
+    ∙ found t (fit .before .before) .counted)
+    (λ c.
+    let tested-fit = c .before .before in
+    let fit = tested-fit .before in
+    leaf-counted _ _ _ _ _ (c .if2 .taken)
+    (tested _ _ _ _ _ (fit .before .page-at2 .ensures) (fit .page-fit .ensures) (not-false _ (tested-fit .if1 .left)))
+    ∙ found t (fit .before .before) .counted)
+    (λ c κs.
+    let tested-fit = c .before .before in
+    let fit = tested-fit .before in
+    let child = fit .before .before in
+    let start = child .before .before .before .before in
+    let b = found t child in (
+      omega (arith, start .pre .0, start .pre .1 .1 .level, b .level),
+      (b .standing, tested _ _ _ _ _ (fit .before .page-at2 .ensures) (fit .page-fit .ensures) (not-false _ (tested-fit .if1 .left))),
+    ))
+    (λ c. let fit = c .before .before .before .before in c .audit-page .ensures ∙ found t (fit .before .before) .counted))
     (λ t.
     audit-page-lts.spec (
       page-at-reads.Asked,
       page-at-reads.Learnt,
-      page-fit-reads.Asked,
-      page-fit-reads.Learnt,
       entry-count-reads.Asked,
       entry-count-reads.Learnt,
       audit-entry-below t,
       audit-entry.Post,
     ) (audit-page-at t) audit-page.Post Inv-loop μ-loop
-    (λ c κs. standing-within (c .before .pre .1))
-    (λ c κs.
-    let w = c .before .before .pre .1 in
-    ((omega arith, standing-size w (c .page-at .ensures)), standing-bounded w))
     (λ c.
-    let fit = c .before in
-    let args = fit .before .before .before .args in
-    page-unfit 12 (args .h) (args .img .now) (args .at) (args .p)
-    (tested 12 _ _ _ _ (fit .before .page-at .ensures) (fit .page-fit .ensures) (not-true _ (c .if1 .taken))))
-    (λ c.
-    let fit = c .before .before .before in
-    let args = fit .before .before .before .args in
-    leaf-counted 12 (args .h) (args .img .now) (args .at) (args .p) (c .if2 .taken)
-    (tested 12 _ _ _ _ (fit .before .page-at .ensures) (fit .page-fit .ensures) (not-false _ (c .before .before .if1 .left))))
+    let start = c .before .before .before in
+    leaf-counted _ _ _ _ _ (c .if1 .taken) (start .pre .1 .1))
+    (λ c κs. let start = c .before .before .before in standing-within (start .pre .1 .0))
     (λ c κs.
-    let fit = c .before .before .before in
-    let lend = fit .before in
-    omega (arith, standing-size (lend .before .before .pre .1) (lend .page-at .ensures)))
+    let start = c .before .before .before .before in
+    omega (arith, standing-size (start .pre .1 .0) (c .page-at .ensures)))
     (λ c. search needs)
     (λ c.
-    let inner = c .before in
-    let fit = inner .before .before .before in
-    let d = fit .before .page-at .ensures in
-    passing-none (fit .before .before .before .pre .1) (omega (arith, inner .if2 .left))
-    (tested 12 _ _ _ _ d (fit .page-fit .ensures) (not-false _ (inner .before .before .if1 .left)))
-    (c .entry-count .ensures ∙ ap entry-count d))
+    let lend = c .before in
+    let inner = lend .before in
+    let start = inner .before .before .before in
+    passing-none (start .pre .1 .0) (omega (arith, inner .if1 .left)) (start .pre .1 .1)
+    (c .entry-count .ensures ∙ ap entry-count (lend .page-at .ensures)))
     (λ c κs.
     let inv = c .before .loop .inv in
-    let inner = c .before .before .before in
-    let fit = inner .before .before .before in
-    let start = fit .before .before .before in
+    let lend = c .before .before .before in
+    let start = lend .before .before .before .before in
     (omega (arith, start .pre .0), (inv .standing, passing-inner inv (c .loop-test .taken))))
     (λ c. search needs) (λ c. search needs)
     (λ c.
     let called = c .before .before in
     passing-stops (called .before .before .loop .inv) (called .before .loop-test .taken) (called .audit-entry .ensures)
     (c .enum-told .given .1))
-    (λ c. omega (arith, more t c .most, more t c .within, passing-most (more t c)))
+    (λ c. omega (arith, more t c .most, more t c .within, passing-most (more t c), more t c .standing .half-most))
     (λ c. omega arith) (λ c. omega arith)
     (more t)
     (λ c. passing-all (c .before .loop .inv) (c .loop-test .left)))

@@ -93,7 +93,7 @@ pub check-state-spec : {M : Type 1} → statement M
 check-state-spec =
     tie.close
     (tie.spec
-    (λ c κs. c .before .pre .0)
+    (λ c κs. (omega arith, omega arith, c .before .pre .0))
     returns
     (λ c κs. within c)
     (λ c κs. omega (arith, ap length (c .page-at .ensures) ∙ page-length 12 _ 0 (within (c .before))))

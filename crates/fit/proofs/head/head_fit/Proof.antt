@@ -19,4 +19,6 @@ returns c =
     (c .all-ff .ensures ∙ ap (λ k. all-are 255 (part (args .s .now) 36 (k - 36))) (sized .page-size .ensures))
 
 pub head-fit-spec : {M : Type 1} → statement M
-head-fit-spec = tie.close (tie.spec (λ c κs. search needs) (λ c κs. search needs) (λ c κs. search needs) (λ c. search needs) (λ c κs. search needs) returns)
+head-fit-spec =
+    tie.close
+    (tie.spec (λ c κs. search needs) (λ c κs. search needs) (λ c κs. search needs) (λ c. search needs) (λ c κs. search needs) returns)

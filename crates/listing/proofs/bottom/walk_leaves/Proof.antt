@@ -24,7 +24,9 @@ abbrev loop-of : tie.Then1 Inv-loop μ-loop → tie.At-loop Inv-loop μ-loop
 loop-of c = c .before .before
 
 loop-holds : tie.Need-loop-holds Inv-loop μ-loop
-loop-holds c = turning-none (leaves-ranged (start c .pre .1 .0) (c .leaf-range .ensures)) (start c .pre .1 .1 .1)
+loop-holds c =
+    let pre = start c .pre in
+    turning-none (leaves-ranged (pre .1 .0) (c .leaf-range .ensures) (pre .0 .half-most)) (pre .1 .1 .1)
 
 leaf-cursor-requires : tie.Need-leaf-cursor-requires Inv-loop μ-loop
 leaf-cursor-requires c κs =

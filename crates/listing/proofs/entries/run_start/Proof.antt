@@ -3,7 +3,7 @@ use mathlib.Core.Path.{ap, _∙_}
 use Prim.Native.Nat.{max}
 use native.Mathlib.Omega.{arith}
 use borrow.Author.Needs.{needs}
-use Rattle.listing.proofs.Laws.Stands.{lent}
+use Rattle.listing.proofs.Laws.Stands.{page-within, lent}
 use Rattle.listing.proofs.entries.run_start.Statement.{statement}
 use Rattle.listing.proofs.entries.run_start.Tie as tie
 
@@ -18,4 +18,4 @@ returns c =
     rw (← (lend .page-at .ensures)) (c .later .ensures ∙ ap (max (lend .before .before .args .q .a)) (c .before .start-at .ensures))
 
 pub run-start-spec : {M : Type 1} → statement M
-run-start-spec = tie.close (tie.spec (λ c κs. search needs) start-at-requires (λ c κs. search needs) returns)
+run-start-spec = tie.close (tie.spec (λ c κs. page-within (c .before .pre .0)) start-at-requires (λ c κs. search needs) returns)

@@ -1,12 +1,11 @@
 -- `listing::entries::total_at` meets its contract: under fit pages, pairs can be combined. Assumes nothing.
 use mathlib.Core.Path.{_≡_, ap, _∙_, subst⁻¹}
 use native.Mathlib.Omega.{arith}
-use borrow.Author.Needs.{needs}
 use Rattle.rule.specs.Pairs.{combine}
 use Rattle.rule.specs.Bounds.{Combinable}
 use Rattle.page.specs.Layout.{pair-at}
 use Rattle.listing.specs.Walks.{bytes-at}
-use Rattle.listing.proofs.Laws.Stands.{fit-facts, combinable, lent}
+use Rattle.listing.proofs.Laws.Stands.{page-within, fit-facts, combinable, lent}
 use Rattle.listing.proofs.entries.total_at.Statement.{statement}
 use Rattle.listing.proofs.entries.total_at.Tie as tie
 
@@ -17,8 +16,10 @@ abbrev start : tie.After-pair-at → tie.Start
 start c = lend c .before .before .before
 
 -- the pair read is the page's
-read : (c : tie.After-pair-at) → c .pair-at .result ≡ pair-at 12 (bytes-at (start c .args .img .now) (start c .args .on)) (start c .args .i)
-read c = c .pair-at .ensures ∙ ap (λ s. pair-at 12 s (start c .args .i)) (c .before .page-at .ensures)
+read : (c : tie.After-pair-at)
+    → let args = start c .args in
+    c .pair-at .result ≡ pair-at (args .q .half) (bytes-at (args .q .half) (args .img .now) (args .on)) (args .i)
+read c = c .pair-at .ensures ∙ ap (λ s. pair-at (start c .args .q .half) s (start c .args .i)) (c .before .page-at .ensures)
 
 pair-at-requires : tie.Need-pair-at-requires
 pair-at-requires c κs =
@@ -37,4 +38,4 @@ returns c =
     c .combine .ensures ∙ ap (combine (args .q .head .kind) (args .on .above)) (read (c .before))
 
 pub total-at-spec : {M : Type 1} → statement M
-total-at-spec = tie.close (tie.spec (λ c κs. search needs) pair-at-requires combine-requires returns)
+total-at-spec = tie.close (tie.spec (λ c κs. page-within (c .before .before .pre .0)) pair-at-requires combine-requires returns)

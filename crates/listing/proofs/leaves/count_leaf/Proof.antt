@@ -20,7 +20,7 @@ abbrev μ-loop : tie.MeasureT-loop
 loop-holds : tie.Need-loop-holds Inv-loop μ-loop
 loop-holds c =
     let pre = c .before .before .pre in
-    turning-none (entries-ranged _ _ _ (pre .1 .0) (c .entries-met .ensures)) (pre .1 .1 .1)
+    turning-none (entries-ranged _ _ _ (pre .0 .half-most) (pre .1 .0) (c .entries-met .ensures)) (pre .1 .1 .1)
 
 count-entry-requires : tie.Need-count-entry-requires Inv-loop μ-loop
 count-entry-requires c κs =

@@ -19,7 +19,9 @@ abbrev start : tie.After-entries-met Inv-loop μ-loop → tie.Start Inv-loop μ-
 start c = c .before .before .before
 
 loop-holds : tie.Need-loop-holds Inv-loop μ-loop
-loop-holds c = turning-none (entries-ranged _ _ _ (start c .pre .1 .0) (c .entries-met .ensures)) (start c .pre .1 .1 .1)
+loop-holds c =
+    let pre = start c .pre in
+    turning-none (entries-ranged _ _ _ (pre .0 .half-most) (pre .1 .0) (c .entries-met .ensures)) (pre .1 .1 .1)
 
 write-entry-requires : tie.Need-write-entry-requires Inv-loop μ-loop
 write-entry-requires c κs =

@@ -3,18 +3,19 @@ use mathlib.Core.Path.{_≡_, ap, _∙_}
 use lib.ListN.{length}
 use native.Mathlib.Omega.{arith}
 use borrow.Author.Needs.{needs}
+use Rattle.page.specs.Layout.{page-size}
 use Rattle.listing.specs.Walks.{page-check}
-use Rattle.listing.proofs.Laws.Stands.{page-length, sits-bounded}
+use Rattle.listing.proofs.Laws.Stands.{page-within, page-length, sits-bounded}
 use Rattle.listing.proofs.pages.check_page.Statement.{statement}
 use Rattle.listing.proofs.pages.check_page.Tie as tie
 
-size : (c : tie.After-page-at) → length (c .page-at .result .now) ≡ 512
+size : (c : tie.After-page-at) → length (c .page-at .result .now) ≡ page-size (c .before .before .args .q .half)
 size c = ap length (c .page-at .ensures) ∙ page-length (c .before .before .pre .0)
 
 found-fit-requires : tie.Need-found-fit-requires
 found-fit-requires c κs =
     let pre = c .before .before .pre in
-    (size c, (sits-bounded (pre .0), λ w. rw (c .page-at .ensures) (pre .1 .known w)))
+    ((pre .0 .half-least, size c), (sits-bounded (pre .0), λ w. rw (c .page-at .ensures) (pre .1 .known w)))
 
 returns : tie.Need-returns
 unfolding page-check
@@ -29,4 +30,8 @@ returns-2 c = rw (← (c .before .before .page-at .ensures), ← (c .before .fou
 pub check-page-spec : {M : Type 1} → statement M
 check-page-spec =
     tie.close
-    (tie.spec (λ c κs. search needs) found-fit-requires (λ c κs. omega (arith, size (c .before .before))) (λ c. search needs) returns returns-2)
+    (tie.spec
+    (λ c κs. page-within (c .before .pre .0))
+    found-fit-requires
+    (λ c κs. omega (arith, size (c .before .before)))
+    (λ c. search needs) returns returns-2)

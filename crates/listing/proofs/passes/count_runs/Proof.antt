@@ -8,7 +8,7 @@ use Rattle.listing.proofs.passes.count_runs.Tie as tie
 walk-root-requires : tie.Need-walk-root-requires
 walk-root-requires c κs =
     let start = c .before .before in
-    (start .pre, room-counting (start .args .a) (start .args .b) _ (start .pre))
+    (start .pre, room-counting (start .args .a) (start .args .b) _ (start .pre .1) (start .pre .2))
 
 returns : tie.Need-returns
 returns c = count-unfit _ (sym (c .enum-told .given .1) ∙ c .before .before .before .walk-root .ensures .answers)

@@ -24,12 +24,14 @@ is-root : (c : tie.After-root-context) → on c ≡ root-cursor (start c .args .
 is-root c = λ j. record { at = c .root-context .ensures j; page = start c .args .q .head .root; above = none }
 
 stands : (c : tie.After-root-context) → Valid-cursor (start c .args .img .now) (start c .args .q) (on c)
-stands c = subst⁻¹ (Valid-cursor _ _) (is-root c) (sits-root (start c .args .q) (start c .pre .0))
+stands c =
+    let pre = start c .pre .0 in
+    subst⁻¹ (Valid-cursor _ _) (is-root c) (sits-root (start c .args .q) (pre .0) (pre .1) (pre .2))
 
 whole : (c : tie.After-root-context)
     → page-walk (start c .args .img .now) (start c .args .q) (on c) ≡
-    walk-over 12 (start c .args .img .now) (start c .args .q .a) (start c .args .q .b)
-whole c = ap (page-walk _ _) (is-root c) ∙ root-walk (start c .args .q) (start c .pre .0)
+    walk-over (start c .args .q .half) (start c .args .img .now) (start c .args .q .a) (start c .args .q .b)
+whole c = ap (page-walk _ _) (is-root c) ∙ root-walk (start c .args .q) (start c .pre .0 .2)
 
 room : (c : tie.After-root-context)
     → Room (start c .args .q .writing) no-run (page-walk (start c .args .img .now) (start c .args .q) (on c)) (start c .args .out .now)
@@ -56,7 +58,7 @@ returns-2 c =
 pub walk-root-spec : {M : Type 1} → statement M
 walk-root-spec =
     tie.close
-    (tie.spec (λ c κs. opened-ranges (c .before .before .pre .0) .height-least)
+    (tie.spec (λ c κs. opened-ranges (c .before .before .pre .0 .2) .height-least)
     (λ c κs. (stands c, room-known _ _ _ (room c)))
     (λ c. search needs) (λ c. search needs)
     returns walk-page-requires

@@ -11,7 +11,7 @@ start c = c .before .before .before
 walk-root-requires : tie.Need-walk-root-requires
 walk-root-requires c κs =
     let pre = start c .pre in
-    (pre .0, room-writing (start c .args .a) (start c .args .b) _ (pre .0) (pre .1 .0) (pre .1 .1))
+    (pre .0, room-writing (start c .args .a) (start c .args .b) _ (pre .0 .1) (pre .0 .2) (pre .1 .0) (pre .1 .1))
 
 returns : tie.Need-returns
 returns c =

@@ -126,7 +126,7 @@ pub +walk-entry+walk-page-spec : {M : Type 1} → statement M
     (λ c.
     let lent = c .before .before .before in
     let pre = lent .before .before .pre .1 in
-    turning-none (entries-ranged _ _ _ (pre .1 .0) (c .entries-met .ensures)) (pre .1 .1))
+    turning-none (entries-ranged _ _ _ (pre .0 .half-most) (pre .1 .0) (c .entries-met .ensures)) (pre .1 .1))
     -- walk-entry-requires
     (λ c κs.
     let inside = c .before in

@@ -10,12 +10,12 @@ use Rattle.lookup.proofs.levels.level_answer.Tie as tie
 page-answer-requires : tie.Need-page-answer-requires
 page-answer-requires c κs =
     let start = c .before .before in
-    (ap length (c .page-at .ensures) ∙ page-length 12 _ _ (start .pre .0), start .pre .1)
+    ((start .pre .0 .0, ap length (c .page-at .ensures) ∙ page-length _ _ _ (start .pre .0 .1)), start .pre .1)
 
 returns : tie.Need-returns
 returns c =
     let args = c .before .before .before .args in
-    c .page-answer .ensures ∙ ap (level-answer 12 (args .h) (args .at) (args .t)) (c .before .page-at .ensures)
+    c .page-answer .ensures ∙ ap (level-answer (args .half) (args .h) (args .at) (args .t)) (c .before .page-at .ensures)
 
 pub level-answer-spec : {M : Type 1} → statement M
 level-answer-spec = tie.close (tie.spec (λ c κs. search needs) page-answer-requires returns)

@@ -16,10 +16,10 @@ use Rattle.lookup.proofs.look_up.look_up.Statement.{statement}
 use Rattle.lookup.proofs.look_up.look_up.Tie as tie
 
 abbrev Inv-loop : tie.InvT-loop
-Inv-loop img h t at₀ p₀ so-far₀ pages₀ at p so-far pages = Walk img h t at p so-far pages
+Inv-loop half img h t at₀ p₀ so-far₀ pages₀ at p so-far pages = Walk half img h t at p so-far pages
 
 abbrev μ-loop : tie.MeasureT-loop
-μ-loop img h t at₀ p₀ so-far₀ pages₀ at p so-far pages = at .level
+μ-loop half img h t at₀ p₀ so-far₀ pages₀ at p so-far pages = at .level
 
 abbrev start : tie.At-loop Inv-loop μ-loop → tie.Start Inv-loop μ-loop
 start c = c .before .before .before
@@ -36,35 +36,37 @@ found-of c = c .before .before
 
 -- the entry that the page answered with
 entry : (c : tie.After-found Inv-loop μ-loop)
-    → Found 12 (start (turn c) .args .h) (turn c .loop .at) (start (turn c) .args .t)
-    (page-at 12 (start (turn c) .args .img .now) (turn c .loop .p))
+    → Found (start (turn c) .args .half) (start (turn c) .args .h) (turn c .loop .at) (start (turn c) .args .t)
+    (page-at (start (turn c) .args .half) (start (turn c) .args .img .now) (turn c .loop .p))
     (c .found .given .0 .0) (c .found .given .0 .1 .0) (c .found .given .0 .1 .1 .0)
 entry c = found-level _ _ _ _ _ (sym (c .found .given .1) ∙ c .before .before .level-answer .ensures)
 
 -- or that it is unfit
 unfit : (c : tie.After-enum-told Inv-loop μ-loop)
-    → page-fit 12 (start (last-turn c) .args .h) (last-turn c .loop .at)
-    (page-at 12 (start (last-turn c) .args .img .now) (last-turn c .loop .p)) ≡ false
+    → page-fit (start (last-turn c) .args .half) (start (last-turn c) .args .h) (last-turn c .loop .at)
+    (page-at (start (last-turn c) .args .half) (start (last-turn c) .args .img .now) (last-turn c .loop .p)) ≡ false
 unfit c =
     unfit-level _ _ _ (start (last-turn c) .args .t) _
     (sym (c .enum-told .given .1) ∙ c .before .before .level-answer .ensures)
 
 loop-holds : tie.Need-loop-holds Inv-loop μ-loop
-loop-holds c = rw (c .root-context .ensures) (walk-root (c .before .before .pre) (c .before .before .args .t))
+loop-holds c =
+    let began = c .before .before in
+    rw (c .root-context .ensures) (walk-root (began .pre .0) (began .pre .1) (began .args .t))
 
 level-answer-requires : tie.Need-level-answer-requires Inv-loop μ-loop
 level-answer-requires c κs =
     let o = start c .pre in
-    (walk-within o (c .loop .inv), walk-met o (c .loop .inv))
+    ((o .0, walk-within (o .0) (o .1) (c .loop .inv)), walk-met (o .0) (o .1) (c .loop .inv))
 
 returns : tie.Need-returns Inv-loop μ-loop
 returns c =
-    walk-unfit (start (last-turn c) .pre) (last-turn c .loop .inv) (unfit c)
+    walk-unfit (start (last-turn c) .pre .0) (start (last-turn c) .pre .1) (last-turn c .loop .inv) (unfit c)
 
 combine-requires : tie.Need-combine-requires Inv-loop μ-loop
 combine-requires c κs =
     let loop = turn (c .before) in
-    walk-combinable (start loop .pre) (loop .loop .inv) (entry (c .before))
+    walk-combinable (start loop .pre .0) (start loop .pre .1) (loop .loop .inv) (entry (c .before))
 
 returns-2 : tie.Need-returns-2 Inv-loop μ-loop
 returns-2 c =
@@ -72,15 +74,18 @@ returns-2 c =
     let found = found-of combined in
     let loop = turn found in
     ap (λ pair. lookup-of (Answered pair (loop .loop .pages + 1))) (combined .combine .ensures)
-    ∙ walk-leaf (start loop .pre) (loop .loop .inv) (entry found) (c .if1 .taken)
+    ∙ walk-leaf (start loop .pre .0) (start loop .pre .1) (loop .loop .inv) (entry found) (c .if1 .taken)
 
 below-requires : tie.Need-below-requires Inv-loop μ-loop
 below-requires c κs =
     let found = found-of (c .before .before) in
     let loop = turn found in
     let o = start loop .pre in (
-      walk-within o (loop .loop .inv),
-      (walk-number o (loop .loop .inv) (entry found), (omega (arith, c .if1 .left), walk-met o (loop .loop .inv) .bounded)),
+      walk-within (o .0) (o .1) (loop .loop .inv),
+      (
+        walk-number (o .0) (o .1) (loop .loop .inv) (entry found),
+        (omega (arith, c .if1 .left), walk-met (o .0) (o .1) (loop .loop .inv) .bounded),
+      ),
     )
 
 loop-less : tie.Need-loop-less Inv-loop μ-loop
@@ -93,13 +98,13 @@ loop-again c =
     let found = found-of combined in
     let loop = turn found in
     rw (c .below .ensures, combined .combine .ensures)
-    (walk-below (start loop .pre) (loop .loop .inv) (entry found) (omega (arith, c .before .if1 .left)))
+    (walk-below (start loop .pre .0) (start loop .pre .1) (loop .loop .inv) (entry found) (omega (arith, c .before .if1 .left)))
 
 pub look-up-spec : {M : Type 1} → statement M
 look-up-spec =
     tie.close
     (tie.spec Inv-loop μ-loop
-    (λ c κs. opened-ranges (c .before .pre) .height-least)
+    (λ c κs. opened-ranges (c .before .pre .1) .height-least)
     loop-holds level-answer-requires
     (λ c. omega (arith, c .before .loop .inv .path .level))
     (λ c. search needs) (λ c. search needs) returns combine-requires returns-2 below-requires loop-less loop-again)

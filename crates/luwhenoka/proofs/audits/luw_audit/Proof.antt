@@ -1,6 +1,7 @@
 -- `luwhenoka::audits::luw_audit` meets its contract: a law for each way out. Assumes nothing.
 use mathlib.Core.Path.{_≡_, sym, ap, _∙_}
 use mathlib.Core.Bool.{Bool, true, cond}
+use native.Mathlib.Omega.{arith}
 use borrow.Author.Needs.{needs}
 use borrow.Author.Tests.{not-true, not-false}
 use Rattle.image.specs.Images.{pages-in, length-ok}
@@ -43,6 +44,6 @@ pub luw-audit-spec : {M : Type 1} → statement M
 luw-audit-spec =
     tie.close
     (tie.spec (λ c κs. search needs) returns returns-2 (λ c κs. search needs)
-    (λ c κs. let fill = c .before .before in let room = fill .before .before in fits (room .before))
+    (λ c κs. let fill = c .before .before in let room = fill .before .before in (omega arith, omega arith, fits (room .before)))
     (λ c. search needs) (λ c. judged (c .before) (c .if3 .taken))
     (λ c. search needs) (λ c. judged (c .before) (c .if3 .left)))

@@ -76,5 +76,5 @@ luw-instant-spec =
     (tie.spec (λ c κs. search needs) (λ c κs. search needs) returns (λ c κs. search needs) returns-2
     (λ c κs. (omega arith, omega arith, fits (c .before)))
     (λ c. search needs) (λ c. search needs) (λ c κs. search needs) returns-3
-    (λ c κs. headed (c .before))
+    (λ c κs. (omega arith, headed (c .before)))
     (λ c. search needs) (λ c κs. search needs) (λ c. search needs) (λ c κs. search needs) returns-4 returns-5)

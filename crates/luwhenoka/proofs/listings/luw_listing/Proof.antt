@@ -101,7 +101,7 @@ write-runs-requires c κs =
     let test = c .before in
     let runs = test .before .before in
     let n = passed runs in
-    (headed (head-read runs), (n .fit, omega (arith, n .status, test .if3 .left)))
+    ((omega arith, omega arith, headed (head-read runs)), (n .fit, omega (arith, n .status, test .if3 .left)))
 
 returns-6 : tie.Need-returns-6
 unfolding listing-answer written runs-over
@@ -122,6 +122,6 @@ luw-listing-spec =
     (tie.spec (λ c κs. search needs) (λ c κs. search needs) returns (λ c κs. search needs) returns-2
     (λ c κs. (omega arith, omega arith, fits (c .before)))
     (λ c. search needs) (λ c. search needs) (λ c κs. search needs) returns-3
-    (λ c κs. headed (c .before))
+    (λ c κs. (omega arith, omega arith, headed (c .before)))
     (λ c. search needs) (λ c. search needs) (λ c κs. search needs) returns-4 (λ c. search needs) (λ c κs. search needs)
     returns-5 write-runs-requires (λ c. search needs) returns-6)

@@ -22,7 +22,8 @@ returns c =
     let o = entry-offset (args .half) (args .i) + 8 in
     let r = c .get-u64 .result in
     let low : num (part s o 4) < 2 ^ 32 = u32 .at-fits s o (bytes-of s (known .shared-slice-known .given)) in
-    let both : r ≡ num (part s o 4) + 2 ^ 32 * num (part s (o + 4) 4) = c .get-u64 .ensures ∙ ap (λ p. num (part s (p + 8) 8)) (placed .entry-offset .ensures) ∙ num-part-add s o 4 4 (omega arith) in
+    let both : r ≡ num (part s o 4) + 2 ^ 32 * num (part s (o + 4) 4) =
+    c .get-u64 .ensures ∙ ap (λ p. num (part s (p + 8) 8)) (placed .entry-offset .ensures) ∙ num-part-add s o 4 4 (omega arith) in
     let count : r % 2 ^ 32 ≡ num (part s o 4) = omega arith in
     let child : r / 2 ^ 32 ≡ num (part s (o + 4) 4) = omega arith in
     let next : o + 4 ≡ entry-offset (args .half) (args .i) + 12 = omega arith in

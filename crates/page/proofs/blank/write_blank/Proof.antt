@@ -26,4 +26,7 @@ returns c =
     ∙ ap (λ k. u32-bytes (args .level) ++ (u32-bytes (args .second) ++ unused (k - 8))) (sized .page-size .ensures)
 
 pub write-blank-spec : {M : Type 1} → statement M
-write-blank-spec = tie.close (tie.spec (λ c κs. omega arith) (λ c κs. omega arith) (λ c κs. omega arith) (λ c. omega arith) (λ c κs. omega arith) (λ c. omega arith) returns)
+write-blank-spec =
+    tie.close
+    (tie.spec (λ c κs. omega arith) (λ c κs. omega arith) (λ c κs. omega arith) (λ c. omega arith) (λ c κs. omega arith)
+    (λ c. omega arith) returns)

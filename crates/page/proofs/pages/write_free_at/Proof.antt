@@ -11,7 +11,8 @@ returns c =
     let sized = written .before .before in
     let found = sized .before in
     let args = found .before .before .args in
-    back-page (args .img .now) (page-size (args .half)) (args .p) (found .page-offset .ensures) (sized .page-size .ensures) (omega arith) (written .write-free .kept .1 .0)
+    back-page (args .img .now) (page-size (args .half)) (args .p) (found .page-offset .ensures)
+    (sized .page-size .ensures) (omega arith) (written .write-free .kept .1 .0)
     (written .write-free .ensures)
 
 pub write-free-at-spec : {M : Type 1} → statement M

@@ -67,7 +67,8 @@ loop-again c =
     }
 
 -- the entry is written, and the page says how many it has
-written : (half level n i : ℕ) (es : List Entry) (e : Entry) {s t : List ℕ} → length es ≡ n → n < capacity half → i ≤ n → t ≡ with-entry half i e s
+written : (half level n i : ℕ) (es : List Entry) (e : Entry) {s t : List ℕ} → length es ≡ n → n < capacity half → i ≤ n
+    → t ≡ with-entry half i e s
     → s ≡ page-bytes half level (n + 1) (opened i es) → t ≡ tree-bytes half level (inserted i e es)
 written half level n i es e same few h set before =
     let m = length-opened i es in

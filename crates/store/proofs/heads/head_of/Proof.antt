@@ -12,7 +12,8 @@ use Rattle.store.proofs.heads.head_of.Tie as tie
 read-head-requires : tie.Need-read-head-requires
 read-head-requires c κs =
     let start = c .before .before in
-    omega (arith, ap length (c .page-at .ensures) ∙ page-length 12 (start .args .img .now) 0 (omega (arith, holds-length (start .pre .holds))))
+    omega
+    (arith, ap length (c .page-at .ensures) ∙ page-length 12 (start .args .img .now) 0 (omega (arith, holds-length (start .pre .holds))))
 
 returns : tie.Need-returns
 unfolding page-at

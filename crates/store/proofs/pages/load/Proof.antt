@@ -17,4 +17,5 @@ returns c X h l t = holds-tree h t
 pub load-spec : {M : Type 1} → statement M
 load-spec =
     tie.close
-    (tie.spec (λ c κs. some-long (c .before .pre)) (λ c κs. (omega arith, some-size (c .before .before .pre) (c .page-at .ensures))) returns)
+    (tie.spec (λ c κs. some-long (c .before .pre))
+    (λ c κs. (omega arith, some-size (c .before .before .pre) (c .page-at .ensures))) returns)

@@ -14,4 +14,5 @@ returns c X h w next e = c .next-of .ensures ∙ ap next-of (c .before .page-at 
 pub next-free-spec : {M : Type 1} → statement M
 next-free-spec =
     tie.close
-    (tie.spec (λ c κs. some-long (c .before .pre)) (λ c κs. omega (arith, some-size (c .before .before .pre) (c .page-at .ensures))) returns)
+    (tie.spec (λ c κs. some-long (c .before .pre))
+    (λ c κs. omega (arith, some-size (c .before .before .pre) (c .page-at .ensures))) returns)
