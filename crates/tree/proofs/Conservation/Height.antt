@@ -104,6 +104,21 @@ level-once : {half : ℕ} {B : Asked (Subtree 0)} (m : ℕ) (Y : State) → Form
     → Y .supply .mark ≤ suc (2 * least-under half (suc m)) → Y .tree .level ≤ m
 level-once m Y F once apart h = level-most m (Y .tree) F (omega (arith, pages-below-mark Y once apart))
 
+-- wider pages have no fewer
+least-wider : (half l : ℕ) → 2 ≤ half → least-under 2 l ≤ least-under half l
+unfolding least-under
+least-wider half zero two = omega arith
+least-wider half (suc l) two = omega (arith, mul-le-mul-right (least-under half l) two, least-wider half l two)
+
+-- with 2 entries at the least a root of level 10 has 2,046 pages below it: the height is 10 at the most
+pub level-once-2 : {half : ℕ} {B : Asked (Subtree 0)} → 2 ≤ half → (Y : State) → Formed half B (Y .tree) → ((p : ℕ) → held p Y ≤ 1)
+    → held 0 Y ≡ 0
+    → Y .supply .mark ≤ 1024 → Y .tree .level ≤ 9
+unfolding least-under
+level-once-2 {half} two Y F once apart h =
+    let k : 1023 ≤ least-under half 10 = least-wider half 10 two in
+    level-once 9 Y F once apart (omega arith)
+
 -- with 12 entries at the least a root of level 4 has 3,770 pages below it: the height is 4 at the most
 pub level-once-12 : {B : Asked (Subtree 0)} (Y : State) → Formed 12 B (Y .tree) → ((p : ℕ) → held p Y ≤ 1) → held 0 Y ≡ 0
     → Y .supply .mark ≤ 1024 → Y .tree .level ≤ 3
