@@ -23,7 +23,7 @@ ghost use Rattle.booking.specs.Rows.{state-check};
 pub(crate) fn check_state(img: &[u8], withdraws: bool, s: u32, e: u32) -> StateCheck
     requires { ⌜ length-ok 12 (now img) ≡ true ⌝ }
     requires { ⌜ s < e ⌝ }
-    ensures { λ r. ⌜ r ≡ state-check (side-of withdraws) s e (now (img .entry)) ⌝ }
+    ensures { λ r. ⌜ r ≡ state-check 12 (side-of withdraws) s e (now (img .entry)) ⌝ }
 {
     if !sound(HALF, img) {
         return StateCheck::Refused(UNSOUND);

@@ -12,30 +12,30 @@ use Rattle.combine_span.specs.declared.SpanEffect.{SpanEffect}
 use Rattle.combine_span.specs.SpanCombinable.{Span-combinable}
 use Rattle.heal.specs.Healable.{Healable}
 
-module _ (kind s e : ℕ) (effect : Pair) where
-  abbrev pub task : SpanEffect
-  task = record { kind = kind; s = s; e = e; effect = effect }
+abbrev pub task : ℕ → ℕ → ℕ → Pair → SpanEffect
+task kind s e effect = record { kind = kind; s = s; e = e; effect = effect }
 
+module _ (half kind s e : ℕ) (effect : Pair) where
   -- the image after A, B, C, D and E
   abbrev pub after-A : Image → Image
-  after-A X = cut 12 s X
+  after-A X = cut half s X
 
   abbrev pub after-B : Image → Image
-  after-B X = cut 12 e (after-A X)
+  after-B X = cut half e (after-A X)
 
   abbrev pub after-C : Image → Image
   after-C X = combine-span (combine kind) s e effect (after-B X)
 
   abbrev pub after-D : Image → Image
-  after-D X = heal 12 (combine kind) s (after-C X)
+  after-D X = heal half (combine kind) s (after-C X)
 
   abbrev pub after-E : Image → Image
-  after-E X = heal 12 (combine kind) e (after-D X)
+  after-E X = heal half (combine kind) e (after-D X)
 
   pub record Changeable (X : Image) : Type 0 where
-    pub for-A : Cuttable s X
-    pub for-B : Cuttable e (after-A X)
-    pub for-C : Span-combinable task (after-B X)
-    pub for-D : Healable kind s (after-C X)
-    pub for-E : Healable kind e (after-D X)
+    pub for-A : Cuttable half s X
+    pub for-B : Cuttable half e (after-A X)
+    pub for-C : Span-combinable (task kind s e effect) (after-B X)
+    pub for-D : Healable half kind s (after-C X)
+    pub for-E : Healable half kind e (after-D X)
     pub for-count : Countable (after-E X)

@@ -13,9 +13,9 @@ ghost use Rattle.change.specs.Changeable.{Changeable};
 
 // Each step finds the image as the one before left it.
 pub fn apply(img: &mut [u8], kind: u32, s: u32, e: u32, effect: Pair)
-    requires { ⌜ Pre (now img) (Changeable kind s e effect) ⌝ }
-    ensures { λ _. ⌜ Post (now (img .entry)) (Changeable kind s e effect)
-        (λ X. Encodes (now (img .exit)) (change 12 (combine kind) s e effect X)) ⌝ }
+    requires { ⌜ Pre 12 (now img) (Changeable 12 kind s e effect) ⌝ }
+    ensures { λ _. ⌜ Post 12 (now (img .entry)) (Changeable 12 kind s e effect)
+        (λ X. Encodes 12 (now (img .exit)) (change 12 (combine kind) s e effect X)) ⌝ }
 {
     cut(img, s);
     cut(img, e);

@@ -9,6 +9,7 @@ use Rattle.lists.specs.Lists.{splice}
 use Rattle.lists.proofs.Edits.{splice-same}
 use Rattle.page.specs.declared.Entry.{Entry}
 use Rattle.page.specs.Entries.{at, no-entry}
+use Rattle.page.specs.Layout.{capacity}
 use Rattle.image.specs.Images.{Image, tree, entries-in}
 use Rattle.steps.specs.Supply.{entries, put}
 use Rattle.steps.specs.Combine.{next-start}
@@ -95,29 +96,29 @@ module _ (q : SpanEffect) (hi : ℕ) where
     -- ---- the loop
 
     -- After i entries of the page: so it goes for every image that the bytes held.
-    pub record Taking (img₀ : List ℕ) (n i : ℕ) (img : List ℕ) : Type 0 where
+    pub record Taking (half : ℕ) (img₀ : List ℕ) (n i : ℕ) (img : List ℕ) : Type 0 where
       pub same : length img ≡ length img₀
-      pub each : Post-level img₀ (Page-takes q hi p) (λ l X. (n ≡ length (entries X p)) × Encodes img (part-put i l X))
+      pub each : Post-level half img₀ (Page-takes q hi p) (λ l X. (n ≡ length (entries X p)) × Encodes half img (part-put i l X))
 
-    pub none : {img : List ℕ} {n : ℕ} → Post-level img (λ l. Tree-page l p) (λ l X. (n ≡ length (entries X p)) × (n ≤ 24))
-        → Taking img n 0 img
+    pub none : {half : ℕ} {img : List ℕ} {n : ℕ} → Post-level half img (λ l. Tree-page l p) (λ l X. (n ≡ length (entries X p)) × (n ≤ capacity half))
+        → Taking half img n 0 img
     unfolding part-took
-    none {img} count =
+    none {half} {img} count =
         record {
           same = refl;
-          each = λ X h l k. (count X h l (k .tree-page) .0, subst⁻¹ (Encodes img) (put-same X (k .tree-page .page)) h);
+          each = λ X h l k. (count X h l (k .tree-page) .0, subst⁻¹ (Encodes half img) (put-same X (k .tree-page .page)) h);
         }
 
-    module _ {img₀ : List ℕ} {n i : ℕ} {img : List ℕ} (t : Taking img₀ n i img) where
-      pub ready : i < n → Pre-level img₀ (Page-takes q hi p) → Pre-level img (Entry-takes q hi p i)
+    module _ {half : ℕ} {img₀ : List ℕ} {n i : ℕ} {img : List ℕ} (t : Taking half img₀ n i img) where
+      pub ready : i < n → Pre-level half img₀ (Page-takes q hi p) → Pre-level half img (Entry-takes q hi p i)
       ready h s =
           let k = s .ready .1 in
           let u = t .each (s .image) (s .holds) _ k in
           record { image = _; holds = u .1; ready = (_, part-ready i _ (s .image) k (omega (arith, u .0))) }
 
       pub more : i < n → {img′ : List ℕ}
-          → Post-level img (Entry-takes q hi p i) (λ l X. Encodes img′ (put p (tree l (with-took i (entries X p))) X))
-          → length img′ ≡ length img → Taking img₀ n (i + 1) img′
+          → Post-level half img (Entry-takes q hi p i) (λ l X. Encodes half img′ (put p (tree l (with-took i (entries X p))) X))
+          → length img′ ≡ length img → Taking half img₀ n (i + 1) img′
       more h {img′} took e =
           record {
             same = e ∙ t .same;
@@ -126,15 +127,15 @@ module _ (q : SpanEffect) (hi : ℕ) where
                 let u = t .each X held l k in
                 let here : i < length (entries X p) = omega (arith, u .0) in (
                   u .0,
-                  subst (Encodes img′) (part-next i l X here ∙ ap (λ m. part-put m l X) (sym (add-one i)))
+                  subst (Encodes half img′) (part-next i l X here ∙ ap (λ m. part-put m l X) (sym (add-one i)))
                       (took _ (u .1) l (part-ready i l X k here)),
                 );
           }
 
-      pub all : n ≤ i → Post-level img₀ (Page-takes q hi p) (λ l X. Encodes img (put p (tree l (all-took q hi (entries X p))) X))
+      pub all : n ≤ i → Post-level half img₀ (Page-takes q hi p) (λ l X. Encodes half img (put p (tree l (all-took q hi (entries X p))) X))
       all h X held l k =
           let u = t .each X held l k in
-          subst (λ fs. Encodes img (put p (tree l fs) X)) (part-all i (entries X p) (omega (arith, u .0))) (u .1)
+          subst (λ fs. Encodes half img (put p (tree l fs) X)) (part-all i (entries X p) (omega (arith, u .0))) (u .1)
 
     -- ---- one entry
 

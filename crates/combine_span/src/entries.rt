@@ -41,8 +41,8 @@ fn with_effect(q: SpanEffect, x: Entry) -> Entry
 
 // The i-th entry of page p, a page that ends at hi: it is written only if it is inside.
 fn entry_takes(img: &mut [u8], q: SpanEffect, hi: u32, p: u32, i: usize)
-    requires { ⌜ Pre-level (now img) (Entry-takes q hi p i) ⌝ }
-    ensures { λ _. ⌜ Post-level (now (img .entry)) (Entry-takes q hi p i) (λ l X. Encodes (now (img .exit))
+    requires { ⌜ Pre-level 12 (now img) (Entry-takes q hi p i) ⌝ }
+    ensures { λ _. ⌜ Post-level 12 (now (img .entry)) (Entry-takes q hi p i) (λ l X. Encodes 12 (now (img .exit))
         (put p (tree l (splice i (took-by q (end-in hi (entries X p) i) (at (entries X p) i) ∷ []) (entries X p))) X)) ⌝ }
 {
     let x = entry_of(img, p, i);
@@ -55,9 +55,9 @@ fn entry_takes(img: &mut [u8], q: SpanEffect, hi: u32, p: u32, i: usize)
 
 // All entries of page p, which ends at hi.
 pub(crate) fn take_effect(img: &mut [u8], q: SpanEffect, hi: u32, p: u32)
-    requires { ⌜ Pre-level (now img) (Page-takes q hi p) ⌝ }
-    ensures { λ _. ⌜ Post-level (now (img .entry)) (Page-takes q hi p)
-        (λ l X. Encodes (now (img .exit)) (put p (tree l (all-took q hi (entries X p))) X)) ⌝ }
+    requires { ⌜ Pre-level 12 (now img) (Page-takes q hi p) ⌝ }
+    ensures { λ _. ⌜ Post-level 12 (now (img .entry)) (Page-takes q hi p)
+        (λ l X. Encodes 12 (now (img .exit)) (put p (tree l (all-took q hi (entries X p))) X)) ⌝ }
 {
     let n = entry_count_in(img, p);
     let mut i = 0;

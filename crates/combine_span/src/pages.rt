@@ -14,8 +14,8 @@ ghost use Rattle.combine_span.specs.SpanCombinable.{page-by, sent-by, Pa
 // Page p of the level named, which ends at hi: what its entries send below, one after the other, and then what they take themselves. The
 // page is read from the image as it is at each turn: what was sent below has left it as it was.
 pub(crate) fn combine_page(img: &mut [u8], q: SpanEffect, level: u32, hi: u32, p: u32)
-    requires { ⌜ Pre (now img) (Page-combinable q level hi p) ⌝ }
-    ensures { λ _. ⌜ Post (now (img .entry)) (Page-combinable q level hi p) (λ X. Encodes (now (img .exit)) (page-by q level hi p X)) ⌝ }
+    requires { ⌜ Pre 12 (now img) (Page-combinable q level hi p) ⌝ }
+    ensures { λ _. ⌜ Post 12 (now (img .entry)) (Page-combinable q level hi p) (λ X. Encodes 12 (now (img .exit)) (page-by q level hi p X)) ⌝ }
 {
     // A leaf has no pages below.
     if level == 0 {
@@ -36,8 +36,8 @@ pub(crate) fn combine_page(img: &mut [u8], q: SpanEffect, level: u32, hi: u32, p
 // "one partly inside sends it to its child": what an entry of an inner page of that level, which ends at hi, sends below. The level falls.
 fn combine_entry(img: &mut [u8], q: SpanEffect, level: u32, hi: u32, x: Entry)
     requires { ⌜ 1 ≤ level ⌝ }
-    requires { ⌜ Pre (now img) (Entry-combinable q level hi x) ⌝ }
-    ensures { λ _. ⌜ Post (now (img .entry)) (Entry-combinable q level hi x) (λ X. Encodes (now (img .exit)) (sent-by q level hi x X)) ⌝ }
+    requires { ⌜ Pre 12 (now img) (Entry-combinable q level hi x) ⌝ }
+    ensures { λ _. ⌜ Post 12 (now (img .entry)) (Entry-combinable q level hi x) (λ X. Encodes 12 (now (img .exit)) (sent-by q level hi x X)) ⌝ }
 {
     if inside(q.s, q.e, x.start, hi) {
         return;

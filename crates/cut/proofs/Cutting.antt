@@ -56,11 +56,11 @@ module _ (e : Entry) (t : ℕ) where
   unfolding became cut-leaf-entry
   leaf-two s = sym (rw (ne-eqb (e .start) t s))
 
-  pub leaf-as : {level : ℕ} {X : Image} {g : SplitOutcome} {after : List ℕ} → level ≡ 0 → became e g ≡ cut-leaf-entry t e → Encodes after X
-      → Cut-as e (cut-entry 12 t level e X) g after
+  pub leaf-as : {half level : ℕ} {X : Image} {g : SplitOutcome} {after : List ℕ} → level ≡ 0 → became e g ≡ cut-leaf-entry t e → Encodes half after X
+      → Cut-as half e (cut-entry half t level e X) g after
   unfolding cut-entry
-  leaf-as {level} {X} {g} {after} z b h =
-      subst⁻¹ (λ l. Cut-as e (cut-entry 12 t l e X) g after) z (record { becomes = b; holds = h })
+  leaf-as {half} {level} {X} {g} {after} z b h =
+      subst⁻¹ (λ l. Cut-as half e (cut-entry half t l e X) g after) z (record { becomes = b; holds = h })
 
 -- ---- an inner one: it goes by what the entry of its page that has t becomes
 
@@ -70,54 +70,55 @@ at-inner P {level} d p =
     let n : suc (level - 1) ≡ level = omega arith in
     subst P n p
 
-pub page-cuttable : {level : ℕ} (e : Entry) {t : ℕ} {X : Image} → (level ≡ 0 → ⊥) → Entry-cuttable level e t X
-    → Page-cuttable (level - 1) (e .child) t X × Entry-cuttable (level - 1) (entry-for t (e .child) X) t X
+pub page-cuttable : {half level : ℕ} (e : Entry) {t : ℕ} {X : Image} → (level ≡ 0 → ⊥) → Entry-cuttable half level e t X
+    → Page-cuttable half (level - 1) (e .child) t X × Entry-cuttable half (level - 1) (entry-for t (e .child) X) t X
 unfolding Entry-cuttable
-page-cuttable {level} e {t} {X} d r =
+page-cuttable {half} {level} e {t} {X} d r =
     let n : level ≡ suc (level - 1) = omega arith in
-    subst (λ l. Entry-cuttable l e t X) n r
+    subst (λ l. Entry-cuttable half l e t X) n r
 
 -- what a search for t found in the page of e, and what it leads to
-pub record Searched (e : Entry) (level t : ℕ) (X : Image) (f : Found) : Type 0 where
+pub record Searched (half : ℕ) (e : Entry) (level t : ℕ) (X : Image) (f : Found) : Type 0 where
   pub inner : level ≡ 0 → ⊥
-  pub page : Page-cuttable (level - 1) (e .child) t X
-  pub below : Entry-cuttable (level - 1) (f .entry) t X
+  pub page : Page-cuttable half (level - 1) (e .child) t X
+  pub below : Entry-cuttable half (level - 1) (f .entry) t X
   pub index : f .index ≡ index-of t (entries X (e .child))
   pub entry : f .entry ≡ entry-for t (e .child) X
 
-pub searched : {img : List ℕ} {level t : ℕ} {X : Image} {f : Found} (e : Entry) → (level ≡ 0 → ⊥) → Encodes img X → Entry-cuttable level e t X
-    → Post-level img (λ l. Searchable l (e .child) t) (λ l Y. f ≡ found-in t (entries Y (e .child)))
-    → Searched e level t X f
+pub searched : {half : ℕ} {img : List ℕ} {level t : ℕ} {X : Image} {f : Found} (e : Entry) → (level ≡ 0 → ⊥) → Encodes half img X
+    → Entry-cuttable half level e t X
+    → Post-level half img (λ l. Searchable l (e .child) t) (λ l Y. f ≡ found-in t (entries Y (e .child)))
+    → Searched half e level t X f
 unfolding found-in
-searched {level = level} {t} {X} e d h r finds =
+searched {half} {level = level} {t} {X} e d h r finds =
     let k = page-cuttable e d r in
     let found = finds X h (level - 1) (k .0 .searchable) in
     record {
       inner = d;
       page = k .0;
-      below = subst⁻¹ (λ (g : Found). Entry-cuttable (level - 1) (g .entry) t X) found (k .1);
+      below = subst⁻¹ (λ (g : Found). Entry-cuttable half (level - 1) (g .entry) t X) found (k .1);
       index = ap (λ (g : Found). g .index) found;
       entry = ap (λ (g : Found). g .entry) found;
     }
 
-module _ {e : Entry} {level t : ℕ} {X : Image} {f : Found} (k : Searched e level t X f) where
+module _ {half : ℕ} {e : Entry} {level t : ℕ} {X : Image} {f : Found} (k : Searched half e level t X f) where
   abbrev under : Cutting
-  under = below (level - 1) (e .child) t X
+  under = below half (level - 1) (e .child) t X
 
   -- what it leads to is cut, with the answer that a match has told
-  pub found-cut : {g g′ : SplitOutcome} {after : List ℕ} → g ≡ g′ → Cut-as (f .entry) (cut-entry 12 t (level - 1) (f .entry) X) g after
-      → Cut-as (f .entry) under g′ after
-  found-cut same b = told same (cut-as (ap (λ x. cut-entry 12 t (level - 1) x X) (k .entry)) b)
+  pub found-cut : {g g′ : SplitOutcome} {after : List ℕ} → g ≡ g′ → Cut-as half (f .entry) (cut-entry half t (level - 1) (f .entry) X) g after
+      → Cut-as half (f .entry) under g′ after
+  found-cut same b = told same (cut-as (ap (λ x. cut-entry half t (level - 1) x X) (k .entry)) b)
 
   -- the entry stayed one, and so does e
-  pub found-same : {after : List ℕ} → Cut-as (f .entry) under Same after → Cut-as e (cut-entry 12 t level e X) Same after
+  pub found-same : {after : List ℕ} → Cut-as half (f .entry) under Same after → Cut-as half e (cut-entry half t level e X) Same after
   unfolding became cut-entry
   found-same {after} b =
-      at-inner (λ n. Cut-as e (cut-entry 12 t n e X) Same after) (k .inner)
+      at-inner (λ n. Cut-as half e (cut-entry half t n e X) Same after) (k .inner)
       (rw (eq-eqb (length (under .became)) 1 (ap length (sym (b .becomes)))) (record { becomes = refl; holds = b .holds }))
 
-  module _ {start q : ℕ} {after : List ℕ} (b : Cut-as (f .entry) under (Split start q) after) where
-    abbrev r : Page-cuttable (level - 1) (e .child) t X
+  module _ {start q : ℕ} {after : List ℕ} (b : Cut-as half (f .entry) under (Split start q) after) where
+    abbrev r : Page-cuttable half (level - 1) (e .child) t X
     r = k .page
 
     two : length (under .became) ≡ 2
@@ -130,7 +131,7 @@ module _ {e : Entry} {level t : ℕ} {X : Image} {f : Found} (k : Searched e lev
     same-entries = ap entries-in (r .kept)
 
     -- it became two: the page can gain an entry
-    pub found-insertable : Insertable (level - 1) (e .child) (f .index) (under .image)
+    pub found-insertable : Insertable half (level - 1) (e .child) (f .index) (under .image)
     found-insertable =
         let p = e .child in
         let s = r .searchable in
@@ -141,7 +142,7 @@ module _ {e : Entry} {level t : ℕ} {X : Image} {f : Found} (k : Searched e lev
                 tree-page =
                     record {
                       within =
-                          cut-keeps (In-image p) (λ q c Y v. within-put v q c) (λ Y v. within-taken v) 12 t (level - 1) (entry-for t p X) X
+                          cut-keeps (In-image p) (λ q c Y v. within-put v q c) (λ Y v. within-taken v) half t (level - 1) (entry-for t p X) X
                           (s .tree-page .within);
                       page = r .kept ∙ s .tree-page .page ∙ ap (tree (level - 1)) (sym same-entries);
                     };
@@ -163,10 +164,10 @@ module _ {e : Entry} {level t : ℕ} {X : Image} {f : Found} (k : Searched e lev
 
     -- and e becomes what the cutting says
     pub found-two : {g : SplitOutcome} {then : List ℕ}
-        → Cut-as e (split-if-full 12 (level - 1) e (inserted-after (f .index) start q (entries (under .image) (e .child))) (under .image)) g then
-        → Cut-as e (cut-entry 12 t level e X) g then
+        → Cut-as half e (split-if-full half (level - 1) e (inserted-after (f .index) start q (entries (under .image) (e .child))) (under .image)) g then
+        → Cut-as half e (cut-entry half t level e X) g then
     unfolding cut-entry
     found-two {g} {then} m =
-        at-inner (λ n. Cut-as e (cut-entry 12 t n e X) g then) (k .inner)
+        at-inner (λ n. Cut-as half e (cut-entry half t n e X) g then) (k .inner)
         (rw (ne-eqb (length (under .became)) 1 (λ one. omega (arith, two)))
-        (cut-as (λ j. split-if-full 12 (level - 1) e (gained j) (under .image)) m))
+        (cut-as (λ j. split-if-full half (level - 1) e (gained j) (under .image)) m))

@@ -28,13 +28,13 @@ use Rattle.cut.specs.Cuttable.{Entry-cuttable, Root-growable, from-root,
 use Rattle.cut.proofs.Splitting.{has-tree}
 use Rattle.cut.proofs.Cutting.{cut-keeps}
 
-pub cut-end : (t : ℕ) (X : Image) → END ≤ t → cut 12 t X ≡ X
+pub cut-end : (half t : ℕ) (X : Image) → END ≤ t → cut half t X ≡ X
 unfolding cut
-cut-end t X h = ap (λ b. cond b X (grow-if-split (from-root t X))) (le-leb END t h)
+cut-end half t X h = ap (λ b. cond b X (grow-if-split (from-root half t X))) (le-leb END t h)
 
-pub cut-inside : (t : ℕ) (X : Image) → t < END → cut 12 t X ≡ grow-if-split (from-root t X)
+pub cut-inside : (half t : ℕ) (X : Image) → t < END → cut half t X ≡ grow-if-split (from-root half t X)
 unfolding cut
-cut-inside t X h = ap (λ b. cond b X (grow-if-split (from-root t X))) (lt-leb END t h)
+cut-inside half t X h = ap (λ b. cond b X (grow-if-split (from-root half t X))) (lt-leb END t h)
 
 grown-one : (r : Cutting) → length (r .became) ≡ 1 → grow-if-split r ≡ r .image
 unfolding grow-if-split
@@ -56,54 +56,54 @@ height-kept half t l e X =
     cut-keeps (λ Y. Y .head .height ≡ h) (λ p c Y k. k) (height-taken h) half t l e X refl
 
 -- the new root is written
-pub grow-root-holds : (X : Image) (es : List Entry) {q : ℕ} {page : Page} {after : List ℕ} → q ≡ spare X
+pub grow-root-holds : {half : ℕ} (X : Image) (es : List Entry) {q : ℕ} {page : Page} {after : List ℕ} → q ≡ spare X
     → Has-entries (X .head .height) es page
-    → Encodes after (put q (tree (page .level) (entry-list page)) (with-root (X .head .height + 1) q (taken X)))
-    → Encodes after (grow-root es X)
+    → Encodes half after (put q (tree (page .level) (entry-list page)) (with-root (X .head .height + 1) q (taken X)))
+    → Encodes half after (grow-root es X)
 unfolding grow-root
-grow-root-holds X es {after = after} n s h =
-    subst (Encodes after) (λ j. put (n j) (has-tree s j) (with-root (add-one (X .head .height) j) (n j) (taken X))) h
+grow-root-holds {half} X es {after = after} n s h =
+    subst (Encodes half after) (λ j. put (n j) (has-tree s j) (with-root (add-one (X .head .height) j) (n j) (taken X))) h
 
 -- ---- the root as an entry
 
-module _ (t : ℕ) (X : Image) {h : Head} (read : h ≡ X .head) where
+module _ (half t : ℕ) (X : Image) {h : Head} (read : h ≡ X .head) where
   -- by the head that was read
   module _ {e : Entry} (made : e ≡ entry 0 none (h .root)) where
     root-is : e ≡ root-entry X
     unfolding root-entry
     root-is = made ∙ ap (λ (k : Head). entry 0 none (k .root)) read
 
-    pub root-ready : Root-cuttable t X → Entry-cuttable (h .height) e t X
-    root-ready r = subst₂ (λ (k : Head) x. Entry-cuttable (k .height) x t X) (sym read) (sym root-is) (r .entry)
+    pub root-ready : Root-cuttable half t X → Entry-cuttable half (h .height) e t X
+    root-ready r = subst₂ (λ (k : Head) x. Entry-cuttable half (k .height) x t X) (sym read) (sym root-is) (r .entry)
 
-    pub root-cut : {g : SplitOutcome} {after : List ℕ} → Cut-as e (cut-entry 12 t (h .height) e X) g after
-        → Cut-as (root-entry X) (from-root t X) g after
-    root-cut {g} {after} m = subst₂ (λ (k : Head) x. Cut-as x (cut-entry 12 t (k .height) x X) g after) read root-is m
+    pub root-cut : {g : SplitOutcome} {after : List ℕ} → Cut-as half e (cut-entry half t (h .height) e X) g after
+        → Cut-as half (root-entry X) (from-root half t X) g after
+    root-cut {g} {after} m = subst₂ (λ (k : Head) x. Cut-as half x (cut-entry half t (k .height) x X) g after) read root-is m
 
-  module _ {start q : ℕ} {after : List ℕ} (r : Cut-as (root-entry X) (from-root t X) (Split start q) after) where
-    two : length (from-root t X .became) ≡ 2
+  module _ {start q : ℕ} {after : List ℕ} (r : Cut-as half (root-entry X) (from-root half t X) (Split start q) after) where
+    two : length (from-root half t X .became) ≡ 2
     unfolding became
     two = ap length (sym (r .becomes))
 
-    pub root-growable : Root-cuttable t X → Root-growable (from-root t X .image)
+    pub root-growable : Root-cuttable half t X → Root-growable (from-root half t X .image)
     root-growable ready =
         record {
           takable = ready .room (omega (arith, two));
-          low = omega (arith, ready .low, height-kept 12 t (X .head .height) (root-entry X) X);
+          low = omega (arith, ready .low, height-kept half t (X .head .height) (root-entry X) X);
         }
 
     pub root-two : {then : List ℕ} → t < END
-        → Encodes then (grow-root (entry 0 none (h .root) ∷ entry start none q ∷ []) (from-root t X .image)) → Encodes then (cut 12 t X)
+        → Encodes half then (grow-root (entry 0 none (h .root) ∷ entry start none q ∷ []) (from-root half t X .image)) → Encodes half then (cut half t X)
     unfolding became root-entry
     root-two {then} l m =
-        subst (Encodes then)
-        (ap (λ (k : Head). grow-root (entry 0 none (k .root) ∷ entry start none q ∷ []) (from-root t X .image)) read
-        ∙ ap (λ es. grow-root es (from-root t X .image)) (r .becomes)
-        ∙ sym (cut-inside t X l ∙ grown-two (from-root t X) (λ one. omega (arith, two))))
+        subst (Encodes half then)
+        (ap (λ (k : Head). grow-root (entry 0 none (k .root) ∷ entry start none q ∷ []) (from-root half t X .image)) read
+        ∙ ap (λ es. grow-root es (from-root half t X .image)) (r .becomes)
+        ∙ sym (cut-inside half t X l ∙ grown-two (from-root half t X) (λ one. omega (arith, two))))
         m
 
-pub root-same : (t : ℕ) (X : Image) {after : List ℕ} → t < END → Cut-as (root-entry X) (from-root t X) Same after
-    → Encodes after (cut 12 t X)
+pub root-same : (half t : ℕ) (X : Image) {after : List ℕ} → t < END → Cut-as half (root-entry X) (from-root half t X) Same after
+    → Encodes half after (cut half t X)
 unfolding became
-root-same t X {after} l r =
-    subst (Encodes after) (sym (cut-inside t X l ∙ grown-one (from-root t X) (ap length (sym (r .becomes))))) (r .holds)
+root-same half t X {after} l r =
+    subst (Encodes half after) (sym (cut-inside half t X l ∙ grown-one (from-root half t X) (ap length (sym (r .becomes))))) (r .holds)

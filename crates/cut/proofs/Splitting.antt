@@ -1,5 +1,5 @@
 -- A page that gains an entry, written as one page or as two. Assumes nothing.
-use Prim.Native.Nat.{ℕ, _+_, _≤_, _<_}
+use Prim.Native.Nat.{ℕ, suc, _+_, _≤_, _<_}
 use mathlib.Core.Path.{_≡_, refl, sym, ap, _∙_, subst}
 use mathlib.Core.Bool.{Bool, cond}
 use mathlib.Core.List.{List, [], _∷_}
@@ -26,23 +26,24 @@ use Rattle.cut.specs.declared.SplitOutcome.the-variants.{Same, Split}
 use Rattle.cut.specs.Answers.{became, inserted-after, Cut-as}
 
 -- the answer that a match has told, and the same cutting in other words
-pub told : {e : Entry} {c : Cutting} {g g′ : SplitOutcome} {after : List ℕ} → g ≡ g′ → Cut-as e c g after → Cut-as e c g′ after
-told {e} {c} {after = after} same m = subst (λ r. Cut-as e c r after) same m
+pub told : {half : ℕ} {e : Entry} {c : Cutting} {g g′ : SplitOutcome} {after : List ℕ} → g ≡ g′ → Cut-as half e c g after → Cut-as half e c g′ after
+told {half} {e} {c} {after = after} same m = subst (λ r. Cut-as half e c r after) same m
 
-pub cut-as : {e : Entry} {c c′ : Cutting} {g : SplitOutcome} {after : List ℕ} → c ≡ c′ → Cut-as e c g after → Cut-as e c′ g after
-cut-as {e} {g = g} {after} same m = subst (λ c. Cut-as e c g after) same m
+pub cut-as : {half : ℕ} {e : Entry} {c c′ : Cutting} {g : SplitOutcome} {after : List ℕ} → c ≡ c′ → Cut-as half e c g after
+    → Cut-as half e c′ g after
+cut-as {half} {e} {g = g} {after} same m = subst (λ c. Cut-as half e c g after) same m
 
 pub has-tree : {l : ℕ} {es : List Entry} {r : Page} → Has-entries l es r → tree (r .level) (entry-list r) ≡ tree l es
 has-tree s = λ j. tree (s .level j) (s .entries j)
 
 -- ---- the two halves
 
-module _ {l : ℕ} (es : List Entry) {half : Page} (n : length es ≡ 25) where
-  pub left-len : Has-entries l (take 12 es) half → half .len ≡ 12
-  left-len s = has-len s ∙ length-take-le 12 es (omega arith)
+module _ (half : ℕ) {l : ℕ} (es : List Entry) {part : Page} (n : length es ≡ suc (capacity half)) where
+  pub left-len : Has-entries l (take half es) part → part .len ≡ half
+  left-len s = has-len s ∙ length-take-le half es (omega arith)
 
-  pub right-len : Has-entries l (drop 12 es) half → half .len ≡ 13
-  right-len s = omega (arith, has-len s, length-drop 12 es)
+  pub right-len : Has-entries l (drop half es) part → part .len ≡ suc half
+  right-len s = omega (arith, has-len s, length-drop half es)
 
 -- the taken page is one of the image's
 pub spare-within : {q : ℕ} {X : Image} → q ≡ spare X → Takable X → In-image q (taken X)
@@ -50,32 +51,33 @@ spare-within {X = X} n t = within-taken (subst (λ k. In-image k X) (sym n) (t .
 
 -- ---- one page or two
 
-abbrev decided : Entry → ℕ → List Entry → Image → Bool → Cutting
-decided e level es X b = cond b (not-split level e es X) (split 12 level e es X)
+abbrev decided : ℕ → Entry → ℕ → List Entry → Image → Bool → Cutting
+decided half e level es X b = cond b (not-split level e es X) (split half level e es X)
 
-module _ (e : Entry) (level : ℕ) (es : List Entry) (X : Image) {after : List ℕ} where
-  -- up to 24 entries are saved
-  pub saved-as : length es ≤ 24 → Encodes after (put (e .child) (tree level es) X) → Cut-as e (split-if-full 12 level e es X) Same after
+module _ (half : ℕ) (e : Entry) (level : ℕ) (es : List Entry) (X : Image) {after : List ℕ} where
+  -- what a page can hold is saved
+  pub saved-as : length es ≤ capacity half → Encodes half after (put (e .child) (tree level es) X)
+      → Cut-as half e (split-if-full half level e es X) Same after
   unfolding split-if-full not-split became
-  saved-as few h = cut-as (ap (decided e level es X) (sym (le-leb (length es) (capacity 12) few))) (record { becomes = refl; holds = h })
+  saved-as few h = cut-as (ap (decided half e level es X) (sym (le-leb (length es) (capacity half) few))) (record { becomes = refl; holds = h })
 
   -- "the page keeps 12, a taken page gets 13, the parent gains an entry with the same pair"
-  pub split-as : {q start : ℕ} {left right : Page} → Has-entries level (take 12 es) left → Has-entries level (drop 12 es) right
+  pub split-as : {q start : ℕ} {left right : Page} → Has-entries level (take half es) left → Has-entries level (drop half es) right
       → q ≡ spare X → start ≡ at (entry-list right) 0 .start
-      → Encodes after (put q (tree (right .level) (entry-list right)) (put (e .child) (tree (left .level) (entry-list left)) (taken X)))
-      → Cut-as e (split 12 level e es X) (Split start q) after
+      → Encodes half after (put q (tree (right .level) (entry-list right)) (put (e .child) (tree (left .level) (entry-list left)) (taken X)))
+      → Cut-as half e (split half level e es X) (Split start q) after
   unfolding split became
   split-as {q} {start} l r n s h =
-      let first : start ≡ at (drop 12 es) 0 .start = s ∙ ap (λ xs. at xs 0 .start) (r .entries) in
+      let first : start ≡ at (drop half es) 0 .start = s ∙ ap (λ xs. at xs 0 .start) (r .entries) in
       record {
         becomes = λ j. e ∷ entry (first j) (e .pair) (n j) ∷ [];
-        holds = subst (Encodes after) (λ j. put (n j) (has-tree r j) (put (e .child) (has-tree l j) (taken X))) h;
+        holds = subst (Encodes half after) (λ j. put (n j) (has-tree r j) (put (e .child) (has-tree l j) (taken X))) h;
       }
 
-  pub halved-as : {r : SplitOutcome} → 24 < length es → Cut-as e (split 12 level e es X) r after
-      → Cut-as e (split-if-full 12 level e es X) r after
+  pub halved-as : {r : SplitOutcome} → capacity half < length es → Cut-as half e (split half level e es X) r after
+      → Cut-as half e (split-if-full half level e es X) r after
   unfolding split-if-full
-  halved-as many m = cut-as (ap (decided e level es X) (sym (lt-leb (length es) (capacity 12) many))) m
+  halved-as many m = cut-as (ap (decided half e level es X) (sym (lt-leb (length es) (capacity half) many))) m
 
 -- ---- an entry that becomes two
 

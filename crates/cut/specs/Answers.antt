@@ -20,6 +20,6 @@ unfoldable pub inserted-after : ℕ → ℕ → ℕ → List Entry → List Entr
 inserted-after i start child es = splice i (became (at es i) (Split start child)) es
 
 -- The entry e became r and the bytes then are `after`, as the cutting of e says.
-pub record Cut-as (e : Entry) (c : Cutting) (r : SplitOutcome) (after : List ℕ) : Type 0 where
+pub record Cut-as (half : ℕ) (e : Entry) (c : Cutting) (r : SplitOutcome) (after : List ℕ) : Type 0 where
   pub becomes : became e r ≡ c .became
-  pub holds : Encodes after (c .image)
+  pub holds : Encodes half after (c .image)

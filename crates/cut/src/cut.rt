@@ -11,8 +11,8 @@ ghost use Rattle.cut.specs.Cuttable.{Cuttable};
 
 // "nothing if t is END or starts a leaf entry".
 pub fn cut(img: &mut [u8], t: u32)
-    requires { ⌜ Pre (now img) (Cuttable t) ⌝ }
-    ensures { λ _. ⌜ Post (now (img .entry)) (Cuttable t) (λ X. Encodes (now (img .exit)) (cut 12 t X)) ⌝ }
+    requires { ⌜ Pre 12 (now img) (Cuttable 12 t) ⌝ }
+    ensures { λ _. ⌜ Post 12 (now (img .entry)) (Cuttable 12 t) (λ X. Encodes 12 (now (img .exit)) (cut 12 t X)) ⌝ }
 {
     if t == END {
         return;

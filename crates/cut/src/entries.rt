@@ -23,8 +23,8 @@ fn cut_leaf_entry(e: Entry, t: u32) -> SplitOutcome
 // The page under e is read on the way down for one entry alone, and is still the same on the way up: so no level of the recursion
 // holds a decoded page.
 pub(crate) fn cut_entry(img: &mut [u8], level: u32, e: Entry, t: u32) -> SplitOutcome
-    requires { ⌜ Pre (now img) (Entry-cuttable level e t) ⌝ }
-    ensures { λ r. ⌜ Post (now (img .entry)) (Entry-cuttable level e t) (λ X. Cut-as e (cut-entry 12 t level e X) r (now (img .exit))) ⌝ }
+    requires { ⌜ Pre 12 (now img) (Entry-cuttable 12 level e t) ⌝ }
+    ensures { λ r. ⌜ Post 12 (now (img .entry)) (Entry-cuttable 12 level e t) (λ X. Cut-as 12 e (cut-entry 12 t level e X) r (now (img .exit))) ⌝ }
 {
     if level == 0 {
         return cut_leaf_entry(e, t);

@@ -34,9 +34,9 @@ fn new_root(level: u32, root: u32, start: u32, q: u32) -> Page
 
 // The new root is the page that is taken last, a level above.
 pub(crate) fn grow_root(img: &mut [u8], root: u32, start: u32, q: u32)
-    requires { ⌜ Pre (now img) Root-growable ⌝ }
-    ensures { λ _. ⌜ Post (now (img .entry)) Root-growable
-        (λ X. Encodes (now (img .exit)) (grow-root (entry 0 none root ∷ entry start none q ∷ []) X)) ⌝ }
+    requires { ⌜ Pre 12 (now img) Root-growable ⌝ }
+    ensures { λ _. ⌜ Post 12 (now (img .entry)) Root-growable
+        (λ X. Encodes 12 (now (img .exit)) (grow-root (entry 0 none root ∷ entry start none q ∷ []) X)) ⌝ }
 {
     let h = head_of(img);
     let p = take(img);

@@ -24,17 +24,17 @@ ghost use Rattle.cut.specs.Cuttable.{Has-place, Splittable, Insertable};
 
 // Page p with e as its i-th entry.
 fn page_with(img: &[u8], p: u32, i: usize, e: Entry) -> Page
-    requires { ⌜ Pre-level (now img) (λ l. Has-place l p i) ⌝ }
-    ensures { λ r. ⌜ Post-level (now (img .entry)) (λ l. Has-place l p i) (λ l X. Has-entries l (inserted i e (entries X p)) r) ⌝ }
+    requires { ⌜ Pre-level 12 (now img) (λ l. Has-place l p i) ⌝ }
+    ensures { λ r. ⌜ Post-level 12 (now (img .entry)) (λ l. Has-place l p i) (λ l X. Has-entries l (inserted i e (entries X p)) r) ⌝ }
 {
     insert(load(img, p), i, e)
 }
 
 // "25 entries split: the page keeps 12, a taken page gets 13". The page under e has 24, and new is the i-th of the 25.
 fn split(img: &mut [u8], e: Entry, i: usize, new: Entry) -> SplitOutcome
-    requires { ⌜ Pre-level (now img) (λ l. Splittable l (e .child) i) ⌝ }
-    ensures { λ r. ⌜ Post-level (now (img .entry)) (λ l. Splittable l (e .child) i)
-        (λ l X. Cut-as e (split 12 l e (inserted i new (entries X (e .child))) X) r (now (img .exit))) ⌝ }
+    requires { ⌜ Pre-level 12 (now img) (λ l. Splittable 12 l (e .child) i) ⌝ }
+    ensures { λ r. ⌜ Post-level 12 (now (img .entry)) (λ l. Splittable 12 l (e .child) i)
+        (λ l X. Cut-as 12 e (split 12 l e (inserted i new (entries X (e .child))) X) r (now (img .exit))) ⌝ }
 {
     let page = page_with(img, e.child, i, new);
     let q = take(img);
@@ -54,9 +54,9 @@ pub(crate) fn insert_after(
     start: u32,
     child: u32,
 ) -> SplitOutcome
-    requires { ⌜ Pre-level (now img) (λ l. Insertable l (e .child) i) ⌝ }
-    ensures { λ r. ⌜ Post-level (now (img .entry)) (λ l. Insertable l (e .child) i)
-        (λ l X. Cut-as e (split-if-full 12 l e (inserted-after i start child (entries X (e .child))) X) r (now (img .exit))) ⌝ }
+    requires { ⌜ Pre-level 12 (now img) (λ l. Insertable 12 l (e .child) i) ⌝ }
+    ensures { λ r. ⌜ Post-level 12 (now (img .entry)) (λ l. Insertable 12 l (e .child) i)
+        (λ l X. Cut-as 12 e (split-if-full 12 l e (inserted-after i start child (entries X (e .child))) X) r (now (img .exit))) ⌝ }
 {
     let old = entry_of(img, e.child, i);
     let pair = old.pair;

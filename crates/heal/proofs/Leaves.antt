@@ -44,18 +44,18 @@ module _ (t p : ℕ) (X : Image) {f : Found} (g : f ≡ found-in t (entries X p)
 
   -- ---- what becomes of the leaf, whatever the kind
 
-  module _ (kind : ℕ) where
+  module _ (half kind : ℕ) where
     abbrev done : Bool → ℕ → Image
     done b i = cond b (put p (tree zero (splice i [] (entries X p))) X) X
 
     -- what the test of that entry decides
-    decided : (b : Bool) → heals t (entries X p) (f .index) ≡ b → done b (f .index) ≡ heal-page 12 (combine kind) t 0 p X
+    decided : (b : Bool) → heals t (entries X p) (f .index) ≡ b → done b (f .index) ≡ heal-page half (combine kind) t 0 p X
     unfolding heal-page found-in
     decided b e = λ j. done ((sym e ∙ ap (λ (m : Found). heals t (entries X p) (m .index)) g) j) (g j .index)
 
-    pub leaf-kept : heals t (entries X p) (f .index) ≡ false → X ≡ heal-page 12 (combine kind) t 0 p X
+    pub leaf-kept : heals t (entries X p) (f .index) ≡ false → X ≡ heal-page half (combine kind) t 0 p X
     leaf-kept e = decided false e
 
     pub leaf-healed : heals t (entries X p) (f .index) ≡ true
-        → put p (tree zero (splice (f .index) [] (entries X p))) X ≡ heal-page 12 (combine kind) t 0 p X
+        → put p (tree zero (splice (f .index) [] (entries X p))) X ≡ heal-page half (combine kind) t 0 p X
     leaf-healed e = decided true e

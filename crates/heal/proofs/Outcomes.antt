@@ -11,6 +11,7 @@ use Rattle.page.specs.declared.Entry.{Entry}
 use Rattle.page.specs.Entries.{at}
 use Rattle.lists.specs.Lists.{splice}
 use Rattle.lists.proofs.Edits.{length-splice}
+use Rattle.page.specs.Layout.{capacity}
 use Rattle.image.specs.Images.{Image, Cell, tree}
 use Rattle.steps.specs.Supply.{entries, put, given-back}
 use Rattle.steps.specs.Heal.{pushed, joint, redistribute, merge}
@@ -60,8 +61,8 @@ module _ {level p l : ℕ} {X : Image} (s : Siblings level p l X) where
   entry-there k = record { tree-page = s .parent .tree-page; inside = omega (arith, s .parent .inside) }
 
   -- it has room for one more at the most
-  pub next-fits : {img : List ℕ} → Encodes img X → l + 1 < 24
-  next-fits h = omega (arith, s .parent .inside, tree-read h (s .parent .tree-page) .few)
+  pub next-fits : {half : ℕ} {img : List ℕ} → Encodes half img X → l + 1 < 24
+  next-fits h = omega (arith, s .parent .inside, tree-read h (s .parent .tree-page) .few, h .half-most)
 
   parent-left : p ≡ a .child → ⊥
   parent-left = levels-apart (s .parent .tree-page) (s .left .tree-page)
@@ -119,9 +120,9 @@ module _ {level p l : ℕ} {X : Image} (s : Siblings level p l X) where
 
     -- by their numbers, as they were read
     module _ {q r : ℕ} (left : q ≡ a .child) (right : r ≡ b .child) where
-      pub down-appendable : joint-count p l X ≤ 24 → Appendable level q r down
-      down-appendable few =
-          subst₂ (λ q r. Appendable level q r down) (sym left) (sym right)
+      pub down-appendable : {half : ℕ} → joint-count p l X ≤ capacity half → Appendable half level q r down
+      down-appendable {half} few =
+          subst₂ (λ q r. Appendable half level q r down) (sym left) (sym right)
           (record { pages = down-pages; few = omega (arith, down-count) })
 
       pub down-givable : (c : Cell) → Chain-room X → Givable r (put q c down)
@@ -130,9 +131,9 @@ module _ {level p l : ℕ} {X : Image} (s : Siblings level p l X) where
           let w = s .right .tree-page .within in
           record { within = record { least = omega (arith, w .least); below = omega (arith, w .below) }; room = room }
 
-      pub down-sharable : {k : ℕ} → Redistributable level p l k X → Sharable level q r k down
-      down-sharable {k} t =
-          subst₂ (λ q r. Sharable level q r k down) (sym left) (sym right)
+      pub down-sharable : {half k : ℕ} → Redistributable half level p l k X → Sharable half level q r k down
+      down-sharable {half} {k} t =
+          subst₂ (λ q r. Sharable half level q r k down) (sym left) (sym right)
           (record {
             pages = down-pages;
             first = t .left;

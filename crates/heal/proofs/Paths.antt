@@ -17,52 +17,52 @@ use Rattle.heal.specs.Healable.{Rebalanceable, Rebalanceable-if-short, r
 
 -- ---- a child page that was healed
 
-module _ (q : ℕ) {n : ℕ} (X : Image) (has : n ≡ length (entries X q)) where
-  short-is : n < 12 → short 12 q X ≡ true
+module _ (half q : ℕ) {n : ℕ} (X : Image) (has : n ≡ length (entries X q)) where
+  short-is : n < half → short half q X ≡ true
   unfolding short
-  short-is few = lt-ltb (length (entries X q)) 12 (omega arith)
+  short-is few = lt-ltb (length (entries X q)) half (omega arith)
 
-  pub rebalances-rebalanceable : {level p i : ℕ} → n < 12 → Rebalanceable-if-short level p i q X → Rebalanceable level p i X
+  pub rebalances-rebalanceable : {level p i : ℕ} → n < half → Rebalanceable-if-short half level p i q X → Rebalanceable half level p i X
   rebalances-rebalanceable few s = s .rebalances (short-is few)
 
-  pub if-short-rebalanced : (kind level p i : ℕ) → n < 12 → rebalance 12 (combine kind) level p i X ≡ rebalance-if-short kind level p i q X
+  pub if-short-rebalanced : (kind level p i : ℕ) → n < half → rebalance half (combine kind) level p i X ≡ rebalance-if-short half kind level p i q X
   unfolding rebalance-if-short
-  if-short-rebalanced kind level p i few = ap (λ b. cond b (rebalance 12 (combine kind) level p i X) X) (sym (short-is few))
+  if-short-rebalanced kind level p i few = ap (λ b. cond b (rebalance half (combine kind) level p i X) X) (sym (short-is few))
 
-  pub if-short-kept : (kind level p i : ℕ) → 12 ≤ n → X ≡ rebalance-if-short kind level p i q X
+  pub if-short-kept : (kind level p i : ℕ) → half ≤ n → X ≡ rebalance-if-short half kind level p i q X
   unfolding rebalance-if-short short
   if-short-kept kind level p i many =
-      ap (λ b. cond b (rebalance 12 (combine kind) level p i X) X) (sym (le-ltb (length (entries X q)) 12 (omega arith)))
+      ap (λ b. cond b (rebalance half (combine kind) level p i X) X) (sym (le-ltb (length (entries X q)) half (omega arith)))
 
 -- ---- the level of a page: a leaf, or one above its child page
 
-pub leaf-ready : (kind : ℕ) {t p level : ℕ} {X : Image} → level ≡ 0 → Page-healable kind t level p X → Searchable 0 p t X
+pub leaf-ready : (half kind : ℕ) {t p level : ℕ} {X : Image} → level ≡ 0 → Page-healable half kind t level p X → Searchable 0 p t X
 unfolding Page-healable
-leaf-ready kind {t} {p} {X = X} e r = subst (λ l. Page-healable kind t l p X) e r
+leaf-ready half kind {t} {p} {X = X} e r = subst (λ l. Page-healable half kind t l p X) e r
 
-pub inner : {kind t p level : ℕ} {X : Image} → (level ≡ 0 → ⊥) → Page-healable kind t level p X
-    → Inner-healable kind t (level - 1) p (λ q Y. Page-healable kind t (level - 1) q Y) X
+pub inner : {half kind t p level : ℕ} {X : Image} → (level ≡ 0 → ⊥) → Page-healable half kind t level p X
+    → Inner-healable half kind t (level - 1) p (λ q Y. Page-healable half kind t (level - 1) q Y) X
 unfolding Page-healable
-inner {kind} {t} {p} {level} {X} e r =
+inner {half} {kind} {t} {p} {level} {X} e r =
     let above : level ≡ suc (level - 1) = omega arith in
-    subst (λ l. Page-healable kind t l p X) above r
+    subst (λ l. Page-healable half kind t l p X) above r
 
 -- by what was found in the page, the index of the entry that has t and its child page: what that one asks, what it leaves, and what the
 -- page becomes
-pub record Found-inner (kind t level p : ℕ) (X : Image) (f : Found) : Type 0 where
-  pub below : Page-healable kind t (level - 1) (f .entry .child) X
-  pub rebalances : Rebalanceable-if-short (level - 1) p (f .index) (f .entry .child)
-      (heal-page 12 (combine kind) t (level - 1) (f .entry .child) X)
-  pub done : rebalance-if-short kind (level - 1) p (f .index) (f .entry .child)
-      (heal-page 12 (combine kind) t (level - 1) (f .entry .child) X)
-      ≡ heal-page 12 (combine kind) t level p X
+pub record Found-inner (half kind t level p : ℕ) (X : Image) (f : Found) : Type 0 where
+  pub below : Page-healable half kind t (level - 1) (f .entry .child) X
+  pub rebalances : Rebalanceable-if-short half (level - 1) p (f .index) (f .entry .child)
+      (heal-page half (combine kind) t (level - 1) (f .entry .child) X)
+  pub done : rebalance-if-short half kind (level - 1) p (f .index) (f .entry .child)
+      (heal-page half (combine kind) t (level - 1) (f .entry .child) X)
+      ≡ heal-page half (combine kind) t level p X
 
-pub found-inner : {img : List ℕ} {kind t p level : ℕ} {X : Image} {f : Found} → (level ≡ 0 → ⊥) → Encodes img X
-    → Page-healable kind t level p X
-    → Post-level img (λ v. Searchable v p t) (λ v Y. f ≡ found-in t (entries Y p)) → Found-inner kind t level p X f
+pub found-inner : {half : ℕ} {img : List ℕ} {kind t p level : ℕ} {X : Image} {f : Found} → (level ≡ 0 → ⊥) → Encodes half img X
+    → Page-healable half kind t level p X
+    → Post-level half img (λ v. Searchable v p t) (λ v Y. f ≡ found-in t (entries Y p)) → Found-inner half kind t level p X f
 unfolding heal-page rebalance-if-short found-in
-found-inner {kind = kind} {t} {p} {level} {X} e h r finds =
+found-inner {half} {kind = kind} {t} {p} {level} {X} e h r finds =
     let above : suc (level - 1) ≡ level = omega arith in
     let k = inner e r in
-    subst⁻¹ (Found-inner kind t level p X) (finds X h _ (k .searchable))
-    (record { below = k .below; rebalances = k .rebalances; done = ap (λ l. heal-page 12 (combine kind) t l p X) above })
+    subst⁻¹ (Found-inner half kind t level p X) (finds X h _ (k .searchable))
+    (record { below = k .below; rebalances = k .rebalances; done = ap (λ l. heal-page half (combine kind) t l p X) above })

@@ -74,16 +74,17 @@ module _ (kind : ℕ) (e : Entry) where
 
   -- ---- the loop: the page under e has n entries, and i have the pair
 
-  pub record Pushing (img₀ : List ℕ) (n : ℕ) (img : List ℕ) (i : ℕ) : Type 0 where
+  pub record Pushing (half : ℕ) (img₀ : List ℕ) (n : ℕ) (img : List ℕ) (i : ℕ) : Type 0 where
     pub same : length img ≡ length img₀
-    pub holds : Post-level img₀ (λ v. Push-ready v e) (λ v X. (n ≡ length (entries X (e .child))) × Encodes img (pushed-to i v X))
+    pub holds : Post-level half img₀ (λ v. Push-ready v e) (λ v X. (n ≡ length (entries X (e .child))) × Encodes half img (pushed-to i v X))
 
-  pub none : {img : List ℕ} {n : ℕ} → Post-level img (λ v. Push-ready v e) (λ v X. n ≡ length (entries X (e .child))) → Pushing img n img 0
-  none {img} count =
-      record { same = omega arith; holds = λ X h v s. (count X h v s, subst (Encodes img) (pushed-none s) h) }
+  pub none : {half : ℕ} {img : List ℕ} {n : ℕ} → Post-level half img (λ v. Push-ready v e) (λ v X. n ≡ length (entries X (e .child)))
+      → Pushing half img n img 0
+  none {half} {img} count =
+      record { same = omega arith; holds = λ X h v s. (count X h v s, subst (Encodes half img) (pushed-none s) h) }
 
-  module _ {img₀ img : List ℕ} {n i : ℕ} (k : Pushing img₀ n img i) where
-    pub next : i < n → Pre-level img₀ (λ v. Push-ready v e) → Pre-level img (λ v. Entry-pushable (e .pair) v (e .child) i)
+  module _ {half : ℕ} {img₀ img : List ℕ} {n i : ℕ} (k : Pushing half img₀ n img i) where
+    pub next : i < n → Pre-level half img₀ (λ v. Push-ready v e) → Pre-level half img (λ v. Entry-pushable (e .pair) v (e .child) i)
     next less pre =
         from pre
         (λ X h s.
@@ -91,12 +92,12 @@ module _ (kind : ℕ) (e : Entry) where
         record { image = _; holds = holds; ready = (s .0, pushed-next (s .1) i (omega arith)) })
 
     pub more : {after : List ℕ} → i < n → length after ≡ length img
-        → Post-level img (λ v. Entry-pushable (e .pair) v (e .child) i)
+        → Post-level half img (λ v. Entry-pushable (e .pair) v (e .child) i)
         (λ v X.
-        Encodes after
+        Encodes half after
         (put (e .child)
         (tree v (splice i (with-pair kind (e .pair) (at (entries X (e .child)) i) ∷ []) (entries X (e .child)))) X))
-        → Pushing img₀ n after (i + 1)
+        → Pushing half img₀ n after (i + 1)
     more {after} less kept g =
         record {
           same = kept ∙ k .same;
@@ -104,11 +105,11 @@ module _ (kind : ℕ) (e : Entry) where
               λ X h v s.
               let (count, holds) = k .holds X h v s in
               let inside : i < length (entries X (e .child)) = omega arith in
-              (count, subst (Encodes after) (pushed-more s i inside) (g _ holds v (pushed-next s i inside)));
+              (count, subst (Encodes half after) (pushed-more s i inside) (g _ holds v (pushed-next s i inside)));
         }
 
-    pub all : n ≤ i → Post-level img₀ (λ v. Push-ready v e)
-        (λ v X. Encodes img (put (e .child) (tree v (pushed (combine kind) X e)) X))
+    pub all : n ≤ i → Post-level half img₀ (λ v. Push-ready v e)
+        (λ v X. Encodes half img (put (e .child) (tree v (pushed (combine kind) X e)) X))
     all most X h v s =
         let (count, holds) = k .holds X h v s in
-        subst (Encodes img) (pushed-all s i (omega arith)) holds
+        subst (Encodes half img) (pushed-all s i (omega arith)) holds

@@ -8,6 +8,7 @@ use lib.ListN.{length}
 use borrow.Author.Tests.{eq-eqb, ne-eqb, lt-ltb, le-ltb}
 use Rattle.rule.specs.Pairs.{combine}
 use Rattle.page.specs.Entries.{at}
+use Rattle.page.specs.Layout.{capacity}
 use Rattle.image.specs.Images.{Image}
 use Rattle.steps.specs.Supply.{entries}
 use Rattle.steps.specs.Heal.{sibling, left-of, redistribute, merge, rebalance}
@@ -26,8 +27,8 @@ module _ (i : ℕ) (e : i ≡ 0) where
   unfolding left-of
   left-itself = omega arith
 
-  pub share-right : (n : ℕ) → 12 ≡ cond (eqb i 0) 12 (n - 1)
-  share-right n = ap (λ b. cond b 12 (n - 1)) (sym (eq-eqb i 0 e))
+  pub share-right : (half n : ℕ) → half ≡ cond (eqb i 0) half (n - 1)
+  share-right half n = ap (λ b. cond b half (n - 1)) (sym (eq-eqb i 0 e))
 
 module _ (i : ℕ) (e : i ≡ 0 → ⊥) where
   pub sibling-left : i - 1 ≡ sibling i
@@ -38,8 +39,8 @@ module _ (i : ℕ) (e : i ≡ 0 → ⊥) where
   unfolding left-of
   left-before = refl
 
-  pub share-left : (n : ℕ) → n - 1 ≡ cond (eqb i 0) 12 (n - 1)
-  share-left n = ap (λ b. cond b 12 (n - 1)) (sym (ne-eqb i 0 e))
+  pub share-left : (half n : ℕ) → n - 1 ≡ cond (eqb i 0) half (n - 1)
+  share-left half n = ap (λ b. cond b half (n - 1)) (sym (ne-eqb i 0 e))
 
 -- ---- the sibling
 
@@ -60,21 +61,21 @@ pub record Pairing (level p i : ℕ) (X : Image) : Type 0 where
   pub inside : sibling i < length (entries X p)
   pub tree-page : Tree-page level (at (entries X p) (sibling i) .child) X
 
-pub rebalance-sibling : {level p : ℕ} (i : ℕ) {X : Image} → Rebalanceable level p i X → Pairing level p i X
-rebalance-sibling {level} {p} zero {X} s =
+pub rebalance-sibling : {half level p : ℕ} (i : ℕ) {X : Image} → Rebalanceable half level p i X → Pairing level p i X
+rebalance-sibling {level = level} {p} zero {X} s =
     let e = right-is in
     record {
       inside = omega (arith, s .siblings .parent .inside);
       tree-page = subst (λ k. Tree-page level (at (entries X p) k .child) X) e (s .siblings .right .tree-page);
     }
-rebalance-sibling {level} {p} (suc i) {X} s =
+rebalance-sibling {level = level} {p} (suc i) {X} s =
     let e = left-is i in
     record {
       inside = omega (arith, s .siblings .parent .inside);
       tree-page = subst (λ k. Tree-page level (at (entries X p) k .child) X) e (s .siblings .left .tree-page);
     }
 
-pub rebalance-entry : {level p i j : ℕ} {X : Image} → Rebalanceable level p i X → j ≡ sibling i → Has-entry (suc level) p j X
+pub rebalance-entry : {half level p i j : ℕ} {X : Image} → Rebalanceable half level p i X → j ≡ sibling i → Has-entry (suc level) p j X
 rebalance-entry {i = i} s e = record { tree-page = s .siblings .parent .tree-page; inside = omega (arith, rebalance-sibling i s .inside) }
 
 -- ---- what it does
@@ -88,21 +89,21 @@ both-sizes p zero X = λ j. under p X (sym (left-itself 0 refl) j) + under p X (
 both-sizes p (suc i) X = omega (arith, ap (under p X) (left-is i), ap (under p X) (after-left i))
 
 -- the left page's share is neither more than a page has nor less than leaves the other one room
-share-fits : (i n : ℕ) → 12 < n → n ≤ 24
-    → (cond (eqb i 0) 12 (n - 1) ≤ 24) × ((cond (eqb i 0) 12 (n - 1) < n) × (n ≤ cond (eqb i 0) 12 (n - 1) + 12))
-share-fits zero n low high =
-    let e = share-right 0 refl n in
+share-fits : (half i n : ℕ) → half < n → n ≤ capacity half
+    → (cond (eqb i 0) half (n - 1) ≤ capacity half) × ((cond (eqb i 0) half (n - 1) < n) × (n ≤ cond (eqb i 0) half (n - 1) + suc half))
+share-fits half zero n low high =
+    let e = share-right 0 refl half n in
     (omega arith, (omega arith, omega arith))
-share-fits (suc i) n low high =
-    let e = share-left (suc i) (λ z. omega arith) n in
+share-fits half (suc i) n low high =
+    let e = share-left (suc i) (λ z. omega arith) half n in
     (omega arith, (omega arith, omega arith))
 
-module _ {level p i l n : ℕ} {X : Image} (at-left : l ≡ left-of i) (has : n ≡ under p X (sibling i)) where
-  pub rebalance-redistributable : {k : ℕ} → k ≡ cond (eqb i 0) 12 (n - 1) → 12 < n → n ≤ 24 → Rebalanceable level p i X
-      → Redistributable level p l k X
+module _ {half level p i l n : ℕ} {X : Image} (at-left : l ≡ left-of i) (has : n ≡ under p X (sibling i)) where
+  pub rebalance-redistributable : {k : ℕ} → k ≡ cond (eqb i 0) half (n - 1) → half < n → n ≤ capacity half → Rebalanceable half level p i X
+      → Redistributable half level p l k X
   rebalance-redistributable {k} e low high s =
-      let fits = share-fits i n low high in
-      subst (λ l. Redistributable level p l k X) (sym at-left)
+      let fits = share-fits half i n low high in
+      subst (λ l. Redistributable half level p l k X) (sym at-left)
       (record {
         siblings = s .siblings;
         left = omega (arith, fits .0);
@@ -110,30 +111,30 @@ module _ {level p i l n : ℕ} {X : Image} (at-left : l ≡ left-of i) (has : n 
         some = omega (arith, both-sizes p i X, fits .1 .0);
       })
 
-  pub rebalance-mergeable : n ≤ 12 → Rebalanceable level p i X → Mergeable level p l X
+  pub rebalance-mergeable : n ≤ half → Rebalanceable half level p i X → Mergeable half level p l X
   rebalance-mergeable few s =
-      subst (λ l. Mergeable level p l X) (sym at-left)
+      subst (λ l. Mergeable half level p l X) (sym at-left)
       (record { siblings = s .siblings; few = omega (arith, both-sizes p i X, s .short); room = s .room })
 
--- what it leaves, by whether the sibling has more than 12
-abbrev decided : Bool → ℕ → ℕ → ℕ → ℕ → Image → Image
-decided b kind level p i X =
-    let k = cond (eqb i 0) 12 (under p X (sibling i) - 1) in
+-- what it leaves, by whether the sibling has more than half the capacity
+abbrev decided : ℕ → Bool → ℕ → ℕ → ℕ → ℕ → Image → Image
+decided half b kind level p i X =
+    let k = cond (eqb i 0) half (under p X (sibling i) - 1) in
     cond b (redistribute (combine kind) level p (left-of i) k X) (merge (combine kind) level p (left-of i) X)
 
-module _ (kind level p i : ℕ) (X : Image) {l n : ℕ} (at-left : l ≡ left-of i) (has : n ≡ under p X (sibling i)) where
-  pub rebalance-redistributed : {k : ℕ} → k ≡ cond (eqb i 0) 12 (n - 1) → 12 < n
-      → redistribute (combine kind) level p l k X ≡ rebalance 12 (combine kind) level p i X
+module _ (half kind level p i : ℕ) (X : Image) {l n : ℕ} (at-left : l ≡ left-of i) (has : n ≡ under p X (sibling i)) where
+  pub rebalance-redistributed : {k : ℕ} → k ≡ cond (eqb i 0) half (n - 1) → half < n
+      → redistribute (combine kind) level p l k X ≡ rebalance half (combine kind) level p i X
   unfolding rebalance
   rebalance-redistributed {k} e low =
       let m : ℕ = under p X (sibling i) in
-      let share : k ≡ cond (eqb i 0) 12 (m - 1) = e ∙ ap (λ n. cond (eqb i 0) 12 (n - 1)) has in
-      let many : ltb 12 m ≡ true = lt-ltb 12 m (omega arith) in
-      (λ j. redistribute (combine kind) level p (at-left j) (share j) X) ∙ ap (λ b. decided b kind level p i X) (sym many)
+      let share : k ≡ cond (eqb i 0) half (m - 1) = e ∙ ap (λ n. cond (eqb i 0) half (n - 1)) has in
+      let many : ltb half m ≡ true = lt-ltb half m (omega arith) in
+      (λ j. redistribute (combine kind) level p (at-left j) (share j) X) ∙ ap (λ b. decided half b kind level p i X) (sym many)
 
-  pub rebalance-merged : n ≤ 12 → merge (combine kind) level p l X ≡ rebalance 12 (combine kind) level p i X
+  pub rebalance-merged : n ≤ half → merge (combine kind) level p l X ≡ rebalance half (combine kind) level p i X
   unfolding rebalance
   rebalance-merged few =
       let m : ℕ = under p X (sibling i) in
-      let many : ltb 12 m ≡ false = le-ltb 12 m (omega arith) in
-      (λ j. merge (combine kind) level p (at-left j) X) ∙ ap (λ b. decided b kind level p i X) (sym many)
+      let many : ltb half m ≡ false = le-ltb half m (omega arith) in
+      (λ j. merge (combine kind) level p (at-left j) X) ∙ ap (λ b. decided half b kind level p i X) (sym many)

@@ -65,7 +65,7 @@ module _ (kind : ℕ) (X : Image) where
       (given-back (h j .root) (put (e j .child) (tree (X .head .height - 2) (pushed (combine kind) X (e j))) X))
 
   -- the step, by the head that was read
-  pub healed-is : (t : ℕ) {h : Head} → h ≡ X .head
-      → collapse-if-single (combine kind) (heal-page 12 (combine kind) t (h .height - 1) (h .root) X) ≡ heal 12 (combine kind) t X
+  pub healed-is : (half t : ℕ) {h : Head} → h ≡ X .head
+      → collapse-if-single (combine kind) (heal-page half (combine kind) t (h .height - 1) (h .root) X) ≡ heal half (combine kind) t X
   unfolding heal
-  healed-is t h = λ j. collapse-if-single (combine kind) (heal-page 12 (combine kind) t (h j .height - 1) (h j .root) X)
+  healed-is half t h = λ j. collapse-if-single (combine kind) (heal-page half (combine kind) t (h j .height - 1) (h j .root) X)

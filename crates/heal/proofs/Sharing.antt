@@ -28,7 +28,7 @@ module _ (a b : ℕ) where
   abbrev pub appended-to : ℕ → ℕ → Image → Image
   appended-to i level X = put a (tree level (entries X a ++ take i (entries X b))) X
 
-  module _ {level : ℕ} {X : Image} (s : Appendable level a b X) where
+  module _ {half level : ℕ} {X : Image} (s : Appendable half level a b X) where
     other : b ≡ a → ⊥
     other e = s .pages .apart (sym e)
 
@@ -53,7 +53,7 @@ module _ (a b : ℕ) where
         }
 
     appended-room : {m : ℕ} (i : ℕ) → m ≡ length (entries X a) → i < length (entries X b)
-        → Has-room level a (m + i) (appended-to i level X)
+        → Has-room half level a (m + i) (appended-to i level X)
     appended-room i e h =
         let n = appended-count i (omega arith) in
         record { tree-page = tree-at a level _ X (s .pages .left .within); inside = omega arith; room = omega (arith, s .few) }
@@ -73,39 +73,39 @@ module _ (a b : ℕ) where
 
   -- ---- that loop
 
-  pub record Appending (img₀ : List ℕ) (m n : ℕ) (img : List ℕ) (i : ℕ) : Type 0 where
+  pub record Appending (half : ℕ) (img₀ : List ℕ) (m n : ℕ) (img : List ℕ) (i : ℕ) : Type 0 where
     pub same : length img ≡ length img₀
-    pub holds : Post-level img₀ (λ v. Appendable v a b)
-        (λ v X. (m ≡ length (entries X a)) × (n ≡ length (entries X b)) × Encodes img (appended-to i v X))
+    pub holds : Post-level half img₀ (λ v. Appendable half v a b)
+        (λ v X. (m ≡ length (entries X a)) × (n ≡ length (entries X b)) × Encodes half img (appended-to i v X))
 
-  pub append-none : {img : List ℕ} {m n : ℕ} → Post-level img (λ v. Appendable v a b) (λ v X. m ≡ length (entries X a))
-      → Post-level img (λ v. Appendable v a b) (λ v X. n ≡ length (entries X b)) → Appending img m n img 0
-  append-none {img} left right =
-      record { same = omega arith; holds = λ X h v s. (left X h v s, right X h v s, subst (Encodes img) (appended-none s) h) }
+  pub append-none : {half : ℕ} {img : List ℕ} {m n : ℕ} → Post-level half img (λ v. Appendable half v a b) (λ v X. m ≡ length (entries X a))
+      → Post-level half img (λ v. Appendable half v a b) (λ v X. n ≡ length (entries X b)) → Appending half img m n img 0
+  append-none {half} {img} left right =
+      record { same = omega arith; holds = λ X h v s. (left X h v s, right X h v s, subst (Encodes half img) (appended-none s) h) }
 
-  module _ {img₀ img : List ℕ} {m n i : ℕ} (k : Appending img₀ m n img i) (less : i < n) where
-    pub append-has : Pre-level img₀ (λ v. Appendable v a b) → Pre-level img (λ v. Has-entry v b i)
+  module _ {half : ℕ} {img₀ img : List ℕ} {m n i : ℕ} (k : Appending half img₀ m n img i) (less : i < n) where
+    pub append-has : Pre-level half img₀ (λ v. Appendable half v a b) → Pre-level half img (λ v. Has-entry v b i)
     append-has pre =
         from pre
         (λ X h s.
         let (left, right, holds) = k .holds X h (s .0) (s .1) in
         record { image = _; holds = holds; ready = (s .0, appended-has (s .1) i (omega arith)) })
 
-    pub append-room : Pre-level img₀ (λ v. Appendable v a b) → Pre-level img (λ v. Has-room v a (m + i))
+    pub append-room : Pre-level half img₀ (λ v. Appendable half v a b) → Pre-level half img (λ v. Has-room half v a (m + i))
     append-room pre =
         from pre
         (λ X h s.
         let (left, right, holds) = k .holds X h (s .0) (s .1) in
         record { image = _; holds = holds; ready = (s .0, appended-room (s .1) i left (omega arith)) })
 
-    pub append-fits : Pre-level img₀ (λ v. Appendable v a b) → m + i ≤ 24
+    pub append-fits : Pre-level half img₀ (λ v. Appendable half v a b) → m + i ≤ 24
     append-fits pre =
-        from pre (λ X h s. let (left, right, holds) = k .holds X h (s .0) (s .1) in omega (arith, s .1 .few))
+        from pre (λ X h s. let (left, right, holds) = k .holds X h (s .0) (s .1) in omega (arith, s .1 .few, h .half-most))
 
     pub append-more : {after : List ℕ} {e : Entry} → length after ≡ length img
-        → Post-level img (λ v. Has-entry v b i) (λ v X. e ≡ at (entries X b) i)
-        → Post-level img (λ v. Has-room v a (m + i)) (λ v X. Encodes after (put a (tree v (inserted (m + i) e (entries X a))) X))
-        → Appending img₀ m n after (i + 1)
+        → Post-level half img (λ v. Has-entry v b i) (λ v X. e ≡ at (entries X b) i)
+        → Post-level half img (λ v. Has-room half v a (m + i)) (λ v X. Encodes half after (put a (tree v (inserted (m + i) e (entries X a))) X))
+        → Appending half img₀ m n after (i + 1)
     append-more {after} kept read g =
         record {
           same = kept ∙ k .same;
@@ -114,14 +114,14 @@ module _ (a b : ℕ) where
               let (left, right, holds) = k .holds X h v s in
               let inside : i < length (entries X b) = omega arith in
               let e = read _ holds v (appended-has s i inside) in
-              (left, right, subst (Encodes after) (appended-more s i left inside e) (g _ holds v (appended-room s i left inside)));
+              (left, right, subst (Encodes half after) (appended-more s i left inside e) (g _ holds v (appended-room s i left inside)));
         }
 
-  pub append-all : {img₀ img : List ℕ} {m n i : ℕ} → Appending img₀ m n img i → n ≤ i
-      → Post-level img₀ (λ v. Appendable v a b) (λ v X. Encodes img (put a (tree v (entries X a ++ entries X b)) X))
-  append-all {img = img} {i = i} k most X h v s =
+  pub append-all : {half : ℕ} {img₀ img : List ℕ} {m n i : ℕ} → Appending half img₀ m n img i → n ≤ i
+      → Post-level half img₀ (λ v. Appendable half v a b) (λ v X. Encodes half img (put a (tree v (entries X a ++ entries X b)) X))
+  append-all {half} {img = img} {i = i} k most X h v s =
       let (left, right, holds) = k .holds X h v s in
-      subst (Encodes img) (appended-all s i (omega arith)) holds
+      subst (Encodes half img) (appended-all s i (omega arith)) holds
 
 -- ---- entries that go over, one at a time
 
@@ -169,7 +169,7 @@ module _ {level a b : ℕ} {X : Image} (t : Two-pages level a b X) where
 
 -- ---- one of them
 
-module _ {level a b m k : ℕ} {X : Image} (s : Movable level a b m k X) where
+module _ {half level a b m k : ℕ} {X : Image} (s : Movable half level a b m k X) where
   abbrev pages : Two-pages level a b X
   pages = s .shares .pages
 
@@ -178,7 +178,7 @@ module _ {level a b m k : ℕ} {X : Image} (s : Movable level a b m k X) where
     pub first-there : Has-entry level b 0 X
     first-there = record { tree-page = pages .right; inside = omega (arith, s .has, s .shares .all) }
 
-    pub last-fits : Has-room level a m X
+    pub last-fits : Has-room half level a m X
     last-fits =
         record { tree-page = pages .left; inside = omega (arith, s .has); room = omega (arith, s .has, s .shares .first) }
 
@@ -214,7 +214,7 @@ module _ {level a b m k : ℕ} {X : Image} (s : Movable level a b m k X) where
       abbrev shorter : Image
       shorter = put a (tree level (splice (m - 1) [] (entries X a))) X
 
-      pub first-fits : Has-room level b 0 shorter
+      pub first-fits : Has-room half level b 0 shorter
       first-fits =
           record {
             tree-page = tree-else a _ X (other-way pages) (pages .right);
@@ -237,11 +237,11 @@ module _ {level a b m k : ℕ} {X : Image} (s : Movable level a b m k X) where
           ∙ (λ j. put b (tree level (gets j)) (put a (tree level (keeps j)) X))
 
 -- an entry is read; a page is edited, and then the other
-module _ {Reads Edits Then Start : ℕ → Image → Type 0} {img mid : List ℕ} {e : Entry} {here : Image → Entry} {to : ℕ → Image → Image}
-    (read : Post-level img Reads (λ v X. e ≡ here X)) (edit : Post-level img Edits (λ v X. Encodes mid (to v X)))
+module _ {half : ℕ} {Reads Edits Then Start : ℕ → Image → Type 0} {img mid : List ℕ} {e : Entry} {here : Image → Entry} {to : ℕ → Image → Image}
+    (read : Post-level half img Reads (λ v X. e ≡ here X)) (edit : Post-level half img Edits (λ v X. Encodes half mid (to v X)))
     (has : (v : ℕ) (X : Image) → Start v X → Reads v X) (can : (v : ℕ) (X : Image) → Start v X → Edits v X)
     (next : (v : ℕ) (X : Image) → Start v X → e ≡ here X → Then v (to v X)) where
-  pub then-other : Pre-level img Start → Pre-level mid Then
+  pub then-other : Pre-level half img Start → Pre-level half mid Then
   then-other pre =
       from pre
       (λ X h s.
@@ -250,32 +250,33 @@ module _ {Reads Edits Then Start : ℕ → Image → Type 0} {img mid : List ℕ
 
   pub both-edited : {after : List ℕ} {other both : ℕ → Image → Image}
       → ((v : ℕ) (X : Image) → Start v X → e ≡ here X → other v (to v X) ≡ both v X)
-      → Post-level mid Then (λ v X. Encodes after (other v X)) → Post-level img Start (λ v X. Encodes after (both v X))
+      → Post-level half mid Then (λ v X. Encodes half after (other v X)) → Post-level half img Start (λ v X. Encodes half after (both v X))
   both-edited {after} done last X h v s =
       let r = read X h v (has v X s) in
-      subst (Encodes after) (done v X s r) (last _ (edit X h v (can v X s)) v (next v X s r))
+      subst (Encodes half after) (done v X s r) (last _ (edit X h v (can v X s)) v (next v X s r))
 
 -- ---- the loop: page a has m of all, and is to have k
 
 module _ (a b k : ℕ) where
-  pub record Sharing (img₀ img : List ℕ) (m : ℕ) : Type 0 where
+  pub record Sharing (half : ℕ) (img₀ img : List ℕ) (m : ℕ) : Type 0 where
     pub same : length img ≡ length img₀
-    pub holds : Post-level img₀ (λ v. Sharable v a b k)
-        (λ v X. (m ≤ length (entries X a) + length (entries X b)) × Encodes img (shared v a b m X))
+    pub holds : Post-level half img₀ (λ v. Sharable half v a b k)
+        (λ v X. (m ≤ length (entries X a) + length (entries X b)) × Encodes half img (shared v a b m X))
 
-  pub share-none : {img : List ℕ} {m : ℕ} → Post-level img (λ v. Sharable v a b k) (λ v X. m ≡ length (entries X a)) → Sharing img img m
-  share-none {img} {m} count =
+  pub share-none : {half : ℕ} {img : List ℕ} {m : ℕ} → Post-level half img (λ v. Sharable half v a b k) (λ v X. m ≡ length (entries X a))
+      → Sharing half img img m
+  share-none {half} {img} {m} count =
       record {
         same = omega arith;
         holds =
             λ X h v s.
             let n = count X h v s in
-            (omega arith, subst (Encodes img) (shared-none (s .pages) ∙ ap (λ n. shared v a b n X) (sym n)) h);
+            (omega arith, subst (Encodes half img) (shared-none (s .pages) ∙ ap (λ n. shared v a b n X) (sym n)) h);
       }
 
-  movable : {v m : ℕ} {X : Image} → Sharable v a b k X → m ≤ length (entries X a) + length (entries X b) → (m ≡ k → ⊥)
-      → Movable v a b m k (shared v a b m X)
-  movable {v} {m} {X} s within apart =
+  movable : {half v m : ℕ} {X : Image} → Sharable half v a b k X → m ≤ length (entries X a) + length (entries X b) → (m ≡ k → ⊥)
+      → Movable half v a b m k (shared v a b m X)
+  movable {v = v} {m} {X} s within apart =
       let es = entries X a ++ entries X b in
       let n = length-append (entries X a) (entries X b) in
       let l : length (entries (shared v a b m X) a) ≡ m =
@@ -294,8 +295,8 @@ module _ (a b k : ℕ) where
         differs = apart;
       }
 
-  module _ {img₀ img : List ℕ} {m : ℕ} (now : Sharing img₀ img m) (apart : m ≡ k → ⊥) where
-    pub share-next : Pre-level img₀ (λ v. Sharable v a b k) → Pre-level img (λ v. Movable v a b m k)
+  module _ {half : ℕ} {img₀ img : List ℕ} {m : ℕ} (now : Sharing half img₀ img m) (apart : m ≡ k → ⊥) where
+    pub share-next : Pre-level half img₀ (λ v. Sharable half v a b k) → Pre-level half img (λ v. Movable half v a b m k)
     share-next pre =
         from pre
         (λ X h s.
@@ -303,7 +304,7 @@ module _ (a b k : ℕ) where
         record { image = _; holds = holds; ready = (s .0, movable (s .1) within apart) })
 
     pub share-more : {after : List ℕ} {r : ℕ} → length after ≡ length img → Nearer m k r
-        → Post-level img (λ v. Movable v a b m k) (λ v X. Encodes after (shared v a b r X)) → Sharing img₀ after r
+        → Post-level half img (λ v. Movable half v a b m k) (λ v X. Encodes half after (shared v a b r X)) → Sharing half img₀ after r
     share-more {after} {r} kept near g =
         record {
           same = kept ∙ now .same;
@@ -311,10 +312,10 @@ module _ (a b k : ℕ) where
               λ X h v s.
               let (within, holds) = now .holds X h v s in (
                 omega (arith, near .most, s .all),
-                subst (Encodes after) (shared-again (s .pages) m r) (g _ holds v (movable s within apart)),
+                subst (Encodes half after) (shared-again (s .pages) m r) (g _ holds v (movable s within apart)),
               );
         }
 
-  pub share-all : {img₀ img : List ℕ} {m : ℕ} → Sharing img₀ img m → m ≡ k
-      → Post-level img₀ (λ v. Sharable v a b k) (λ v X. Encodes img (shared v a b k X))
-  share-all {img = img} now e X h v s = subst (Encodes img) (ap (λ n. shared v a b n X) e) (now .holds X h v s .1)
+  pub share-all : {half : ℕ} {img₀ img : List ℕ} {m : ℕ} → Sharing half img₀ img m → m ≡ k
+      → Post-level half img₀ (λ v. Sharable half v a b k) (λ v X. Encodes half img (shared v a b k X))
+  share-all {half} {img = img} now e X h v s = subst (Encodes half img) (ap (λ n. shared v a b n X) e) (now .holds X h v s .1)

@@ -8,6 +8,7 @@ use Rattle.rule.specs.Bounds.{Combinable}
 use Rattle.rule.specs.Pairs.{none, combine}
 use Rattle.page.specs.declared.Entry.{Entry}
 use Rattle.page.specs.Entries.{entry, at}
+use Rattle.page.specs.Layout.{capacity}
 use Rattle.lists.specs.Lists.{splice}
 use Rattle.image.specs.Images.{Image, tree}
 use Rattle.steps.specs.Supply.{entries, put, given-back}
@@ -30,16 +31,16 @@ abbrev pub joint-count : ℕ → ℕ → Image → ℕ
 joint-count p l X = length (entries X (at (entries X p) l .child)) + length (entries X (at (entries X p) (suc l) .child))
 
 -- the left page has k of all, and either page room for what it gets
-pub record Redistributable (level p l k : ℕ) (X : Image) : Type 0 where
+pub record Redistributable (half level p l k : ℕ) (X : Image) : Type 0 where
   pub siblings : Siblings level p l X
-  pub left : k ≤ 24
-  pub right : joint-count p l X ≤ k + 24
+  pub left : k ≤ capacity half
+  pub right : joint-count p l X ≤ k + capacity half
   pub some : k < joint-count p l X
 
 -- the left page has room for all, and the right one can be given back
-pub record Mergeable (level p l : ℕ) (X : Image) : Type 0 where
+pub record Mergeable (half level p l : ℕ) (X : Image) : Type 0 where
   pub siblings : Siblings level p l X
-  pub few : joint-count p l X ≤ 24
+  pub few : joint-count p l X ≤ capacity half
   pub room : Chain-room X
 
 -- the pair can be combined into the i-th entry of page q
@@ -54,20 +55,20 @@ pub record Two-pages (level a b : ℕ) (X : Image) : Type 0 where
   pub right : Tree-page level b X
 
 -- page a has room for all entries of both
-pub record Appendable (level a b : ℕ) (X : Image) : Type 0 where
+pub record Appendable (half level a b : ℕ) (X : Image) : Type 0 where
   pub pages : Two-pages level a b X
-  pub few : length (entries X a) + length (entries X b) ≤ 24
+  pub few : length (entries X a) + length (entries X b) ≤ capacity half
 
 -- page a can have k of all entries of both, and page b the others
-pub record Sharable (level a b k : ℕ) (X : Image) : Type 0 where
+pub record Sharable (half level a b k : ℕ) (X : Image) : Type 0 where
   pub pages : Two-pages level a b X
-  pub first : k ≤ 24
+  pub first : k ≤ capacity half
   pub all : k ≤ length (entries X a) + length (entries X b)
-  pub rest : length (entries X a) + length (entries X b) ≤ k + 24
+  pub rest : length (entries X a) + length (entries X b) ≤ k + capacity half
 
 -- and page a has m of them, not k yet
-pub record Movable (level a b m k : ℕ) (X : Image) : Type 0 where
-  pub shares : Sharable level a b k X
+pub record Movable (half level a b m k : ℕ) (X : Image) : Type 0 where
+  pub shares : Sharable half level a b k X
   pub has : m ≡ length (entries X a)
   pub differs : m ≡ k → ⊥
 
@@ -89,10 +90,10 @@ both-pushed kind level p l X =
     put (b .child) (tree level (pushed (combine kind) X b)) (put (a .child) (tree level (pushed (combine kind) X a)) X)
 
 -- the bytes then, and the two pages' numbers
-pub record Both-pushed (kind level p l : ℕ) (X : Image) (r : SiblingPages) (after : List ℕ) : Type 0 where
+pub record Both-pushed (half kind level p l : ℕ) (X : Image) (r : SiblingPages) (after : List ℕ) : Type 0 where
   pub left : r .left ≡ at (entries X p) l .child
   pub right : r .right ≡ at (entries X p) (suc l) .child
-  pub holds : Encodes after (both-pushed kind level p l X)
+  pub holds : Encodes half after (both-pushed kind level p l X)
 
 -- of all entries of pages a and b, page a has the first k and page b the others
 abbrev pub shared : ℕ → ℕ → ℕ → ℕ → Image → Image

@@ -12,8 +12,8 @@ ghost use Rattle.heal.specs.Healable.{Collapsible, Collapsible-if-single
 
 // The root has one entry, whose page becomes root.
 fn collapse_root(img: &mut [u8], kind: u32)
-    requires { ⌜ Pre (now img) Collapsible ⌝ }
-    ensures { λ _. ⌜ Post (now (img .entry)) Collapsible (λ X. Encodes (now (img .exit)) (collapse-root (combine kind) X)) ⌝ }
+    requires { ⌜ Pre 12 (now img) Collapsible ⌝ }
+    ensures { λ _. ⌜ Post 12 (now (img .entry)) Collapsible (λ X. Encodes 12 (now (img .exit)) (collapse-root (combine kind) X)) ⌝ }
 {
     let h = head_of(img);
     let e = entry_of(img, h.root, 0);
@@ -23,9 +23,9 @@ fn collapse_root(img: &mut [u8], kind: u32)
 }
 
 pub(crate) fn collapse_if_single(img: &mut [u8], kind: u32)
-    requires { ⌜ Pre (now img) Collapsible-if-single ⌝ }
-    ensures { λ _. ⌜ Post (now (img .entry)) Collapsible-if-single
-        (λ X. Encodes (now (img .exit)) (collapse-if-single (combine kind) X)) ⌝ }
+    requires { ⌜ Pre 12 (now img) Collapsible-if-single ⌝ }
+    ensures { λ _. ⌜ Post 12 (now (img .entry)) Collapsible-if-single
+        (λ X. Encodes 12 (now (img .exit)) (collapse-if-single (combine kind) X)) ⌝ }
 {
     let h = head_of(img);
     if h.height < 2 {

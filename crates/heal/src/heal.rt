@@ -13,9 +13,9 @@ ghost use Rattle.heal.specs.Healable.{Rebalanceable-if-short, rebalance-
 
 // The page q under the i-th entry of page p was healed: if that left it short, it is rebalanced with its sibling.
 fn rebalance_if_short(img: &mut [u8], kind: u32, p: u32, i: usize, q: u32)
-    requires { ⌜ Pre-level (now img) (λ v. Rebalanceable-if-short v p i q) ⌝ }
-    ensures { λ _. ⌜ Post-level (now (img .entry)) (λ v. Rebalanceable-if-short v p i q)
-        (λ v X. Encodes (now (img .exit)) (rebalance-if-short kind v p i q X)) ⌝ }
+    requires { ⌜ Pre-level 12 (now img) (λ v. Rebalanceable-if-short 12 v p i q) ⌝ }
+    ensures { λ _. ⌜ Post-level 12 (now (img .entry)) (λ v. Rebalanceable-if-short 12 v p i q)
+        (λ v X. Encodes 12 (now (img .exit)) (rebalance-if-short 12 kind v p i q X)) ⌝ }
 {
     if entry_count_in(img, q) < HALF {
         rebalance(img, kind, p, i);
@@ -24,9 +24,9 @@ fn rebalance_if_short(img: &mut [u8], kind: u32, p: u32, i: usize, q: u32)
 
 // Page p of that level: the leaf entry goes, and on the way back up each page that is left short is rebalanced.
 fn heal_page(img: &mut [u8], kind: u32, level: u32, p: u32, t: u32)
-    requires { ⌜ Pre (now img) (Page-healable kind t level p) ⌝ }
-    ensures { λ _. ⌜ Post (now (img .entry)) (Page-healable kind t level p)
-        (λ X. Encodes (now (img .exit)) (heal-page 12 (combine kind) t level p X)) ⌝ }
+    requires { ⌜ Pre 12 (now img) (Page-healable 12 kind t level p) ⌝ }
+    ensures { λ _. ⌜ Post 12 (now (img .entry)) (Page-healable 12 kind t level p)
+        (λ X. Encodes 12 (now (img .exit)) (heal-page 12 (combine kind) t level p X)) ⌝ }
 {
     if level == 0 {
         heal_leaf(img, p, t);
@@ -40,8 +40,8 @@ fn heal_page(img: &mut [u8], kind: u32, level: u32, p: u32, t: u32)
 
 // The whole step.
 pub fn heal(img: &mut [u8], kind: u32, t: u32)
-    requires { ⌜ Pre (now img) (Healable kind t) ⌝ }
-    ensures { λ _. ⌜ Post (now (img .entry)) (Healable kind t) (λ X. Encodes (now (img .exit)) (heal 12 (combine kind) t X)) ⌝ }
+    requires { ⌜ Pre 12 (now img) (Healable 12 kind t) ⌝ }
+    ensures { λ _. ⌜ Post 12 (now (img .entry)) (Healable 12 kind t) (λ X. Encodes 12 (now (img .exit)) (heal 12 (combine kind) t X)) ⌝ }
 {
     let h = head_of(img);
     heal_page(img, kind, h.height - 1, h.root, t);

@@ -24,8 +24,8 @@ fn alike(e: Entry, before: Entry) -> bool
 
 // Whether the i-th entry of page p goes, which was read as e.
 fn heals(img: &[u8], p: u32, i: usize, e: Entry, t: u32) -> bool
-    requires { ⌜ Pre-level (now img) (λ v. Entry-read e v p i) ⌝ }
-    ensures { λ r. ⌜ Post-level (now (img .entry)) (λ v. Entry-read e v p i) (λ v X. r ≡ heals t (entries X p) i) ⌝ }
+    requires { ⌜ Pre-level 12 (now img) (λ v. Entry-read e v p i) ⌝ }
+    ensures { λ r. ⌜ Post-level 12 (now (img .entry)) (λ v. Entry-read e v p i) (λ v X. r ≡ heals t (entries X p) i) ⌝ }
 {
     if i == 0 {
         return false;
@@ -36,9 +36,9 @@ fn heals(img: &[u8], p: u32, i: usize, e: Entry, t: u32) -> bool
 
 // The leaf p. Nothing is written where no entry goes. The kind's rule has no part in it.
 pub(crate) fn heal_leaf(img: &mut [u8], p: u32, t: u32)
-    requires { ⌜ Pre (now img) (Searchable 0 p t) ⌝ }
-    ensures { λ _. ⌜ Post (now (img .entry)) (Searchable 0 p t)
-        (λ X. (kind : ℕ) → Encodes (now (img .exit)) (heal-page 12 (combine kind) t 0 p X)) ⌝ }
+    requires { ⌜ Pre 12 (now img) (Searchable 0 p t) ⌝ }
+    ensures { λ _. ⌜ Post 12 (now (img .entry)) (Searchable 0 p t)
+        (λ X. (kind : ℕ) → Encodes 12 (now (img .exit)) (heal-page 12 (combine kind) t 0 p X)) ⌝ }
 {
     let found = find_entry(img, p, t);
     let i = found.index;

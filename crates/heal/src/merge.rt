@@ -11,9 +11,9 @@ ghost use Rattle.heal.specs.Siblings.{Mergeable, siblings-joined};
 
 // The two pages; the page above them stays as it is.
 fn join_siblings(img: &mut [u8], kind: u32, p: u32, l: usize)
-    requires { ⌜ Pre-level (now img) (λ v. Mergeable v p l) ⌝ }
-    ensures { λ _. ⌜ Post-level (now (img .entry)) (λ v. Mergeable v p l)
-        (λ v X. Encodes (now (img .exit)) (siblings-joined kind v p l X)) ⌝ }
+    requires { ⌜ Pre-level 12 (now img) (λ v. Mergeable 12 v p l) ⌝ }
+    ensures { λ _. ⌜ Post-level 12 (now (img .entry)) (λ v. Mergeable 12 v p l)
+        (λ v X. Encodes 12 (now (img .exit)) (siblings-joined kind v p l X)) ⌝ }
 {
     let s = push_siblings(img, kind, p, l);
     append_all(img, s.left, s.right);
@@ -22,9 +22,9 @@ fn join_siblings(img: &mut [u8], kind: u32, p: u32, l: usize)
 
 // The pages under the l-th entry of page p and the next become one.
 pub(crate) fn merge(img: &mut [u8], kind: u32, p: u32, l: usize)
-    requires { ⌜ Pre-level (now img) (λ v. Mergeable v p l) ⌝ }
-    ensures { λ _. ⌜ Post-level (now (img .entry)) (λ v. Mergeable v p l)
-        (λ v X. Encodes (now (img .exit)) (merge (combine kind) v p l X)) ⌝ }
+    requires { ⌜ Pre-level 12 (now img) (λ v. Mergeable 12 v p l) ⌝ }
+    ensures { λ _. ⌜ Post-level 12 (now (img .entry)) (λ v. Mergeable 12 v p l)
+        (λ v X. Encodes 12 (now (img .exit)) (merge (combine kind) v p l X)) ⌝ }
 {
     join_siblings(img, kind, p, l);
     remove_entry(img, p, l + 1);

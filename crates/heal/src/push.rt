@@ -20,9 +20,9 @@ ghost use Rattle.heal.specs.Siblings.{Siblings, Entry-pushable, with-pai
 
 // The pair combined into the i-th entry of page q.
 fn push_entry(img: &mut [u8], kind: u32, pair: Pair, q: u32, i: usize)
-    requires { ⌜ Pre-level (now img) (λ v. Entry-pushable pair v q i) ⌝ }
-    ensures { λ _. ⌜ Post-level (now (img .entry)) (λ v. Entry-pushable pair v q i)
-        (λ v X. Encodes (now (img .exit)) (put q (tree v (splice i (with-pair kind pair (at (entries X q) i) ∷ []) (entries X q))) X)) ⌝ }
+    requires { ⌜ Pre-level 12 (now img) (λ v. Entry-pushable pair v q i) ⌝ }
+    ensures { λ _. ⌜ Post-level 12 (now (img .entry)) (λ v. Entry-pushable pair v q i)
+        (λ v X. Encodes 12 (now (img .exit)) (put q (tree v (splice i (with-pair kind pair (at (entries X q) i) ∷ []) (entries X q))) X)) ⌝ }
 {
     let e = entry_of(img, q, i);
     let own = e.pair;
@@ -41,9 +41,9 @@ fn push_entry(img: &mut [u8], kind: u32, pair: Pair, q: u32, i: usize)
 
 // The pair of e combined into each entry of the page under e.
 pub(crate) fn push_down(img: &mut [u8], kind: u32, e: Entry)
-    requires { ⌜ Pre-level (now img) (λ v. Push-ready v e) ⌝ }
-    ensures { λ _. ⌜ Post-level (now (img .entry)) (λ v. Push-ready v e)
-        (λ v X. Encodes (now (img .exit)) (put (e .child) (tree v (pushed (combine kind) X e)) X)) ⌝ }
+    requires { ⌜ Pre-level 12 (now img) (λ v. Push-ready v e) ⌝ }
+    ensures { λ _. ⌜ Post-level 12 (now (img .entry)) (λ v. Push-ready v e)
+        (λ v X. Encodes 12 (now (img .exit)) (put (e .child) (tree v (pushed (combine kind) X e)) X)) ⌝ }
 {
     let n = entry_count_in(img, e.child);
     let mut i: usize = 0;
@@ -55,8 +55,8 @@ pub(crate) fn push_down(img: &mut [u8], kind: u32, e: Entry)
 
 // The pages under the l-th entry of page p and under the next.
 pub(crate) fn push_siblings(img: &mut [u8], kind: u32, p: u32, l: usize) -> SiblingPages
-    requires { ⌜ Pre-level (now img) (λ v. Siblings v p l) ⌝ }
-    ensures { λ r. ⌜ Post-level (now (img .entry)) (λ v. Siblings v p l) (λ v X. Both-pushed kind v p l X r (now (img .exit))) ⌝ }
+    requires { ⌜ Pre-level 12 (now img) (λ v. Siblings v p l) ⌝ }
+    ensures { λ r. ⌜ Post-level 12 (now (img .entry)) (λ v. Siblings v p l) (λ v X. Both-pushed 12 kind v p l X r (now (img .exit))) ⌝ }
 {
     let a = entry_of(img, p, l);
     let b = entry_of(img, p, l + 1);
@@ -82,8 +82,8 @@ pub(crate) fn emptied(e: Entry, start: u32) -> Entry
 
 // The pair of the l-th entry of page p, once the page under it has it.
 pub(crate) fn empty_pair(img: &mut [u8], p: u32, l: usize)
-    requires { ⌜ Pre-level (now img) (λ v. Has-entry v p l) ⌝ }
-    ensures { λ _. ⌜ Post-level (now (img .entry)) (λ v. Has-entry v p l) (λ v X. Encodes (now (img .exit)) (pair-emptied v p l X)) ⌝ }
+    requires { ⌜ Pre-level 12 (now img) (λ v. Has-entry v p l) ⌝ }
+    ensures { λ _. ⌜ Post-level 12 (now (img .entry)) (λ v. Has-entry v p l) (λ v X. Encodes 12 (now (img .exit)) (pair-emptied v p l X)) ⌝ }
 {
     let e = entry_of(img, p, l);
     set_entry(img, p, l, emptied(e, e.start));

@@ -37,9 +37,9 @@ fn left_share(i: usize, n: usize) -> usize
 
 // The page under the i-th entry of page p is rebalanced with its sibling.
 pub(crate) fn rebalance(img: &mut [u8], kind: u32, p: u32, i: usize)
-    requires { ⌜ Pre-level (now img) (λ v. Rebalanceable v p i) ⌝ }
-    ensures { λ _. ⌜ Post-level (now (img .entry)) (λ v. Rebalanceable v p i)
-        (λ v X. Encodes (now (img .exit)) (rebalance 12 (combine kind) v p i X)) ⌝ }
+    requires { ⌜ Pre-level 12 (now img) (λ v. Rebalanceable 12 v p i) ⌝ }
+    ensures { λ _. ⌜ Post-level 12 (now (img .entry)) (λ v. Rebalanceable 12 v p i)
+        (λ v X. Encodes 12 (now (img .exit)) (rebalance 12 (combine kind) v p i X)) ⌝ }
 {
     let e = entry_of(img, p, sibling(i));
     let n = entry_count_in(img, e.child);

@@ -12,9 +12,9 @@ ghost use Rattle.heal.specs.Siblings.{Redistributable, siblings-shared};
 
 // The two pages; the page above them stays as it is.
 fn share_siblings(img: &mut [u8], kind: u32, p: u32, l: usize, k: usize)
-    requires { ⌜ Pre-level (now img) (λ v. Redistributable v p l k) ⌝ }
-    ensures { λ _. ⌜ Post-level (now (img .entry)) (λ v. Redistributable v p l k)
-        (λ v X. Encodes (now (img .exit)) (siblings-shared kind v p l k X)) ⌝ }
+    requires { ⌜ Pre-level 12 (now img) (λ v. Redistributable 12 v p l k) ⌝ }
+    ensures { λ _. ⌜ Post-level 12 (now (img .entry)) (λ v. Redistributable 12 v p l k)
+        (λ v X. Encodes 12 (now (img .exit)) (siblings-shared kind v p l k X)) ⌝ }
 {
     let s = push_siblings(img, kind, p, l);
     share(img, s.left, s.right, k);
@@ -22,9 +22,9 @@ fn share_siblings(img: &mut [u8], kind: u32, p: u32, l: usize, k: usize)
 
 // Of all entries of the pages under the l-th entry of page p and the next, the left page has k.
 pub(crate) fn redistribute(img: &mut [u8], kind: u32, p: u32, l: usize, k: usize)
-    requires { ⌜ Pre-level (now img) (λ v. Redistributable v p l k) ⌝ }
-    ensures { λ _. ⌜ Post-level (now (img .entry)) (λ v. Redistributable v p l k)
-        (λ v X. Encodes (now (img .exit)) (redistribute (combine kind) v p l k X)) ⌝ }
+    requires { ⌜ Pre-level 12 (now img) (λ v. Redistributable 12 v p l k) ⌝ }
+    ensures { λ _. ⌜ Post-level 12 (now (img .entry)) (λ v. Redistributable 12 v p l k)
+        (λ v X. Encodes 12 (now (img .exit)) (redistribute (combine kind) v p l k X)) ⌝ }
 {
     share_siblings(img, kind, p, l, k);
     let b = entry_of(img, p, l + 1);

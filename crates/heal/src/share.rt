@@ -11,9 +11,9 @@ ghost use Rattle.heal.specs.Siblings.{Appendable, Sharable, Movable, Nea
 
 // The entries of page b behind those of page a. Page b keeps its own: whoever calls gives it back.
 pub(crate) fn append_all(img: &mut [u8], a: u32, b: u32)
-    requires { ⌜ Pre-level (now img) (λ v. Appendable v a b) ⌝ }
-    ensures { λ _. ⌜ Post-level (now (img .entry)) (λ v. Appendable v a b)
-        (λ v X. Encodes (now (img .exit)) (put a (tree v (entries X a ++ entries X b)) X)) ⌝ }
+    requires { ⌜ Pre-level 12 (now img) (λ v. Appendable 12 v a b) ⌝ }
+    ensures { λ _. ⌜ Post-level 12 (now (img .entry)) (λ v. Appendable 12 v a b)
+        (λ v X. Encodes 12 (now (img .exit)) (put a (tree v (entries X a ++ entries X b)) X)) ⌝ }
 {
     let m = entry_count_in(img, a);
     let n = entry_count_in(img, b);
@@ -28,9 +28,9 @@ pub(crate) fn append_all(img: &mut [u8], a: u32, b: u32)
 // Page a has m entries and is to have k: the first of page b becomes its last, or its last becomes the first of page b. How many it has
 // then.
 fn move_one(img: &mut [u8], a: u32, b: u32, m: usize, k: usize) -> usize
-    requires { ⌜ Pre-level (now img) (λ v. Movable v a b m k) ⌝ }
+    requires { ⌜ Pre-level 12 (now img) (λ v. Movable 12 v a b m k) ⌝ }
     ensures { λ r. ⌜ Nearer m k r ⌝ }
-    ensures { λ r. ⌜ Post-level (now (img .entry)) (λ v. Movable v a b m k) (λ v X. Encodes (now (img .exit)) (shared v a b r X)) ⌝ }
+    ensures { λ r. ⌜ Post-level 12 (now (img .entry)) (λ v. Movable 12 v a b m k) (λ v X. Encodes 12 (now (img .exit)) (shared v a b r X)) ⌝ }
 {
     if m < k {
         let e = entry_of(img, b, 0);
@@ -47,8 +47,8 @@ fn move_one(img: &mut [u8], a: u32, b: u32, m: usize, k: usize) -> usize
 
 // Page a has the first k of all entries from now on. A heal moves one; however many there are to move, the loop gets there.
 pub(crate) fn share(img: &mut [u8], a: u32, b: u32, k: usize)
-    requires { ⌜ Pre-level (now img) (λ v. Sharable v a b k) ⌝ }
-    ensures { λ _. ⌜ Post-level (now (img .entry)) (λ v. Sharable v a b k) (λ v X. Encodes (now (img .exit)) (shared v a b k X)) ⌝ }
+    requires { ⌜ Pre-level 12 (now img) (λ v. Sharable 12 v a b k) ⌝ }
+    ensures { λ _. ⌜ Post-level 12 (now (img .entry)) (λ v. Sharable 12 v a b k) (λ v X. Encodes 12 (now (img .exit)) (shared v a b k X)) ⌝ }
 {
     let mut m = entry_count_in(img, a);
     while m != k {

@@ -9,7 +9,7 @@ use lib.ListN.{length}
 use borrow.Author.Tests.{eq-eqb, ne-eqb}
 use Rattle.page.specs.declared.Entry.{Entry}
 use Rattle.page.specs.Entries.{at as entry-in, index-of}
-use Rattle.page.specs.Layout.{level-of, entry-count, start-at, entry-at, entries-of}
+use Rattle.page.specs.Layout.{capacity, level-of, entry-count, start-at, entry-at, entries-of}
 use Rattle.page.specs.Fit.{context-below, most-height}
 use Rattle.page.proofs.Laws.Trees.{length-entries-of, at-entries-of}
 use Rattle.fit.proofs.Laws.Pages.{PageFit, entry-first}
@@ -19,7 +19,7 @@ use Rattle.page.proofs.Laws.Indices.{index-within, index-started}
 use Rattle.store.specs.declared.Found.{Found}
 use Rattle.store.specs.Encoding.{Pre-level, Post-level}
 use Rattle.store.specs.Preconditions.{Searchable, found-in}
-use Rattle.store.proofs.Encoding.{holds-length}
+use Rattle.store.proofs.Encoding.{holds-pages}
 use Rattle.soundness.proofs.Tree.{tree-top}
 use Rattle.steps.specs.Supply.{entries}
 use Rattle.image.proofs.Cells.{cell-tree}
@@ -30,43 +30,43 @@ use Rattle.page_need.proofs.Counts.{page-need-adds, page-need-pages, le
 
 -- ---- a page
 
-module _ {img : List ℕ} {t l p : ℕ} (k : Fit-from img t l p) where
-  page-is-fit : PageFit 12 (k .head) (k .at) (page-at 12 img p)
-  page-is-fit = tree-top 12 (k .head) img l (k .at) p (k .fit)
+module _ {half : ℕ} {img : List ℕ} {t l p : ℕ} (k : Fit-from half img t l p) where
+  page-is-fit : PageFit half (k .head) (k .at) (page-at half img p)
+  page-is-fit = tree-top half (k .head) img l (k .at) p (k .fit)
 
-  entries-read : entries (image-of 12 img) p ≡ entries-of 12 (page-at 12 img p)
+  entries-read : entries (image-of half img) p ≡ entries-of half (page-at half img p)
   unfolding entries image-of entries-in
-  entries-read = ap entries-in (cell-tree 12 (page-at 12 img p) (omega (arith, page-is-fit .level, k .level, k .low)))
+  entries-read = ap entries-in (cell-tree half (page-at half img p) (omega (arith, page-is-fit .level, k .level, k .low)))
 
-  number-read : length (entries (image-of 12 img) p) ≡ entry-count (page-at 12 img p)
-  number-read = ap length entries-read ∙ length-entries-of 12 (page-at 12 img p) ∙ omega (arith, page-is-fit .most)
+  number-read : length (entries (image-of half img) p) ≡ entry-count (page-at half img p)
+  number-read = ap length entries-read ∙ length-entries-of half (page-at half img p) ∙ omega (arith, page-is-fit .most)
 
-  page-read : image-of 12 img .page p ≡ tree l (entries (image-of 12 img) p)
+  page-read : image-of half img .page p ≡ tree l (entries (image-of half img) p)
   unfolding image-of
   page-read =
-      let s : List ℕ = page-at 12 img p in
+      let s : List ℕ = page-at half img p in
       let level : level-of s ≡ l = page-is-fit .level ∙ k .level in
-      cell-tree 12 s (omega (arith, k .low)) ∙ (λ j. tree (level j) (sym entries-read j))
+      cell-tree half s (omega (arith, k .low)) ∙ (λ j. tree (level j) (sym entries-read j))
 
-  start-read : (i : ℕ) → i < length (entries (image-of 12 img) p)
-      → start-at (page-at 12 img p) i ≡ entry-in (entries (image-of 12 img) p) i .start
+  start-read : (i : ℕ) → i < length (entries (image-of half img) p)
+      → start-at (page-at half img p) i ≡ entry-in (entries (image-of half img) p) i .start
   unfolding entry-at
   start-read i n =
-      let s : List ℕ = page-at 12 img p in
-      let most : entry-count s ≤ 24 = page-is-fit .most in
-      let here = at-entries-of 12 s i (omega (arith, number-read)) (omega (arith, number-read)) in
+      let s : List ℕ = page-at half img p in
+      let most : entry-count s ≤ capacity half = page-is-fit .most in
+      let here = at-entries-of half s i (omega (arith, number-read)) (omega (arith, number-read)) in
       ap (λ (e : Entry). e .start) (sym here ∙ ap (λ es. entry-in es i) (sym entries-read))
 
   -- the page can be searched for t
-  pub fit-searchable : Searchable l p t (image-of 12 img)
+  pub fit-searchable : Searchable l p t (image-of half img)
   fit-searchable =
       let f = page-is-fit in
       let n = number-read in
-      let some : 1 ≤ length (entries (image-of 12 img) p) = omega (arith, entry-first f (omega arith)) in
+      let some : 1 ≤ length (entries (image-of half img) p) = omega (arith, entry-first f (omega (arith, k .holds .half-least))) in
       record {
         tree-page =
             record {
-              within = record { least = k .least; below = omega (arith, holds-length (k .holds), k .size, k .inside) };
+              within = record { least = k .least; below = omega (arith, holds-pages (k .holds), k .size, k .inside) };
               page = page-read;
             };
         some = some;
@@ -75,15 +75,15 @@ module _ {img : List ℕ} {t l p : ℕ} (k : Fit-from img t l p) where
       }
 
 -- the i-th entry of a page leads on
-entry-leads : {img : List ℕ} {t : ℕ} (l : ℕ) {p : ℕ} → Fit-from img t l p → (i : ℕ) → i < entry-count (page-at 12 img p)
-    → start-at (page-at 12 img p) i ≤ t
-    → Leads img t l (entry-at 12 (page-at 12 img p) i)
+entry-leads : {half : ℕ} {img : List ℕ} {t : ℕ} (l : ℕ) {p : ℕ} → Fit-from half img t l p → (i : ℕ) → i < entry-count (page-at half img p)
+    → start-at (page-at half img p) i ≤ t
+    → Leads half img t l (entry-at half (page-at half img p) i)
 unfolding Leads entry-at context-below
 entry-leads zero k i lt begun = tt
-entry-leads {img} (suc l) {p} k i lt begun =
+entry-leads {half} {img} (suc l) {p} k i lt begun =
     record {
       head = k .head;
-      at = context-below 12 (page-at 12 img p) (k .at) i;
+      at = context-below half (page-at half img p) (k .at) i;
       size = k .size;
       holds = k .holds;
       least = page-is-fit k .children i lt .inner (omega (arith, k .level)) .0;
@@ -91,25 +91,25 @@ entry-leads {img} (suc l) {p} k i lt begun =
       level = omega (arith, k .level);
       low = omega (arith, k .low);
       begun = begun;
-      fit = tree-parts 12 (k .head) img l (k .at) p (k .fit) .1 i lt;
+      fit = tree-parts half (k .head) img l (k .at) p (k .fit) .1 i lt;
     }
 
 -- ---- an entry
 
-pub leads-low : (img : List ℕ) (t l : ℕ) (e : Entry) → Leads img t l e → l ≤ most-height
+pub leads-low : (half : ℕ) (img : List ℕ) (t l : ℕ) (e : Entry) → Leads half img t l e → l ≤ most-height
 unfolding Leads
-leads-low img t zero e k = omega arith
-leads-low img t (suc l) e k = omega (arith, k .low)
+leads-low half img t zero e k = omega arith
+leads-low half img t (suc l) e k = omega (arith, k .low)
 
 -- an inner one
-pub leads-on : {img : List ℕ} {t l : ℕ} (e : Entry) → Leads img t l e → ¬ (l ≡ 0) → Fit-from img t (l - 1) (e .child)
+pub leads-on : {half : ℕ} {img : List ℕ} {t l : ℕ} (e : Entry) → Leads half img t l e → ¬ (l ≡ 0) → Fit-from half img t (l - 1) (e .child)
 unfolding Leads
-leads-on {img} {t} {l} e k h =
+leads-on {half} {img} {t} {l} e k h =
     let above : l ≡ suc (l - 1) = omega arith in
-    subst (λ n. Leads img t n e) above k
+    subst (λ n. Leads half img t n e) above k
 
 -- for a later instant too
-pub later-fit : {img : List ℕ} {s t l p : ℕ} → Fit-from img s l p → s < t → Fit-from img t l p
+pub later-fit : {half : ℕ} {img : List ℕ} {s t l p : ℕ} → Fit-from half img s l p → s < t → Fit-from half img t l p
 later-fit k lt =
     record {
       head = k .head;
@@ -124,54 +124,54 @@ later-fit k lt =
       fit = k .fit;
     }
 
-pub fit-some : {img : List ℕ} {t l p : ℕ} → Fit-from img t l p → Pre-level img (λ v. Searchable v p t)
-fit-some {img} {l = l} k = record { image = image-of 12 img; holds = k .holds; ready = (l, fit-searchable k) }
+pub fit-some : {half : ℕ} {img : List ℕ} {t l p : ℕ} → Fit-from half img t l p → Pre-level half img (λ v. Searchable v p t)
+fit-some {half} {img} {l = l} k = record { image = image-of half img; holds = k .holds; ready = (l, fit-searchable k) }
 
 -- what was found in its page: any search that find_entry's contract allows
-pub record Found-below (img : List ℕ) (t l : ℕ) (e : Entry) (m : Found) : Type 0 where
+pub record Found-below (half : ℕ) (img : List ℕ) (t l : ℕ) (e : Entry) (m : Found) : Type 0 where
   pub inner : ¬ (l ≡ 0)
-  pub page : Fit-from img t (l - 1) (e .child)
-  pub is : m ≡ found-in t (entries (image-of 12 img) (e .child))
+  pub page : Fit-from half img t (l - 1) (e .child)
+  pub is : m ≡ found-in t (entries (image-of half img) (e .child))
 
-abbrev Finds : List ℕ → ℕ → ℕ → Found → Type 0
-Finds img t p m = Post-level img (λ v. Searchable v p t) (λ v X. m ≡ found-in t (entries X p))
+abbrev Finds : ℕ → List ℕ → ℕ → ℕ → Found → Type 0
+Finds half img t p m = Post-level half img (λ v. Searchable v p t) (λ v X. m ≡ found-in t (entries X p))
 
-found-at : {img : List ℕ} {t l : ℕ} {m : Found} (e : Entry) → ¬ (l ≡ 0) → Fit-from img t (l - 1) (e .child) → Finds img t (e .child) m
-    → Found-below img t l e m
-found-at {img} {l = l} e h k each = record { inner = h; page = k; is = each (image-of 12 img) (k .holds) (l - 1) (fit-searchable k) }
+found-at : {half : ℕ} {img : List ℕ} {t l : ℕ} {m : Found} (e : Entry) → ¬ (l ≡ 0) → Fit-from half img t (l - 1) (e .child) → Finds half img t (e .child) m
+    → Found-below half img t l e m
+found-at {half} {img} {l = l} e h k each = record { inner = h; page = k; is = each (image-of half img) (k .holds) (l - 1) (fit-searchable k) }
 
-pub found-below : {img : List ℕ} {t l : ℕ} {m : Found} (e : Entry) → Leads img t l e → ¬ (l ≡ 0) → Finds img t (e .child) m
-    → Found-below img t l e m
+pub found-below : {half : ℕ} {img : List ℕ} {t l : ℕ} {m : Found} (e : Entry) → Leads half img t l e → ¬ (l ≡ 0) → Finds half img t (e .child) m
+    → Found-below half img t l e m
 found-below e k h each = found-at e h (leads-on e k h) each
 
 -- and for a later instant
-abbrev pub Both-below : List ℕ → ℕ → ℕ → ℕ → Entry → Found → Found → Type 0
-Both-below img s t l e m n = Found-below img s l e m × Found-below img t l e n
+abbrev pub Both-below : ℕ → List ℕ → ℕ → ℕ → ℕ → Entry → Found → Found → Type 0
+Both-below half img s t l e m n = Found-below half img s l e m × Found-below half img t l e n
 
-pub both-below : {img : List ℕ} {s t l : ℕ} {m n : Found} (e : Entry) → Leads img s l e × (s < t) → ¬ (l ≡ 0) → Finds img s (e .child) m
-    → Finds img t (e .child) n
-    → Both-below img s t l e m n
+pub both-below : {half : ℕ} {img : List ℕ} {s t l : ℕ} {m n : Found} (e : Entry) → Leads half img s l e × (s < t) → ¬ (l ≡ 0) → Finds half img s (e .child) m
+    → Finds half img t (e .child) n
+    → Both-below half img s t l e m n
 both-below e k h first second =
     let page = leads-on e (k .0) h in
     (found-at e h page first, found-at e h (later-fit page (k .1)) second)
 
-module _ {img : List ℕ} {t l : ℕ} {e : Entry} {m : Found} (k : Found-below img t l e m) where
-  pub found-most : m .count ≤ 24
+module _ {half : ℕ} {img : List ℕ} {t l : ℕ} {e : Entry} {m : Found} (k : Found-below half img t l e m) where
+  pub found-most : m .count ≤ capacity half
   unfolding found-in
   found-most = omega (arith, ap (λ (n : Found). n .count) (k .is), number-read (k .page), page-is-fit (k .page) .most)
 
-  pub found-leads : Leads img t (l - 1) (m .entry)
+  pub found-leads : Leads half img t (l - 1) (m .entry)
   unfolding found-in
   found-leads =
-      let s = page-at 12 img (e .child) in
-      let i = index-of t (entries-of 12 s) in
+      let s = page-at half img (e .child) in
+      let i = index-of t (entries-of half s) in
       let f = page-is-fit (k .page) in
-      let r : i < entry-count s = index-within 12 s t (f .most) (entry-first f (omega arith)) in
-      let same : m .entry ≡ entry-at 12 s i =
+      let r : i < entry-count s = index-within half s t (f .most) (entry-first f (omega (arith, k .page .holds .half-least))) in
+      let same : m .entry ≡ entry-at half s i =
       ap (λ (n : Found). n .entry) (k .is)
-      ∙ (ap (λ es. entry-in es (index-of t es)) (entries-read (k .page)) ∙ at-entries-of 12 s i r (omega (arith, f .most))) in
-      subst⁻¹ (Leads img t (l - 1)) same
-      (entry-leads (l - 1) (k .page) i r (index-started 12 s t (f .most) (omega (arith, f .first, k .page .begun))))
+      ∙ (ap (λ es. entry-in es (index-of t es)) (entries-read (k .page)) ∙ at-entries-of half s i r (omega (arith, f .most))) in
+      subst⁻¹ (Leads half img t (l - 1)) same
+      (entry-leads (l - 1) (k .page) i r (index-started half s t (f .most) (omega (arith, f .first, k .page .begun))))
 
 -- ---- the counts, level by level
 
@@ -270,31 +270,31 @@ small-apart half s t X l x y low h = subst⁻¹ Small h (omega (arith, one-most 
 
 -- ---- where the counts go on, by what was found
 
-module _ {img : List ℕ} {t l : ℕ} {e : Entry} {m : Found} (k : Found-below img t l e m) {n : Need}
-    (h : n ≡ one-cut 12 t (l - 1) (m .entry) (image-of 12 img)) where
+module _ {half : ℕ} {img : List ℕ} {t l : ℕ} {e : Entry} {m : Found} (k : Found-below half img t l e m) {n : Need}
+    (h : n ≡ one-cut half t (l - 1) (m .entry) (image-of half img)) where
   pub one-small : Small n
-  one-small = small-one 12 (image-of 12 img) (l - 1) (m .entry) (omega (arith, k .page .low)) t h
+  one-small = small-one half (image-of half img) (l - 1) (m .entry) (omega (arith, k .page .low)) t h
 
-  pub one-inner : {r : Need} → r ≡ page-need 12 (m .count) n → r ≡ one-cut 12 t l e (image-of 12 img)
-  one-inner = inner-one 12 t (image-of 12 img) l e (k .inner) (k .is) h
+  pub one-inner : {r : Need} → r ≡ page-need half (m .count) n → r ≡ one-cut half t l e (image-of half img)
+  one-inner = inner-one half t (image-of half img) l e (k .inner) (k .is) h
 
-module _ {img : List ℕ} {s t l : ℕ} {e : Entry} {m m′ : Found} (k : Both-below img s t l e m m′) where
+module _ {half : ℕ} {img : List ℕ} {s t l : ℕ} {e : Entry} {m m′ : Found} (k : Both-below half img s t l e m m′) where
   abbrev X : Image
-  X = image-of 12 img
+  X = image-of half img
 
   abbrev on : Bool → Need
-  on b = cond b (both-cuts 12 s t (l - 1) (m .entry) X) (parted-cuts 12 s t (l - 1) (m .entry) (m′ .entry) X)
+  on b = cond b (both-cuts half s t (l - 1) (m .entry) X) (parted-cuts half s t (l - 1) (m .entry) (m′ .entry) X)
 
-  module _ {n : Need} (h : n ≡ both-cuts 12 s t (l - 1) (m .entry) X) where
+  module _ {n : Need} (h : n ≡ both-cuts half s t (l - 1) (m .entry) X) where
     pub same-small : Small n
-    same-small = small-both 12 X (l - 1) (m .entry) (omega (arith, k .0 .page .low)) s t h
+    same-small = small-both half X (l - 1) (m .entry) (omega (arith, k .0 .page .low)) s t h
 
-    pub same-inner : {r : Need} → m .index ≡ m′ .index → r ≡ page-need 12 (m .count) n → r ≡ both-cuts 12 s t l e X
-    same-inner same = inner-both 12 s t X l e (k .0 .inner) (k .0 .is) (k .1 .is) (h ∙ ap on (sym (eq-eqb (m .index) (m′ .index) same)))
+    pub same-inner : {r : Need} → m .index ≡ m′ .index → r ≡ page-need half (m .count) n → r ≡ both-cuts half s t l e X
+    same-inner same = inner-both half s t X l e (k .0 .inner) (k .0 .is) (k .1 .is) (h ∙ ap on (sym (eq-eqb (m .index) (m′ .index) same)))
 
-  module _ {n : Need} (h : n ≡ parted-cuts 12 s t (l - 1) (m .entry) (m′ .entry) X) where
+  module _ {n : Need} (h : n ≡ parted-cuts half s t (l - 1) (m .entry) (m′ .entry) X) where
     pub apart-small : Small n
-    apart-small = small-apart 12 s t X (l - 1) (m .entry) (m′ .entry) (omega (arith, k .0 .page .low)) h
+    apart-small = small-apart half s t X (l - 1) (m .entry) (m′ .entry) (omega (arith, k .0 .page .low)) h
 
-    pub apart-inner : {r : Need} → ¬ (m .index ≡ m′ .index) → r ≡ page-need 12 (m .count) n → r ≡ both-cuts 12 s t l e X
-    apart-inner other = inner-both 12 s t X l e (k .0 .inner) (k .0 .is) (k .1 .is) (h ∙ ap on (sym (ne-eqb (m .index) (m′ .index) other)))
+    pub apart-inner : {r : Need} → ¬ (m .index ≡ m′ .index) → r ≡ page-need half (m .count) n → r ≡ both-cuts half s t l e X
+    apart-inner other = inner-both half s t X l e (k .0 .inner) (k .0 .is) (k .1 .is) (h ∙ ap on (sym (ne-eqb (m .index) (m′ .index) other)))

@@ -1,5 +1,5 @@
 -- The bytes of a sound image hold the image that is read from them. Assumes nothing.
-use Prim.Native.Nat.{ℕ}
+use Prim.Native.Nat.{ℕ, _≤_}
 use mathlib.Core.Path.{_≡_, sym}
 use mathlib.Core.Bool.{true}
 use mathlib.Core.List.{List}
@@ -14,15 +14,18 @@ use Rattle.invariant.proofs.From.Canonical.{canonical, canonical-kept}
 use Rattle.invariant.proofs.From.Invariant.{pages-range}
 use Rattle.store.specs.Encoding.{Encodes}
 
-pub sound-holds : (img : List ℕ) → Bytes img → sound 12 img ≡ true → Encodes img (image-of 12 img)
+pub sound-holds : {half : ℕ} → 2 ≤ half → half ≤ 12 → (img : List ℕ) → Bytes img → sound half img ≡ true
+    → Encodes half img (image-of half img)
 unfolding image-of page-at
-sound-holds img b e =
-    let f : Sound-facts 12 img = sound-facts 12 img e in
-    let r = pages-range 12 img (f .fit .whole) in
+sound-holds {half} least most img b e =
+    let f : Sound-facts half img = sound-facts half img e in
+    let r = pages-range half img (f .fit .whole) in
     record {
-      bytes = sym (canonical 12 img (omega arith) b e);
-      sized-kept = canonical-kept 12 img b e;
-      head-fits = head-of-fits _ (bytes-part img 0 512 b);
+      half-least = least;
+      half-most = most;
+      bytes = sym (canonical half img (omega arith) b e);
+      sized-kept = canonical-kept half img b e;
+      head-fits = head-of-fits _ (bytes-part img _ _ b);
       pages-least = omega (arith, r, f .fit .head .pages-is);
       pages-most = omega (arith, r, f .fit .head .pages-is);
     }

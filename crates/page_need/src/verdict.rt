@@ -14,7 +14,7 @@ ghost use Rattle.page_need.specs.Leads.{Sound-image};
 
 // What the two cuts ask for from the root down: "nothing if t is END".
 fn cuts_need(img: &[u8], h: Head, s: u32, e: u32) -> Need
-    requires { ⌜ Sound-image (now img) h ⌝ }
+    requires { ⌜ Sound-image 12 (now img) h ⌝ }
     requires { ⌜ s < e ⌝ }
     ensures { λ r. ⌜ r ≡ cuts-need 12 s e (image-of 12 (now (img .entry))) ⌝ }
 {
@@ -28,7 +28,7 @@ fn cuts_need(img: &[u8], h: Head, s: u32, e: u32) -> Need
 // 24's condition, of a sound image and its head, before anything is written: "A and B together take more pages than chain and
 // pages from the high mark hold".
 pub fn lacks_pages(img: &[u8], h: Head, s: u32, e: u32) -> bool
-    requires { ⌜ Sound-image (now img) h ⌝ }
+    requires { ⌜ Sound-image 12 (now img) h ⌝ }
     requires { ⌜ s < e ⌝ }
     ensures { λ r. ⌜ r ≡ lacks-pages 12 s e (image-of 12 (now (img .entry))) ⌝ }
 {

@@ -13,7 +13,7 @@ ghost use Rattle.page_need.specs.Leads.{Leads};
 
 // What the cut at t asks for from an entry down that only it meets.
 pub(crate) fn one_cut(img: &[u8], t: u32, level: u32, e: Entry) -> Need
-    requires { ⌜ Leads (now img) t level e ⌝ }
+    requires { ⌜ Leads 12 (now img) t level e ⌝ }
     ensures { λ r. ⌜ r ≡ one-cut 12 t level e (image-of 12 (now (img .entry))) ⌝ }
 {
     if level == 0 {
@@ -25,8 +25,8 @@ pub(crate) fn one_cut(img: &[u8], t: u32, level: u32, e: Entry) -> Need
 
 // What the cut at s asks for from x down and the cut at t from y down, in pages of their own.
 fn parted_cuts(img: &[u8], s: u32, t: u32, level: u32, x: Entry, y: Entry) -> Need
-    requires { ⌜ Leads (now img) s level x ⌝ }
-    requires { ⌜ Leads (now img) t level y ⌝ }
+    requires { ⌜ Leads 12 (now img) s level x ⌝ }
+    requires { ⌜ Leads 12 (now img) t level y ⌝ }
     ensures { λ r. ⌜ r ≡ parted-cuts 12 s t level x y (image-of 12 (now (img .entry))) ⌝ }
 {
     add_needs(one_cut(img, s, level, x), one_cut(img, t, level, y))
@@ -34,7 +34,7 @@ fn parted_cuts(img: &[u8], s: u32, t: u32, level: u32, x: Entry, y: Entry) -> Ne
 
 // What the cuts at s and at t ask for from an entry down that both meet: they go on to the same entry of its page, or part there.
 pub(crate) fn both_cuts(img: &[u8], s: u32, t: u32, level: u32, e: Entry) -> Need
-    requires { ⌜ Leads (now img) s level e ⌝ }
+    requires { ⌜ Leads 12 (now img) s level e ⌝ }
     requires { ⌜ s < t ⌝ }
     ensures { λ r. ⌜ r ≡ both-cuts 12 s t level e (image-of 12 (now (img .entry))) ⌝ }
 {

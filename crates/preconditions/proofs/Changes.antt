@@ -16,20 +16,17 @@ use Rattle.invariant.proofs.Change.{before-B, before-C, before-D, before-E, ste
 use Rattle.preconditions.proofs.Combines.{span-combinable}
 use Rattle.preconditions.proofs.Heals.{structure-healable}
 
-module _ (s e : ℕ) (p : Pair) {X : Image} {Y : State} (g : Invariant 12 X Y) (f : Effective (X .head .kind) p)
-    (few : X .head .changes < most-changes) (enough : lacks-pages 12 s e X ≡ false) where
-  two : 2 ≤ 12
-  two = omega arith
-
-  pub changeable : Changeable (X .head .kind) s e p X
+module _ {half : ℕ} (two : 2 ≤ half) (s e : ℕ) (p : Pair) {X : Image} {Y : State} (g : Invariant half X Y) (f : Effective (X .head .kind) p)
+    (few : X .head .changes < most-changes) (enough : lacks-pages half s e X ≡ false) where
+  pub changeable : Changeable half (X .head .kind) s e p X
   changeable =
       let b = before-B two s e p g f few enough in
       let c = before-C two s e p g f few enough in
       record {
-        for-A = structure-cuttable s X Y (g .structure) b;
-        for-B = structure-cuttable e _ _ b c;
+        for-A = structure-cuttable two s X Y (g .structure) b;
+        for-B = structure-cuttable two e _ _ b c;
         for-C = span-combinable (task (X .head .kind) s e p) f c;
-        for-D = structure-healable s (before-D two s e p g f few enough);
-        for-E = structure-healable e (before-E two s e p g f few enough);
+        for-D = structure-healable two s (before-D two s e p g f few enough);
+        for-E = structure-healable two e (before-E two s e p g f few enough);
         for-count = record { room = omega (arith, few, steady-five two s e p g f few enough .changes) };
       }

@@ -158,7 +158,7 @@ module _ (q : SpanEffect) where
       END (root-node (Y .tree)) X all (g .shown .below) (tree-apart X g) refl))
 
 -- The image that step C finds is ready for it, whatever the span, if its effect is one of the image's kind.
-pub span-combinable : {kind changes : ℕ} {X : Image} {Y : State} (q : SpanEffect) → Effective kind (q .effect)
-    → Structure 12 kind changes X Y
+pub span-combinable : {half kind changes : ℕ} {X : Image} {Y : State} (q : SpanEffect) → Effective kind (q .effect)
+    → Structure half kind changes X Y
     → Span-combinable q X
 span-combinable {X = X} q f g = record { least = omega (arith, g .shown .height); root = root-ready q X f g }

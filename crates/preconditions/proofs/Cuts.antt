@@ -11,7 +11,6 @@ use Rattle.lists.proofs.Totals.{hit-self}
 use Rattle.rule.specs.Time.{END}
 use Rattle.rule.specs.Pairs.{none, combine}
 use Rattle.page.specs.declared.Entry.{Entry}
-use Rattle.page.specs.Fit.{most-height}
 use Rattle.page.specs.Layout.{capacity}
 use Rattle.page.specs.Entries.{entry, index-of}
 use Rattle.image.specs.Images.{Image}
@@ -37,7 +36,7 @@ use Rattle.refinement.proofs.Paths.{there, entries-are, at-flat, has-index, sto
 use Rattle.refinement.proofs.Formed.{formed-full}
 use Rattle.invariant.specs.Invariant.{Structure}
 use Rattle.invariant.proofs.To.Known.{structure-once}
-use Rattle.invariant.proofs.To.Height.{height-most}
+use Rattle.invariant.proofs.To.Height.{height-low}
 use Rattle.preconditions.proofs.Paths.{Known, known-searchable, known-below, structure-known}
 use Rattle.preconditions.proofs.Spares.{Single, next-mark, takable}
 
@@ -54,31 +53,31 @@ grew-takable {S = S} {r′ = r′} g single h =
     λ q. rw (g .rest) (later-held q (g .took) S) in
     takable (g .supplied) (λ q. omega (arith, single q, k q)) (omega (arith, steady-of (g .head) .pages))
 
-module _ (t l : ℕ) (x : Node (Subtree (suc l))) (S : Supply) where
+module _ (half t l : ℕ) (x : Node (Subtree (suc l))) (S : Supply) where
   -- the high mark is never lower than what the pages below left
-  inner-mark : inner 12 t l x S .supply .mark ≤ cut-node 12 t (suc l) x S .supply .mark
+  inner-mark : inner half t l x S .supply .mark ≤ cut-node half t (suc l) x S .supply .mark
   unfolding not-split split
   inner-mark =
-      let R = inner 12 t l x S .supply in
-      cut-case 12 t l x S (λ C. R .mark ≤ C .supply .mark) (omega arith) (next-mark R)
+      let R = inner half t l x S .supply in
+      cut-case half t l x S (λ C. R .mark ≤ C .supply .mark) (omega arith) (next-mark R)
 
   -- "25 entries split": the page takes one more
-  splits : Stocked (suc l) x → 1 < length (inner 12 t l x S .became) → 24 ≤ length (x .subtree)
-      → cut-node 12 t (suc l) x S .supply ≡ without-next (inner 12 t l x S .supply)
+  splits : Stocked (suc l) x → 1 < length (inner half t l x S .became) → capacity half ≤ length (x .subtree)
+      → cut-node half t (suc l) x S .supply ≡ without-next (inner half t l x S .supply)
   unfolding cut-node split-if-full split
   splits k two full =
-      let r = inner 12 t l x S in
-      let es = inner-nodes 12 t l x S in
+      let r = inner half t l x S in
+      let es = inner-nodes half t l x S in
       let n : length es + 1 ≡ length (r .became) + length (x .subtree) =
       length-splice (index-of t (flat (x .subtree))) (r .became) (x .subtree) (has-index l t x k) in
-      ap (λ b. cond b (not-split x es (r .supply)) (split-if-full 12 x es (r .supply)) .supply)
+      ap (λ b. cond b (not-split x es (r .supply)) (split-if-full half x es (r .supply)) .supply)
       (ne-eqb (length (r .became)) 1 (λ e. omega arith))
-      ∙ ap (λ b. cond b (not-split x es (r .supply)) (split 12 x es (r .supply)) .supply) (lt-leb (length es) (capacity 12) (omega arith))
+      ∙ ap (λ b. cond b (not-split x es (r .supply)) (split half x es (r .supply)) .supply) (lt-leb (length es) (capacity half) (omega arith))
 
 -- ---- the pages on the path
 
-module _ {kind changes : ℕ} (t : ℕ) {X : Image} {S : Supply} (s : Supplied X S) (single : Single (λ q. times-spare q S)) where
-  module _ (l : ℕ) (x : Node (Subtree (suc l))) {lo hi sums counts : ℕ} (k : Known 12 kind changes t X S l lo hi sums counts x) where
+module _ {half kind changes : ℕ} (t : ℕ) {X : Image} {S : Supply} (s : Supplied X S) (single : Single (λ q. times-spare q S)) where
+  module _ (l : ℕ) (x : Node (Subtree (suc l))) {lo hi sums counts : ℕ} (k : Known half kind changes t X S l lo hi sums counts x) where
     abbrev p : ℕ
     p = x .entry .child
 
@@ -88,27 +87,27 @@ module _ {kind changes : ℕ} (t : ℕ) {X : Image} {S : Supply} (s : Supplied X
     entry-there : entry-for t p X ≡ y .entry
     entry-there = rw (entries-are l X x (k .shown)) (at-flat l (x .subtree) (index-of t (flat (x .subtree))))
 
-    grew : CutIs 12 t l y X S
+    grew : CutIs half t l y X S
     grew =
         let n = k .stocked in
-        cut-node-is 12 t l y X S (stores-on l t x n X (k .shown)) (stocked-on l t x n) s (once-there t l x S n (k .once))
+        cut-node-is half t l y X S (stores-on l t x n X (k .shown)) (stocked-on l t x n) s (once-there t l x S n (k .once))
 
-    -- where the entry below becomes two in a page of 24, a page can be taken
+    -- where the entry below becomes two in a full page, a page can be taken
     abbrev Room : Entry → Type 0
-    Room e = 1 < length (cut-entry 12 t l e X .became) → 24 ≤ length (entries X p) → Takable (cut-entry 12 t l e X .image)
+    Room e = 1 < length (cut-entry half t l e X .became) → capacity half ≤ length (entries X p) → Takable (cut-entry half t l e X .image)
 
-    page-room : cut-node 12 t (suc l) x S .supply .mark ≤ X .head .pages → Room (y .entry)
+    page-room : cut-node half t (suc l) x S .supply .mark ≤ X .head .pages → Room (y .entry)
     page-room m two full =
-        let a : length (cut-entry 12 t l (y .entry) X .became) ≡ length (inner 12 t l x S .became) =
-        ap length (grew .same) ∙ length-map (inner 12 t l x S .became) (λ z. z .entry) in
+        let a : length (cut-entry half t l (y .entry) X .became) ≡ length (inner half t l x S .became) =
+        ap length (grew .same) ∙ length-map (inner half t l x S .became) (λ z. z .entry) in
         let n : length (entries X p) ≡ length (x .subtree) = ap length (entries-are l X x (k .shown))
         ∙ length-map (x .subtree) (λ z. z .entry) in
-        let e = splits t l x S (k .stocked) (omega arith) (omega arith) in
+        let e = splits half t l x S (k .stocked) (omega arith) (omega arith) in
         grew-takable grew single (omega (arith, ap (λ (R : Supply). R .mark) e))
 
     -- no page is held twice, so what is cut below writes neither this page nor takes it
     abbrev Kept : Entry → Type 0
-    Kept e = cut-entry 12 t l e X .image .page p ≡ X .page p
+    Kept e = cut-entry half t l e X .image .page p ≡ X .page p
 
     page-kept : Kept (y .entry)
     page-kept =
@@ -124,7 +123,7 @@ module _ {kind changes : ℕ} (t : ℕ) {X : Image} {S : Supply} (s : Supplied X
           later-held p (grew .took) S,
         ))
 
-    page-cuttable : l < 255 → cut-node 12 t (suc l) x S .supply .mark ≤ X .head .pages → Page-cuttable l p t X
+    page-cuttable : l < 255 → cut-node half t (suc l) x S .supply .mark ≤ X .head .pages → Page-cuttable half l p t X
     page-cuttable low m =
         record {
           searchable = known-searchable k;
@@ -134,15 +133,15 @@ module _ {kind changes : ℕ} (t : ℕ) {X : Image} {S : Supply} (s : Supplied X
         }
 
   entry-cuttable : (l : ℕ) (x : Node (Subtree (suc l))) {lo hi sums counts : ℕ}
-      → Known 12 kind changes t X S l lo hi sums counts x → l < 255
-      → cut-node 12 t (suc l) x S .supply .mark ≤ X .head .pages
-      → Entry-cuttable (suc l) (x .entry) t X
+      → Known half kind changes t X S l lo hi sums counts x → l < 255
+      → cut-node half t (suc l) x S .supply .mark ≤ X .head .pages
+      → Entry-cuttable half (suc l) (x .entry) t X
   unfolding Entry-cuttable
   entry-cuttable zero x k low m = (page-cuttable zero x k low m, tt)
   entry-cuttable (suc l) x k low m = (
     page-cuttable (suc l) x k low m,
-    subst⁻¹ (λ e. Entry-cuttable (suc l) e t X) (entry-there (suc l) x k)
-        (entry-cuttable l (there (suc l) t (x .subtree)) (known-below k .known) (omega arith) (omega (arith, inner-mark t (suc l) x S))),
+    subst⁻¹ (λ e. Entry-cuttable half (suc l) e t X) (entry-there (suc l) x k)
+        (entry-cuttable l (there (suc l) t (x .subtree)) (known-below k .known) (omega arith) (omega (arith, inner-mark half t (suc l) x S))),
   )
 
 -- ---- from the root
@@ -160,7 +159,7 @@ grown-two l [] R h = absurd (omega arith)
 grown-two l (x ∷ []) R h = absurd (omega arith)
 grown-two l (x ∷ y ∷ es) R h = refl
 
-module _ {kind changes : ℕ} (t : ℕ) (X : Image) (Y : State) (g : Structure 12 kind changes X Y) where
+module _ {half kind changes : ℕ} (two : 2 ≤ half) (t : ℕ) (X : Image) (Y : State) (g : Structure half kind changes X Y) where
   abbrev l : ℕ
   l = Y .tree .level
 
@@ -168,64 +167,64 @@ module _ {kind changes : ℕ} (t : ℕ) (X : Image) (Y : State) (g : Structure 1
   x₀ = root-node (Y .tree)
 
   abbrev r₀ : Cutting (Subtree (suc l))
-  r₀ = cut-node 12 t (suc l) x₀ (Y .supply)
+  r₀ = cut-node half t (suc l) x₀ (Y .supply)
 
-  low : X .head .height ≤ most-height
-  low = height-most X Y g
+  low : X .head .height ≤ 10
+  low = height-low X Y g two
 
   full : Full Y
-  full = formed-full 12 Leaf (omega arith) Y (g .formed)
+  full = formed-full half Leaf two Y (g .formed)
 
   single : Single (λ q. times-spare q (Y .supply))
   single zero = omega (arith, held-is 0 Y, g .head-apart)
   single (suc q) = omega (arith, held-is (suc q) Y, g .once (suc q) (omega arith))
 
-  root-grew : CutIs 12 t (suc l) x₀ X (Y .supply)
+  root-grew : CutIs half t (suc l) x₀ X (Y .supply)
   unfolding Full
   root-grew =
-      cut-node-is 12 t (suc l) x₀ X (Y .supply) (g .shown .below) full (g .shown .supplied) (structure-known (omega arith) t g .once)
+      cut-node-is half t (suc l) x₀ X (Y .supply) (g .shown .below) full (g .shown .supplied) (structure-known two t g .once)
 
   root-entry-is : root-entry X ≡ x₀ .entry
   unfolding root-entry root-node
   root-entry-is = ap (λ (p : ℕ). entry 0 none p) (g .shown .root)
 
-  from-root-is : from-root t X ≡ cut-entry 12 t (suc l) (x₀ .entry) X
-  from-root-is = λ j. cut-entry 12 t (g .shown .height j) (root-entry-is j) X
+  from-root-is : from-root half t X ≡ cut-entry half t (suc l) (x₀ .entry) X
+  from-root-is = λ j. cut-entry half t (g .shown .height j) (root-entry-is j) X
 
   -- the supply after the cut, where t is no END
-  cut-supply : t < END → cut 12 t Y .supply ≡ grow-if-split l (r₀ .became) (r₀ .supply) .supply
+  cut-supply : t < END → cut half t Y .supply ≡ grow-if-split l (r₀ .became) (r₀ .supply) .supply
   unfolding cut
   cut-supply h = ap (λ b. cond b Y (grow-if-split l (r₀ .became) (r₀ .supply)) .supply) (lt-leb END t h)
 
   abbrev Root-room : CuttingX → Type 0
   Root-room r = 1 < length (r .became) → Takable (r .image)
 
-  root-room : grow-if-split l (r₀ .became) (r₀ .supply) .supply .mark ≤ X .head .pages → Root-room (cut-entry 12 t (suc l) (x₀ .entry) X)
-  root-room m two =
-      let k : length (cut-entry 12 t (suc l) (x₀ .entry) X .became) ≡ length (r₀ .became) =
+  root-room : grow-if-split l (r₀ .became) (r₀ .supply) .supply .mark ≤ X .head .pages → Root-room (cut-entry half t (suc l) (x₀ .entry) X)
+  root-room m more =
+      let k : length (cut-entry half t (suc l) (x₀ .entry) X .became) ≡ length (r₀ .became) =
       ap length (root-grew .same) ∙ length-map (r₀ .became) (λ z. z .entry) in
       let e = grown-two l (r₀ .became) (r₀ .supply) (omega arith) in
       grew-takable root-grew single (omega (arith, ap (λ (R : Supply). R .mark) e))
 
-  root-cuttable : t < END → cut 12 t Y .supply .mark ≤ X .head .pages → Root-cuttable t X
+  root-cuttable : t < END → cut half t Y .supply .mark ≤ X .head .pages → Root-cuttable half t X
   root-cuttable h m =
       let c = ap (λ (R : Supply). R .mark) (cut-supply h) in
       record {
         low = omega (arith, low);
         entry =
-            subst₂ (λ n e. Entry-cuttable n e t X) (sym (g .shown .height)) (sym root-entry-is)
-            (entry-cuttable t (g .shown .supplied) single l x₀ (structure-known (omega arith) t g) (omega (arith, low, g .shown .height))
+            subst₂ (λ n e. Entry-cuttable half n e t X) (sym (g .shown .height)) (sym root-entry-is)
+            (entry-cuttable t (g .shown .supplied) single l x₀ (structure-known two t g) (omega (arith, low, g .shown .height))
             (omega (arith, grown-mark l (r₀ .became) (r₀ .supply))));
         room = subst⁻¹ Root-room from-root-is (root-room (omega arith));
       }
 
-  after : Stepped X (cut-x 12 t X) Y (cut 12 t Y) (cut-names 12 (combine 1) t X)
-  after = cut-is 12 (combine 1) t X Y (g .shown) (structure-once g) full
+  after : Stepped X (cut-x half t X) Y (cut half t Y) (cut-names half (combine 1) t X)
+  after = cut-is half (combine 1) t X Y (g .shown) (structure-once g) full
 
   -- An image as it is before a cut can be cut, if the high mark then stays within the image.
-  pub cuttable : cut-x 12 t X .head .mark ≤ X .head .pages → Cuttable t X
+  pub cuttable : cut-x half t X .head .mark ≤ X .head .pages → Cuttable half t X
   cuttable m = record { root = λ h. root-cuttable h (omega (arith, after .shown .supplied .mark)) }
 
   -- so it does if the image after the cut has the structure
-  pub structure-cuttable : {Z : State} → Structure 12 kind changes (cut-x 12 t X) Z → Cuttable t X
+  pub structure-cuttable : {Z : State} → Structure half kind changes (cut-x half t X) Z → Cuttable half t X
   structure-cuttable h = cuttable (omega (arith, h .ranges .mark-most, after .steady .pages))

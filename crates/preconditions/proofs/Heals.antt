@@ -45,7 +45,7 @@ use Rattle.refinement.proofs.Heal.{stocked-two, may, may-within, shown′, heal
 use Rattle.invariant.specs.Invariant.{Structure}
 use Rattle.invariant.proofs.To.Weights.{Weighed, weighed-all, weighed-below}
 use Rattle.invariant.proofs.To.Known.{chain-short}
-use Rattle.invariant.proofs.To.Height.{height-most}
+use Rattle.invariant.proofs.To.Height.{height-low}
 use Rattle.preconditions.proofs.Pairs.{below-combinable}
 use Rattle.preconditions.proofs.Paths.{page-is, Known, here-inside, child-inside, known-searchable, Below, known-below}
 use Rattle.preconditions.proofs.Paths.{structure-known}
@@ -114,7 +114,7 @@ push-ready-at kind changes slow Z l sums counts x s w j n i =
     (push-ready kind changes slow Z l sums counts z (all-at j (no-node (suc l)) (subtrees-represented (suc l) Z x s) n) i
     (all-at j (no-node (suc l)) w n))
 
-module _ (kind changes t : ℕ) (S : Supply) where
+module _ (half kind changes t : ℕ) (S : Supply) where
   abbrev rule : Pair → Pair → Pair
   rule = combine kind
 
@@ -125,16 +125,16 @@ module _ (kind changes t : ℕ) (S : Supply) where
       → (eqb kind 1 ≡ true → sums ≤ most-value * changes)
       → (eqb kind 1 ≡ true → counts ≤ changes)
       → All (λ x. Weighed kind changes l sums counts x) es
-      → All (λ x. Weighed kind changes l sums counts x) (heal-nodes 12 rule t l es S .nodes)
+      → All (λ x. Weighed kind changes l sums counts x) (heal-nodes half rule t l es S .nodes)
   nodes-weighed l sums counts es a b w =
-      weighed-all kind changes l sums counts (heal-nodes 12 rule t l es S .nodes)
-      (λ e. nodes-within (sums-bounded kind) (most-value * changes) 12 t l sums es S (a e) (all-weaken (λ x v. v .by-sum e) w))
-      (λ e. nodes-within (counts-bounded kind e) changes 12 t l counts es S (b e) (all-weaken (λ x v. v .by-count e) w))
-      (λ e. nodes-within (values-bounded kind e) 0 12 t l 0 es S (omega arith) (all-weaken (λ x v. v .by-value e) w))
+      weighed-all kind changes l sums counts (heal-nodes half rule t l es S .nodes)
+      (λ e. nodes-within (sums-bounded kind) (most-value * changes) half t l sums es S (a e) (all-weaken (λ x v. v .by-sum e) w))
+      (λ e. nodes-within (counts-bounded kind e) changes half t l counts es S (b e) (all-weaken (λ x v. v .by-count e) w))
+      (λ e. nodes-within (values-bounded kind e) 0 half t l 0 es S (omega arith) (all-weaken (λ x v. v .by-value e) w))
 
   -- what it leaves of the page under x
   abbrev left : (l : ℕ) → Node (Subtree (suc l)) → Healing (Subtree l)
-  left l x = heal-nodes 12 rule t l (x .subtree) S
+  left l x = heal-nodes half rule t l (x .subtree) S
 
   abbrev with-left : (l : ℕ) → Node (Subtree (suc l)) → Node (Subtree (suc l))
   with-left l x = record { entry = x .entry; subtree = left l x .nodes }
@@ -156,11 +156,11 @@ module _ (kind changes t : ℕ) (S : Supply) where
     -- ---- the image once the page under x is healed
 
     abbrev after : (l : ℕ) → Node (Subtree (suc l)) → Image
-    after l x = heal-page 12 rule t l (x .entry .child) X
+    after l x = heal-page half rule t l (x .entry .child) X
 
-    module _ {l lo hi sums counts : ℕ} {x : Node (Subtree (suc l))} (k : Known 12 kind changes t X S l lo hi sums counts x) where
-      healed : Healed l x X (after l x) S (left l x) (may 12 rule t l x X)
-      healed = heal-node-is 12 rule t l x X S (k .shown) (k .stocked) s (k .once)
+    module _ {l lo hi sums counts : ℕ} {x : Node (Subtree (suc l))} (k : Known half kind changes t X S l lo hi sums counts x) where
+      healed : Healed l x X (after l x) S (left l x) (may half rule t l x X)
+      healed = heal-node-is half rule t l x X S (k .shown) (k .stocked) s (k .once)
 
       same-pages : after l x .head .pages ≡ X .head .pages
       same-pages = steady-of (healed .head) .pages
@@ -169,12 +169,12 @@ module _ (kind changes t : ℕ) (S : Supply) where
       tree-page-after = tree-page (after l x) l (with-left l x) (healed .shows) (omega (arith, here-inside k, same-pages))
 
       room-after : l < 254 → suc (after l x .head .chain) < 2 ^ 32
-      room-after low = omega (arith, healed .supplied .length-true, heal-chain 12 rule t l (x .subtree) S, few)
+      room-after low = omega (arith, healed .supplied .length-true, heal-chain half rule t l (x .subtree) S, few)
 
     -- ---- one level up
 
     module _ (l lo hi sums counts : ℕ) (x : Node (Subtree (suc (suc l)))) (low : suc l < 254)
-        (k : Known 12 kind changes t X S (suc l) lo hi sums counts x) where
+        (k : Known half kind changes t X S (suc l) lo hi sums counts x) where
       abbrev i : ℕ
       i = index-of t (flat (x .subtree))
 
@@ -187,7 +187,7 @@ module _ (kind changes t : ℕ) (S : Supply) where
       abbrev x′ : Node (Subtree (suc (suc l)))
       x′ = record { entry = x .entry; subtree = splice i (with-left l y ∷ []) (x .subtree) }
 
-      below : Below 12 kind changes t X S l sums counts x
+      below : Below half kind changes t X S l sums counts x
       below = known-below k
 
       pages : Z .head .pages ≡ X .head .pages
@@ -197,7 +197,7 @@ module _ (kind changes t : ℕ) (S : Supply) where
       has = has-index (suc l) t x (k .stocked)
 
       shown : Stores (suc (suc l)) (Z .page) x′
-      shown = shown′ 12 rule t l x X S (k .shown) (k .stocked) (k .once) Z (left l y) (healed (below .known))
+      shown = shown′ half rule t l x X S (k .shown) (k .stocked) (k .once) Z (left l y) (healed (below .known))
 
       same-entries : flat (x′ .subtree) ≡ flat (x .subtree)
       same-entries = flat-same (suc l) i (with-left l y ∷ []) (x .subtree) has refl
@@ -237,7 +237,7 @@ module _ (kind changes t : ℕ) (S : Supply) where
           )
 
       -- the child page was left short
-      rebalanceable : short 12 (y .entry .child) Z ≡ true → Rebalanceable l (x .entry .child) i Z
+      rebalanceable : short half (y .entry .child) Z ≡ true → Rebalanceable half l (x .entry .child) i Z
       unfolding short
       rebalanceable e =
           let n : suc (left-of i) < length (x .subtree) = left-in i (length (x .subtree)) (stocked-two l x (k .stocked)) has in
@@ -255,29 +255,29 @@ module _ (kind changes t : ℕ) (S : Supply) where
                   right = sinks (suc (left-of i)) n;
                   apart = apart (left-of i) n;
                 };
-            short = subst⁻¹ (λ (q : ℕ). length (entries Z q) < 12) c (ltb-true (length (entries Z (y .entry .child))) 12 e);
+            short = subst⁻¹ (λ (q : ℕ). length (entries Z q) < half) c (ltb-true (length (entries Z (y .entry .child))) half e);
             room = room-after (below .known) (omega arith);
           }
 
-      inner : Page-healable kind t l (y .entry .child) X
-          → Inner-healable kind t l (x .entry .child) (λ q U. Page-healable kind t l q U) X
+      inner : Page-healable half kind t l (y .entry .child) X
+          → Inner-healable half kind t l (x .entry .child) (λ q U. Page-healable half kind t l q U) X
       inner w =
           let p = x .entry .child in
           let e : entries X p ≡ flat (x .subtree) = entries-are (suc l) X x (k .shown) in
           let c : entry-for t p X .child ≡ y .entry .child =
           ap (λ (es : List Entry). at es (index-of t es) .child) e ∙ ap (λ (z : Entry). z .child) (at-flat (suc l) (x .subtree) i) in
-          let rebalances : Rebalanceable-if-short l p i (y .entry .child) Z =
+          let rebalances : Rebalanceable-if-short half l p i (y .entry .child) Z =
           record { tree-page = tree-page-after (below .known); rebalances = rebalanceable } in
           record {
             searchable = known-searchable k;
-            below = subst⁻¹ (λ (q : ℕ). Page-healable kind t l q X) c w;
+            below = subst⁻¹ (λ (q : ℕ). Page-healable half kind t l q X) c w;
             rebalances =
-                subst⁻¹ (λ (q : ℕ). Rebalanceable-if-short l p (index-of t (entries X p)) q (heal-page 12 rule t l q X)) c
-                (subst⁻¹ (λ (es : List Entry). Rebalanceable-if-short l p (index-of t es) (y .entry .child) Z) e rebalances);
+                subst⁻¹ (λ (q : ℕ). Rebalanceable-if-short half l p (index-of t (entries X p)) q (heal-page half rule t l q X)) c
+                (subst⁻¹ (λ (es : List Entry). Rebalanceable-if-short half l p (index-of t es) (y .entry .child) Z) e rebalances);
           }
 
-    page-heals : (l lo hi sums counts : ℕ) (x : Node (Subtree (suc l))) → l < 254 → Known 12 kind changes t X S l lo hi sums counts x
-        → Page-healable kind t l (x .entry .child) X
+    page-heals : (l lo hi sums counts : ℕ) (x : Node (Subtree (suc l))) → l < 254 → Known half kind changes t X S l lo hi sums counts x
+        → Page-healable half kind t l (x .entry .child) X
     unfolding Page-healable
     page-heals zero lo hi sums counts x low k = known-searchable k
     page-heals (suc l) lo hi sums counts x low k =
@@ -287,16 +287,16 @@ module _ (kind changes t : ℕ) (S : Supply) where
     -- ---- the root
 
     -- its only entry leads to one of the image's pages
-    only-inside : {l hi : ℕ} {x : Node (Subtree (suc l))} → Known 12 kind changes t X S l 0 hi 0 0 x → 1 ≤ l → length (left l x .nodes) ≡ 1
+    only-inside : {l hi : ℕ} {x : Node (Subtree (suc l))} → Known half kind changes t X S l 0 hi 0 0 x → 1 ≤ l → length (left l x .nodes) ≡ 1
         → In-image (node-at l (left l x .nodes) 0 .entry .child) (after l x)
     only-inside {l} {x = x} k some one =
         let q = node-at l (left l x .nodes) 0 .entry .child in
         let e : at (flat (left l x .nodes)) 0 .child ≡ q = ap (λ (z : Entry). z .child) (at-flat l (left l x .nodes) 0) in
-        let w : hit q q ≤ may 12 rule t l x X q = subst (λ (c : ℕ). hit q c ≤ may 12 rule t l x X q) e (healed k .only some one q) in
-        let d = k .inside q (omega (arith, w, hit-self q, may-within 12 rule t q l x X (k .shown) (k .stocked))) in
+        let w : hit q q ≤ may half rule t l x X q = subst (λ (c : ℕ). hit q c ≤ may half rule t l x X q) e (healed k .only some one q) in
+        let d = k .inside q (omega (arith, w, hit-self q, may-within half rule t q l x X (k .shown) (k .stocked))) in
         omega (arith, d, same-pages k)
 
-    collapsible : (l hi : ℕ) (x : Node (Subtree (suc l))) → l < 254 → Known 12 kind changes t X S l 0 hi 0 0 x
+    collapsible : (l hi : ℕ) (x : Node (Subtree (suc l))) → l < 254 → Known half kind changes t X S l 0 hi 0 0 x
         → after l x .head .height ≡ suc l
         → after l x .head .root ≡ x .entry .child
         → 1 ≤ l
@@ -324,7 +324,7 @@ module _ (kind changes t : ℕ) (S : Supply) where
           room = room-after k low;
         }
 
-    shrinkable : (l hi : ℕ) (x : Node (Subtree (suc l))) → l < 254 → Known 12 kind changes t X S l 0 hi 0 0 x
+    shrinkable : (l hi : ℕ) (x : Node (Subtree (suc l))) → l < 254 → Known half kind changes t X S l 0 hi 0 0 x
         → X .head .height ≡ suc l
         → X .head .root ≡ x .entry .child
         → Collapsible-if-single (after l x)
@@ -344,24 +344,24 @@ module _ (kind changes t : ℕ) (S : Supply) where
         }
 
 -- "Heal at t": an image with the structure is ready for it.
-pub structure-healable : {kind changes : ℕ} {X : Image} {Y : State} (t : ℕ) → Structure 12 kind changes X Y → Healable kind t X
+pub structure-healable : {half kind changes : ℕ} {X : Image} {Y : State} → 2 ≤ half → (t : ℕ) → Structure half kind changes X Y → Healable half kind t X
 unfolding root-node
-structure-healable {kind} {changes} {X} {Y} t g =
+structure-healable {half} {kind} {changes} {X} {Y} two t g =
     let l : ℕ = Y .tree .level in
     let x = root-node (Y .tree) in
     let sh = g .shown in
     let level : X .head .height - 1 ≡ l = omega (arith, sh .height) in
-    let k = structure-known (omega arith) t g in
-    let low : l < 254 = omega (arith, sh .height, height-most X Y g) in
+    let k = structure-known two t g in
+    let low : l < 254 = omega (arith, sh .height, height-low X Y g two) in
     let few : length (Y .supply .chain) ≤ 1024 = omega (arith, chain-short g, g .ranges .mark-most, g .ranges .pages-most) in
     let slow = g .changes-most in
     record {
       some = omega (arith, sh .height);
       page =
-          subst⁻¹ (λ (n : ℕ). Page-healable kind t n (X .head .root) X) level
-          (subst⁻¹ (λ (p : ℕ). Page-healable kind t l p X) (sh .root)
-          (page-heals kind changes t (Y .supply) X slow (sh .supplied) few l 0 END 0 0 x low k));
+          subst⁻¹ (λ (n : ℕ). Page-healable half kind t n (X .head .root) X) level
+          (subst⁻¹ (λ (p : ℕ). Page-healable half kind t l p X) (sh .root)
+          (page-heals half kind changes t (Y .supply) X slow (sh .supplied) few l 0 END 0 0 x low k));
       collapses =
-          subst⁻¹ (λ (Z : Image). Collapsible-if-single Z) (from-root sh (λ n p. heal-page 12 (combine kind) t n p X))
-          (shrinkable kind changes t (Y .supply) X slow (sh .supplied) few l END x low k (sh .height) (sh .root));
+          subst⁻¹ (λ (Z : Image). Collapsible-if-single Z) (from-root sh (λ n p. heal-page half (combine kind) t n p X))
+          (shrinkable half kind changes t (Y .supply) X slow (sh .supplied) few l END x low k (sh .height) (sh .root));
     }

@@ -14,17 +14,16 @@ use Rattle.page.specs.declared.Page.{Page}
 use Rattle.page.specs.Decoded.{entry-list}
 use Rattle.page.specs.Entries.{at, no-entry, last-from, index-of}
 use Rattle.page.specs.Fit.{end-at}
-use Rattle.page.specs.Layout.{entry-count, start-at, entry-at, entries-of}
+use Rattle.page.specs.Layout.{capacity, page-size, entry-count, start-at, entry-at, entries-of}
 use Rattle.page.proofs.Laws.Trees.{at-entries-of}
 use Rattle.image.specs.Images.{Image, page-at}
-use Rattle.access.proofs.Laws.{page-length}
 use Rattle.lookup.specs.Levels.{Page-searchable, Index-found}
 use Rattle.edit.proofs.Edits.{has-len}
 use Rattle.steps.specs.Supply.{entries}
 use Rattle.steps.specs.Combine.{next-start}
 use Rattle.store.specs.Encoding.{Encodes, Loaded}
 use Rattle.store.specs.Preconditions.{Tree-page, Has-entry, Searchable, found-in}
-use Rattle.store.proofs.Encoding.{Tree-read, tree-read, holds-length}
+use Rattle.store.proofs.Encoding.{Tree-read, tree-read, holds-within, holds-size}
 
 -- ---- the index of an instant is an entry's
 
@@ -44,33 +43,32 @@ searchable-entry {p = p} {t} {X} s = record { tree-page = s .tree-page; inside =
 
 -- ---- a decoded page
 
-pub loaded-len : {l : ℕ} {es : List Entry} {r : Page} → Loaded l es r → r .len ≡ length es
+pub loaded-len : {half l : ℕ} {es : List Entry} {r : Page} → Loaded half l es r → r .len ≡ length es
 loaded-len s = has-len (s .shows)
 
-pub loaded-at : {l : ℕ} {es : List Entry} {r : Page} {e : Entry} (i : ℕ) → Loaded l es r → e ≡ at (entry-list r) i → e ≡ at es i
+pub loaded-at : {half l : ℕ} {es : List Entry} {r : Page} {e : Entry} (i : ℕ) → Loaded half l es r → e ≡ at (entry-list r) i → e ≡ at es i
 loaded-at i s e = e ∙ ap (λ es. at es i) (s .shows .entries)
 
 -- ---- the page's bytes, lent as s
 
-module _ {img : List ℕ} {X : Image} {l p : ℕ} (h : Encodes img X) (t : Tree-page l p X) where
-  pub lent-within : 512 * p + 512 ≤ length img
-  lent-within = omega (arith, holds-length h, t .within .below)
+module _ {half : ℕ} {img : List ℕ} {X : Image} {l p : ℕ} (h : Encodes half img X) (t : Tree-page l p X) where
+  pub lent-within : page-size half * p + page-size half ≤ length img
+  lent-within = holds-within h (t .within)
 
-  module _ {s : List ℕ} (same : s ≡ page-at 12 img p) where
-    pub lent-size : length s ≡ 512
-    lent-size = ap length same ∙ page-length 12 img p lent-within
+  module _ {s : List ℕ} (same : s ≡ page-at half img p) where
+    pub lent-size : length s ≡ page-size half
+    lent-size = holds-size h (t .within) same
 
-    pub lent-read : Tree-read s l (entries X p)
-    unfolding page-at
-    lent-read = subst⁻¹ (λ b. Tree-read b l (entries X p)) same (tree-read h t)
+    pub lent-read : Tree-read half s l (entries X p)
+    lent-read = subst⁻¹ (λ b. Tree-read half b l (entries X p)) same (tree-read h t)
 
-    pub lent-count : {n : ℕ} → n ≡ entry-count s → (n ≡ length (entries X p)) × (n ≤ 24)
+    pub lent-count : {n : ℕ} → n ≡ entry-count s → (n ≡ length (entries X p)) × (n ≤ capacity half)
     lent-count e = let r = lent-read in (e ∙ r .len, omega (arith, r .len, r .few))
 
-    pub lent-entry : (i : ℕ) → i < length (entries X p) → entry-at 12 s i ≡ at (entries X p) i
+    pub lent-entry : (i : ℕ) → i < length (entries X p) → entry-at half s i ≡ at (entries X p) i
     lent-entry i n =
         let r = lent-read in
-        sym (at-entries-of 12 s i (omega (arith, r .len)) (omega (arith, r .few))) ∙ ap (λ es. at es i) (r .entries)
+        sym (at-entries-of half s i (omega (arith, r .len)) (omega (arith, r .few))) ∙ ap (λ es. at es i) (r .entries)
 
     -- where the i-th entry ends: at the next one's start, the last at the page's own end
     pub lent-end : (hi i : ℕ) → end-at s hi i ≡ next-start hi (drop (suc i) (entries X p))
@@ -84,11 +82,11 @@ module _ {img : List ℕ} {X : Image} {l p : ℕ} (h : Encodes img X) (t : Tree-
         ap (λ (e : Entry). e .start) (lent-entry (suc i) n) ∙ sym (ap (next-start hi) (drop-cons es (suc i) no-entry n)))
         (λ f. let n : length es ≤ suc i = omega (arith, ltb-false) in sym (ap (next-start hi) (drop-of-length-le es n)))
 
-    pub lent-slot : {i : ℕ} (instant : ℕ) → i ≡ index-of instant (entries-of 12 s) → i ≡ index-of instant (entries X p)
+    pub lent-slot : {i : ℕ} (instant : ℕ) → i ≡ index-of instant (entries-of half s) → i ≡ index-of instant (entries X p)
     lent-slot instant e = e ∙ ap (index-of instant) (lent-read .entries)
 
-module _ {img : List ℕ} {X : Image} {l p t : ℕ} (h : Encodes img X) (k : Searchable l p t X) {s : List ℕ}
-    (same : s ≡ page-at 12 img p) where
+module _ {half : ℕ} {img : List ℕ} {X : Image} {l p t : ℕ} (h : Encodes half img X) (k : Searchable l p t X) {s : List ℕ}
+    (same : s ≡ page-at half img p) where
   start-is : (i : ℕ) → i < length (entries X p) → start-at s i ≡ at (entries X p) i .start
   unfolding entry-at
   start-is i n = ap (λ (e : Entry). e .start) (lent-entry h (k .tree-page) same i n)
@@ -107,20 +105,20 @@ module _ {img : List ℕ} {X : Image} {l p t : ℕ} (h : Encodes img X) (k : Sea
         first = omega (arith, start-is 0 (k .some), k .first);
       }
 
-  pub lent-found : {n i : ℕ} {e : Entry} → n ≡ entry-count s → Index-found t s i → e ≡ entry-at 12 s i
+  pub lent-found : {n i : ℕ} {e : Entry} → n ≡ entry-count s → Index-found t s i → e ≡ entry-at half s i
       → record { count = n; index = i; entry = e } ≡ found-in t (entries X p)
   unfolding found-in
   lent-found {n} {i} {e} a b c =
       let r = lent-read h (k .tree-page) same in
       let es : List Entry = entries X p in
-      let here : i ≡ index-of t es = lent-slot h (k .tree-page) same t (b 12 (omega (arith, r .len, r .few))) in
+      let here : i ≡ index-of t es = lent-slot h (k .tree-page) same t (b half (omega (arith, r .len, r .few))) in
       let found : e ≡ at es (index-of t es) =
-      c ∙ ap (entry-at 12 s) here ∙ lent-entry h (k .tree-page) same (index-of t es) (slot-inside t es (k .some)) in
+      c ∙ ap (entry-at half s) here ∙ lent-entry h (k .tree-page) same (index-of t es) (slot-inside t es (k .some)) in
       let count : n ≡ length es = a ∙ r .len in
       λ j. record { count = count j; index = here j; entry = found j }
 
-  pub lent-inside : {i : ℕ} → Index-found t s i → i < 24
+  pub lent-inside : {i : ℕ} → Index-found t s i → i < capacity half
   lent-inside {i} b =
       let r = lent-read h (k .tree-page) same in
-      let here = lent-slot h (k .tree-page) same t (b 12 (omega (arith, r .len, r .few))) in
+      let here = lent-slot h (k .tree-page) same t (b half (omega (arith, r .len, r .few))) in
       omega (arith, here, slot-inside t (entries X p) (k .some), r .few)

@@ -21,18 +21,19 @@ pub by-head : {X : Image} {h : Head} (P : Image → Type 0) → h ≡ X .head �
 by-head {X} P e t = subst (λ k. P (with-head k X)) e t
 
 -- some image with the head that was read
-pub record Headed (img : List ℕ) (h : Head) (Ready : Image → Type 0) : Type 0 where
+pub record Headed (half : ℕ) (img : List ℕ) (h : Head) (Ready : Image → Type 0) : Type 0 where
   pub image : Image
-  pub holds : Encodes img (with-head h image)
+  pub holds : Encodes half img (with-head h image)
   pub ready : Ready (with-head h image)
 
-pub some-headed : {img : List ℕ} {h : Head} {Ready : Image → Type 0} → Pre img Ready → Post img Any (λ X. h ≡ X .head) → Headed img h Ready
-some-headed {img} {h} {Ready} s e =
+pub some-headed : {half : ℕ} {img : List ℕ} {h : Head} {Ready : Image → Type 0} → Pre half img Ready → Post half img Any (λ X. h ≡ X .head)
+    → Headed half img h Ready
+some-headed {half} {img} {h} {Ready} s e =
     let X : Image = s .image in
     let q : X .head ≡ h = sym (e X (s .holds) tt) in
     record {
       image = X;
-      holds = subst (λ k. Encodes img (with-head k X)) q (s .holds);
+      holds = subst (λ k. Encodes half img (with-head k X)) q (s .holds);
       ready = subst (λ k. Ready (with-head k X)) q
           (s .ready);
     }

@@ -6,43 +6,46 @@ use mathlib.Core.List.{List}
 use Rattle.page.specs.declared.Entry.{Entry}
 use Rattle.page.specs.declared.Head.{Head}
 use Rattle.page.specs.declared.Page.{Page}
+use Rattle.page.specs.Layout.{capacity}
 use Rattle.page.specs.Widths.{Head-fits}
 use Rattle.image.specs.Images.{Image, Canonical, image-bytes}
 use Rattle.edit.specs.Contents.{Has-entries}
 
--- the bytes are those of this image
-pub record Encodes (img : List ℕ) (X : Image) : Type 0 where
-  pub bytes : img ≡ image-bytes 12 X
-  pub sized-kept : (p : ℕ) → 1 ≤ p → p < X .head .pages → Canonical 12 (X .page p)
+-- the bytes are those of this image, with pages of a capacity that is in range: half of it is given
+pub record Encodes (half : ℕ) (img : List ℕ) (X : Image) : Type 0 where
+  pub half-least : 2 ≤ half
+  pub half-most : half ≤ 12
+  pub bytes : img ≡ image-bytes half X
+  pub sized-kept : (p : ℕ) → 1 ≤ p → p < X .head .pages → Canonical half (X .page p)
   pub head-fits : Head-fits (X .head)
   pub pages-least : 2 ≤ X .head .pages
   pub pages-most : X .head .pages ≤ 1024
 
 -- A function's precondition: the bytes encode some image that is ready for it.
-pub record Pre (img : List ℕ) (Ready : Image → Type 0) : Type 0 where
+pub record Pre (half : ℕ) (img : List ℕ) (Ready : Image → Type 0) : Type 0 where
   pub image : Image
-  pub holds : Encodes img image
+  pub holds : Encodes half img image
   pub ready : Ready image
 
 -- Its postcondition: so it goes for every image that the bytes encode and that is ready.
-abbrev pub Post : List ℕ → (Image → Type 0) → (Image → Type 0) → Type 0
-Post img Ready Goes = (X : Image) → Encodes img X → Ready X → Goes X
+abbrev pub Post : ℕ → List ℕ → (Image → Type 0) → (Image → Type 0) → Type 0
+Post half img Ready Goes = (X : Image) → Encodes half img X → Ready X → Goes X
 
 -- nothing more is asked of the image
 abbrev pub Any : Image → Type 0
 Any X = Unit {0}
 
 -- The same at a level that no parameter tells: the level is in the page that is read.
-abbrev pub Pre-level : List ℕ → (ℕ → Image → Type 0) → Type 0
-Pre-level img Ready = Pre img (λ X. (level : ℕ) × Ready level X)
+abbrev pub Pre-level : ℕ → List ℕ → (ℕ → Image → Type 0) → Type 0
+Pre-level half img Ready = Pre half img (λ X. (level : ℕ) × Ready level X)
 
-abbrev pub Post-level : List ℕ → (ℕ → Image → Type 0) → (ℕ → Image → Type 0) → Type 0
-Post-level img Ready Goes = (X : Image) → Encodes img X → (level : ℕ) → Ready level X → Goes level X
+abbrev pub Post-level : ℕ → List ℕ → (ℕ → Image → Type 0) → (ℕ → Image → Type 0) → Type 0
+Post-level half img Ready Goes = (X : Image) → Encodes half img X → (level : ℕ) → Ready level X → Goes level X
 
 -- the decoded page has this level and these entries, as many as a written page can have
-pub record Loaded (l : ℕ) (es : List Entry) (r : Page) : Type 0 where
+pub record Loaded (half l : ℕ) (es : List Entry) (r : Page) : Type 0 where
   pub shows : Has-entries l es r
-  pub few : r .len ≤ 24
+  pub few : r .len ≤ capacity half
 
 -- a head for the same number of pages
 pub record Same-size (h : Head) (X : Image) : Type 0 where

@@ -8,6 +8,7 @@ use lib.ListN.{length}
 use Rattle.rule.specs.Bounds.{Combinable}
 use Rattle.page.specs.declared.Entry.{Entry}
 use Rattle.page.specs.Entries.{at, index-of}
+use Rattle.page.specs.Layout.{capacity}
 use Rattle.image.specs.Images.{Image, Cell, tree, free}
 use Rattle.steps.specs.Supply.{entries, spare}
 use Rattle.store.specs.declared.Found.{Found}
@@ -30,10 +31,10 @@ pub record Has-entry (level p i : ℕ) (X : Image) : Type 0 where
   pub inside : i < length (entries X p)
 
 -- and it has room for one more, as its i-th
-pub record Has-room (level p i : ℕ) (X : Image) : Type 0 where
+pub record Has-room (half level p i : ℕ) (X : Image) : Type 0 where
   pub tree-page : Tree-page level p X
   pub inside : i ≤ length (entries X p)
-  pub room : length (entries X p) < 24
+  pub room : length (entries X p) < capacity half
 
 -- and it has an entry that has t: one starts at t or before, and the starts rise
 pub record Searchable (level p t : ℕ) (X : Image) : Type 0 where

@@ -16,9 +16,9 @@ ghost use Rattle.store.specs.Preconditions.{Has-entry, Has-room};
 
 // The i-th entry of page p becomes e.
 pub fn set_entry(img: &mut [u8], p: u32, i: usize, e: Entry)
-    requires { ⌜ Pre-level (now img) (λ l. Has-entry l p i) ⌝ }
-    ensures { λ _. ⌜ Post-level (now (img .entry)) (λ l. Has-entry l p i)
-        (λ l X. Encodes (now (img .exit)) (put p (tree l (splice i (e ∷ []) (entries X p))) X)) ⌝ }
+    requires { ⌜ Pre-level 12 (now img) (λ l. Has-entry l p i) ⌝ }
+    ensures { λ _. ⌜ Post-level 12 (now (img .entry)) (λ l. Has-entry l p i)
+        (λ l X. Encodes 12 (now (img .exit)) (put p (tree l (splice i (e ∷ []) (entries X p))) X)) ⌝ }
 {
     let a = page_offset(HALF, p);
     let b = a + PAGE_BYTES;
@@ -27,9 +27,9 @@ pub fn set_entry(img: &mut [u8], p: u32, i: usize, e: Entry)
 
 // e becomes the i-th entry of page p, which has room for it: those from there on move up by a slot.
 pub fn insert_entry(img: &mut [u8], p: u32, i: usize, e: Entry)
-    requires { ⌜ Pre-level (now img) (λ l. Has-room l p i) ⌝ }
-    ensures { λ _. ⌜ Post-level (now (img .entry)) (λ l. Has-room l p i)
-        (λ l X. Encodes (now (img .exit)) (put p (tree l (inserted i e (entries X p))) X)) ⌝ }
+    requires { ⌜ Pre-level 12 (now img) (λ l. Has-room 12 l p i) ⌝ }
+    ensures { λ _. ⌜ Post-level 12 (now (img .entry)) (λ l. Has-room 12 l p i)
+        (λ l X. Encodes 12 (now (img .exit)) (put p (tree l (inserted i e (entries X p))) X)) ⌝ }
 {
     let a = page_offset(HALF, p);
     let b = a + PAGE_BYTES;
@@ -38,9 +38,9 @@ pub fn insert_entry(img: &mut [u8], p: u32, i: usize, e: Entry)
 
 // Page p loses its i-th entry: those behind it move down by a slot, and the last slot is unused then.
 pub fn remove_entry(img: &mut [u8], p: u32, i: usize)
-    requires { ⌜ Pre-level (now img) (λ l. Has-entry l p i) ⌝ }
-    ensures { λ _. ⌜ Post-level (now (img .entry)) (λ l. Has-entry l p i)
-        (λ l X. Encodes (now (img .exit)) (put p (tree l (splice i [] (entries X p))) X)) ⌝ }
+    requires { ⌜ Pre-level 12 (now img) (λ l. Has-entry l p i) ⌝ }
+    ensures { λ _. ⌜ Post-level 12 (now (img .entry)) (λ l. Has-entry l p i)
+        (λ l X. Encodes 12 (now (img .exit)) (put p (tree l (splice i [] (entries X p))) X)) ⌝ }
 {
     let a = page_offset(HALF, p);
     let b = a + PAGE_BYTES;

@@ -18,32 +18,32 @@ ghost use Rattle.store.specs.Preconditions.{Tree-page, Has-entry, Search
 
 // How many entries page p has.
 pub fn entry_count_in(img: &[u8], p: u32) -> usize
-    requires { ⌜ Pre-level (now img) (λ l. Tree-page l p) ⌝ }
-    ensures { λ r. ⌜ Post-level (now (img .entry)) (λ l. Tree-page l p) (λ l X. (r ≡ length (entries X p)) × (r ≤ 24)) ⌝ }
+    requires { ⌜ Pre-level 12 (now img) (λ l. Tree-page l p) ⌝ }
+    ensures { λ r. ⌜ Post-level 12 (now (img .entry)) (λ l. Tree-page l p) (λ l X. (r ≡ length (entries X p)) × (r ≤ 24)) ⌝ }
 {
     entry_count(page_at(HALF, img, p)) as usize
 }
 
 // The i-th entry of page p.
 pub fn entry_of(img: &[u8], p: u32, i: usize) -> Entry
-    requires { ⌜ Pre-level (now img) (λ l. Has-entry l p i) ⌝ }
-    ensures { λ r. ⌜ Post-level (now (img .entry)) (λ l. Has-entry l p i) (λ l X. r ≡ at (entries X p) i) ⌝ }
+    requires { ⌜ Pre-level 12 (now img) (λ l. Has-entry l p i) ⌝ }
+    ensures { λ r. ⌜ Post-level 12 (now (img .entry)) (λ l. Has-entry l p i) (λ l X. r ≡ at (entries X p) i) ⌝ }
 {
     entry_at(HALF, page_at(HALF, img, p), i)
 }
 
 // Where the i-th entry of page p ends, if the page ends at hi.
 pub fn entry_end(img: &[u8], p: u32, hi: u32, i: usize) -> u32
-    requires { ⌜ Pre-level (now img) (λ l. Has-entry l p i) ⌝ }
-    ensures { λ r. ⌜ Post-level (now (img .entry)) (λ l. Has-entry l p i) (λ l X. r ≡ next-start hi (drop (suc i) (entries X p))) ⌝ }
+    requires { ⌜ Pre-level 12 (now img) (λ l. Has-entry l p i) ⌝ }
+    ensures { λ r. ⌜ Post-level 12 (now (img .entry)) (λ l. Has-entry l p i) (λ l X. r ≡ next-start hi (drop (suc i) (entries X p))) ⌝ }
 {
     end_at(page_at(HALF, img, p), hi, i)
 }
 
 // The last entry of page p starting at t or before.
 pub fn find_entry(img: &[u8], p: u32, t: u32) -> Found
-    requires { ⌜ Pre-level (now img) (λ l. Searchable l p t) ⌝ }
-    ensures { λ r. ⌜ Post-level (now (img .entry)) (λ l. Searchable l p t) (λ l X. r ≡ found-in t (entries X p)) ⌝ }
+    requires { ⌜ Pre-level 12 (now img) (λ l. Searchable l p t) ⌝ }
+    ensures { λ r. ⌜ Post-level 12 (now (img .entry)) (λ l. Searchable l p t) (λ l X. r ≡ found-in t (entries X p)) ⌝ }
 {
     let s = page_at(HALF, img, p);
     let n = entry_count(s) as usize;

@@ -16,34 +16,34 @@ ghost use Rattle.store.specs.Preconditions.{In-image, Tree-page};
 
 // The tree page p as a struct.
 pub fn load(img: &[u8], p: u32) -> Page
-    requires { ⌜ Pre (now img) (In-image p) ⌝ }
-    ensures { λ r. ⌜ Post-level (now (img .entry)) (λ l. Tree-page l p) (λ l X. Loaded l (entries X p) r) ⌝ }
+    requires { ⌜ Pre 12 (now img) (In-image p) ⌝ }
+    ensures { λ r. ⌜ Post-level 12 (now (img .entry)) (λ l. Tree-page l p) (λ l X. Loaded 12 l (entries X p) r) ⌝ }
 {
     read_page(HALF, page_at(HALF, img, p))
 }
 
 // The page behind the free page p in the chain, 0 at its end.
 pub(crate) fn next_free(img: &[u8], p: u32) -> u32
-    requires { ⌜ Pre (now img) (In-image p) ⌝ }
-    ensures { λ r. ⌜ Post (now (img .entry)) (In-image p) (λ X. (next : ℕ) → X .page p ≡ free next → r ≡ next) ⌝ }
+    requires { ⌜ Pre 12 (now img) (In-image p) ⌝ }
+    ensures { λ r. ⌜ Post 12 (now (img .entry)) (In-image p) (λ X. (next : ℕ) → X .page p ≡ free next → r ≡ next) ⌝ }
 {
     next_of(page_at(HALF, img, p))
 }
 
 // Page p becomes the tree page of a struct.
 pub fn save(img: &mut [u8], p: u32, page: Page)
-    requires { ⌜ Pre (now img) (In-image p) ⌝ }
+    requires { ⌜ Pre 12 (now img) (In-image p) ⌝ }
     requires { ⌜ (page .level < 255) × (page .len ≤ 24) ⌝ }
-    ensures { λ _. ⌜ Post (now (img .entry)) (In-image p)
-        (λ X. Encodes (now (img .exit)) (put p (tree (page .level) (entry-list page)) X)) ⌝ }
+    ensures { λ _. ⌜ Post 12 (now (img .entry)) (In-image p)
+        (λ X. Encodes 12 (now (img .exit)) (put p (tree (page .level) (entry-list page)) X)) ⌝ }
 {
     write_page_at(HALF, img, p, page)
 }
 
 // Page p becomes a free page.
 pub(crate) fn set_free(img: &mut [u8], p: u32, next: u32)
-    requires { ⌜ Pre (now img) (In-image p) ⌝ }
-    ensures { λ _. ⌜ Post (now (img .entry)) (In-image p) (λ X. Encodes (now (img .exit)) (put p (free next) X)) ⌝ }
+    requires { ⌜ Pre 12 (now img) (In-image p) ⌝ }
+    ensures { λ _. ⌜ Post 12 (now (img .entry)) (In-image p) (λ X. Encodes 12 (now (img .exit)) (put p (free next) X)) ⌝ }
 {
     write_free_at(HALF, img, p, next)
 }

@@ -24,8 +24,8 @@ pub fn root_entry(h: Head) -> Entry
 
 // The root is page p now, at that height.
 pub fn set_root(img: &mut [u8], height: u32, p: u32)
-    requires { ⌜ Pre (now img) Any ⌝ }
-    ensures { λ _. ⌜ Post (now (img .entry)) Any (λ X. Encodes (now (img .exit)) (with-root height p X)) ⌝ }
+    requires { ⌜ Pre 12 (now img) Any ⌝ }
+    ensures { λ _. ⌜ Post 12 (now (img .entry)) Any (λ X. Encodes 12 (now (img .exit)) (with-root height p X)) ⌝ }
 {
     let mut h = head_of(img);
     h.height = height;
@@ -35,8 +35,8 @@ pub fn set_root(img: &mut [u8], height: u32, p: u32)
 
 // "Then changes rises by 1."
 pub fn count_change(img: &mut [u8])
-    requires { ⌜ Pre (now img) Countable ⌝ }
-    ensures { λ _. ⌜ Post (now (img .entry)) Countable (λ X. Encodes (now (img .exit)) (count-change X)) ⌝ }
+    requires { ⌜ Pre 12 (now img) Countable ⌝ }
+    ensures { λ _. ⌜ Post 12 (now (img .entry)) Countable (λ X. Encodes 12 (now (img .exit)) (count-change X)) ⌝ }
 {
     let mut h = head_of(img);
     h.changes = h.changes + 1;

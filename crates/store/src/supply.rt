@@ -10,8 +10,8 @@ ghost use Rattle.store.specs.Preconditions.{Takable, Givable};
 
 // Takes a page. Its bytes stay: whoever takes it writes it.
 pub fn take(img: &mut [u8]) -> u32
-    requires { ⌜ Pre (now img) Takable ⌝ }
-    ensures { λ r. ⌜ Post (now (img .entry)) Takable (λ X. (r ≡ spare X) × Encodes (now (img .exit)) (taken X)) ⌝ }
+    requires { ⌜ Pre 12 (now img) Takable ⌝ }
+    ensures { λ r. ⌜ Post 12 (now (img .entry)) Takable (λ X. (r ≡ spare X) × Encodes 12 (now (img .exit)) (taken X)) ⌝ }
 {
     let mut h = head_of(img);
     if h.chain == 0 {
@@ -29,8 +29,8 @@ pub fn take(img: &mut [u8]) -> u32
 
 // Gives page p back: it is the chain's first now, and leads to the one that was.
 pub fn give_back(img: &mut [u8], p: u32)
-    requires { ⌜ Pre (now img) (Givable p) ⌝ }
-    ensures { λ _. ⌜ Post (now (img .entry)) (Givable p) (λ X. Encodes (now (img .exit)) (given-back p X)) ⌝ }
+    requires { ⌜ Pre 12 (now img) (Givable p) ⌝ }
+    ensures { λ _. ⌜ Post 12 (now (img .entry)) (Givable p) (λ X. Encodes 12 (now (img .exit)) (given-back p X)) ⌝ }
 {
     let mut h = head_of(img);
     let first = h.free;

@@ -51,34 +51,34 @@ of-not : (b : Bool) → not b ≡ false → b ≡ true
 of-not true e = refl
 of-not false e = absurd (true≢false e)
 
-module _ {side : Side} {v : ℤ} {s e : ℕ} {img : List ℕ} {h : Head} (a : Accepts side v s e img h) where
-  facts : Passed (not (sound 12 img)) (withdraws side && not (eqb (head 12 img .kind) 1)) (eqb (head 12 img .changes) most-changes)
-      (lacks-pages 12 s (effect-end e (head 12 img .window)) (image-of 12 img))
-      × (h ≡ head 12 img)
+module _ {half : ℕ} {side : Side} {v : ℤ} {s e : ℕ} {img : List ℕ} {h : Head} (a : Accepts half side v s e img h) where
+  facts : Passed (not (sound half img)) (withdraws side && not (eqb (head half img .kind) 1)) (eqb (head half img .changes) most-changes)
+      (lacks-pages half s (effect-end e (head half img .window)) (image-of half img))
+      × (h ≡ head half img)
   unfolding state-check
   facts = passed _ _ _ _ (a .judged-so)
 
-  accepted-head : h ≡ head 12 img
+  accepted-head : h ≡ head half img
   accepted-head = facts .1
 
-  accepted-sound : sound 12 img ≡ true
+  accepted-sound : sound half img ≡ true
   accepted-sound = of-not _ (facts .0 .is-sound)
 
   abbrev X : Image
-  X = image-of 12 img
+  X = image-of half img
 
   -- where the effect ends
   abbrev end : ℕ
-  end = effect-end e (head 12 img .window)
+  end = effect-end e (head half img .window)
 
-  ready : Changeable (head 12 img .kind) s end (effect side v) X
+  ready : Changeable half (head half img .kind) s end (effect side v) X
   unfolding image-of head
   ready =
-      let g = sound-invariant 12 img (omega arith) accepted-sound in
+      let g = sound-invariant half img (omega (arith, a .half-least)) accepted-sound in
       let f = facts .0 in
-      let n : head 12 img .changes ≢ most-changes = eqb-false (head 12 img .changes) most-changes (f .few) in
-      changeable s end (effect side v) g (effective (head 12 img .kind) side v (a .fits) (f .sided))
-      (below (head 12 img .changes) most-changes (g .structure .changes-most) n) (f .enough)
+      let n : head half img .changes ≢ most-changes = eqb-false (head half img .changes) most-changes (f .few) in
+      changeable (a .half-least) s end (effect side v) g (effective (head half img .kind) side v (a .fits) (f .sided))
+      (below (head half img .changes) most-changes (g .structure .changes-most) n) (f .enough)
     where
       below : (m n : ℕ) → m ≤ n → m ≢ n → m < n
       below m n l d = omega (arith, d)
@@ -88,20 +88,20 @@ module _ {side : Side} {v : ℤ} {s e : ℕ} {img : List ℕ} {h : Head} (a : Ac
     end-so : to ≡ end
     end-so = same-end ∙ ap (λ (g : Head). effect-end e (g .window)) accepted-head
 
-    ready-so : Changeable (h .kind) s to p X
+    ready-so : Changeable half (h .kind) s to p X
     ready-so =
-        subst⁻¹ (λ (g : Head). Changeable (g .kind) s to p X) accepted-head
-        (subst⁻¹ (λ t. Changeable (head 12 img .kind) s t p X) end-so
-        (subst⁻¹ (λ q. Changeable (head 12 img .kind) s end q X) same-effect ready))
+        subst⁻¹ (λ (g : Head). Changeable half (g .kind) s to p X) accepted-head
+        (subst⁻¹ (λ t. Changeable half (head half img .kind) s t p X) end-so
+        (subst⁻¹ (λ q. Changeable half (head half img .kind) s end q X) same-effect ready))
 
-    holds : Encodes img X
-    holds = sound-holds img bytes accepted-sound
+    holds : Encodes half img X
+    holds = sound-holds (a .half-least) (a .half-most) img bytes accepted-sound
 
-    pub accepted-some : Pre img (Changeable (h .kind) s to p)
+    pub accepted-some : Pre half img (Changeable half (h .kind) s to p)
     accepted-some = record { image = X; holds = holds; ready = ready-so }
 
-    pub accepted-changed : {after : List ℕ} → Post img (Changeable (h .kind) s to p) (λ Z. Encodes after (change 12 (combine (h .kind)) s to p Z))
-        → after ≡ changed 12 side v s e img
+    pub accepted-changed : {after : List ℕ} → Post half img (Changeable half (h .kind) s to p) (λ Z. Encodes half after (change half (combine (h .kind)) s to p Z))
+        → after ≡ changed half side v s e img
     unfolding changed
     accepted-changed g =
-        g X holds ready-so .bytes ∙ (λ j. image-bytes 12 (change 12 (combine (accepted-head j .kind)) s (end-so j) (same-effect j) X))
+        g X holds ready-so .bytes ∙ (λ j. image-bytes half (change half (combine (accepted-head j .kind)) s (end-so j) (same-effect j) X))

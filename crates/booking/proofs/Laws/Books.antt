@@ -49,25 +49,25 @@ made early late done img clean scratch =
     let number = first (early ++ late) in
     record { status = number; image = cond (eqb number 0) done img; scratch = cond (eqb (first early) 0) clean scratch }
 
-module _ (side : Side) (v : ℤ) (s e : ℕ) (img scratch : List ℕ) where
+module _ (half : ℕ) (side : Side) (v : ℤ) (s e : ℕ) (img scratch : List ℕ) where
   abbrev early : List Row
-  early = book-input-rows 12 v s e img scratch
+  early = book-input-rows half v s e img scratch
 
   abbrev late : List Row
-  late = book-state-rows 12 side s e img
+  late = book-state-rows half side s e img
 
   abbrev clean : List ℕ
-  clean = cleared (pages-in 12 img) scratch
+  clean = cleared (pages-in half img) scratch
 
   abbrev done : List ℕ
-  done = changed 12 side v s e img
+  done = changed half side v s e img
 
-  book-is : made early late done img clean scratch ≡ book 12 side v s e img scratch
+  book-is : made early late done img clean scratch ≡ book half side v s e img scratch
   unfolding made book book-status scratch-after
   book-is = refl
 
   pub book-early-out : {n : ℕ} → n ≡ first early → n ≢ 0
-      → record { status = n; image = img; scratch = scratch } ≡ book 12 side v s e img scratch
+      → record { status = n; image = img; scratch = scratch } ≡ book half side v s e img scratch
   unfolding made
   book-early-out {n} e d =
       let f : first early ≢ 0 = λ z. d (e ∙ z) in
@@ -82,14 +82,14 @@ module _ (side : Side) (v : ℤ) (s e : ℕ) (img scratch : List ℕ) where
       ∙ book-is
 
   module _ (z : first early ≡ 0) where
-    tests : Clear (length-ok 12 img) (scratch-ok (pages-in 12 img) scratch) (span-ok s e) (value-ok v)
+    tests : Clear (length-ok half img) (scratch-ok (pages-in half img) scratch) (span-ok s e) (value-ok v)
     unfolding book-input-rows
     tests = clear _ _ _ _ z
 
-    pub early-whole : length-ok 12 img ≡ true
+    pub early-whole : length-ok half img ≡ true
     early-whole = tests .whole-is
 
-    pub early-room : pages-in 12 img ≤ length scratch
+    pub early-room : pages-in half img ≤ length scratch
     unfolding scratch-ok borrowed
     early-room = leb-true _ _ (tests .room-is)
 
@@ -107,7 +107,7 @@ module _ (side : Side) (v : ℤ) (s e : ℕ) (img scratch : List ℕ) where
         ∷ (13, not (tests .fits-is j)) ∷ late)
 
     by-late : {n : ℕ} {after left : List ℕ} → n ≡ first late → after ≡ cond (eqb n 0) done img → left ≡ clean
-        → record { status = n; image = after; scratch = left } ≡ book 12 side v s e img scratch
+        → record { status = n; image = after; scratch = left } ≡ book half side v s e img scratch
     unfolding made
     by-late {n} a b c =
         let number : n ≡ first (early ++ late) = a ∙ sym late-status in
@@ -130,17 +130,17 @@ module _ (side : Side) (v : ℤ) (s e : ℕ) (img scratch : List ℕ) where
         go true f e = eqb-true n 0 f
         go false f e = absurd (let y : _≡_ {A = ℕ} 0 1 = cc in omega arith)
 
-    pub book-late-out : {row : ℕ} {left : List ℕ} → Refused row ≡ state-check side s e img → left ≡ clean
-        → record { status = row; image = img; scratch = left } ≡ book 12 side v s e img scratch
+    pub book-late-out : {row : ℕ} {left : List ℕ} → Refused row ≡ state-check half side s e img → left ≡ clean
+        → record { status = row; image = img; scratch = left } ≡ book half side v s e img scratch
     unfolding state-check
     book-late-out j c =
-        let r = refused-row (first late) (head 12 img) j in
+        let r = refused-row (first late) (head half img) j in
         by-late (r .0) (sym (ap (λ b. cond b done img) (ap (λ n. eqb n 0) (r .0) ∙ r .1))) c
 
-    pub book-done : {h : Head} {after left : List ℕ} → Accepted h ≡ state-check side s e img → after ≡ done → left ≡ clean
-        → record { status = 0; image = after; scratch = left } ≡ book 12 side v s e img scratch
+    pub book-done : {h : Head} {after left : List ℕ} → Accepted h ≡ state-check half side s e img → after ≡ done → left ≡ clean
+        → record { status = 0; image = after; scratch = left } ≡ book half side v s e img scratch
     unfolding state-check
-    book-done j a c = by-late (sym (accepted-row (first late) (head 12 img) j)) a c
+    book-done j a c = by-late (sym (accepted-row (first late) (head half img) j)) a c
 
-    pub accepts : {h : Head} → Accepted h ≡ state-check side s e img → Accepts side v s e img h
-    accepts j = record { span = early-span; fits = early-fits; judged-so = j }
+    pub accepts : {h : Head} → Accepted h ≡ state-check half side s e img → 2 ≤ half → half ≤ 12 → Accepts half side v s e img h
+    accepts j least most = record { half-least = least; half-most = most; span = early-span; fits = early-fits; judged-so = j }

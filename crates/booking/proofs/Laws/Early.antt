@@ -12,16 +12,16 @@ use Rattle.image.specs.Images.{pages-in, length-ok}
 use Rattle.calls.specs.Refusals.{first, scratch-ok, borrowed}
 use Rattle.calls.specs.Calls.{book-input-rows}
 
-module _ (v : ℤ) (s e : ℕ) (img scratch : List ℕ) where
+module _ (half : ℕ) (v : ℤ) (s e : ℕ) (img scratch : List ℕ) where
   -- the four tests
   pub record Tests (whole room span fits : Bool) : Type 0 where
-    pub whole-is : length-ok 12 img ≡ whole
-    pub room-is : leb (pages-in 12 img) (length scratch) ≡ room
+    pub whole-is : length-ok half img ≡ whole
+    pub room-is : leb (pages-in half img) (length scratch) ≡ room
     pub span-is : span-ok s e ≡ span
     pub fits-is : value-ok v ≡ fits
 
   pub rows-are : {whole room span fits : Bool} → Tests whole room span fits
-      → first ((16, not whole) ∷ (17, not room) ∷ (11, not span) ∷ (13, not fits) ∷ []) ≡ first (book-input-rows 12 v s e img scratch)
+      → first ((16, not whole) ∷ (17, not room) ∷ (11, not span) ∷ (13, not fits) ∷ []) ≡ first (book-input-rows half v s e img scratch)
   unfolding book-input-rows scratch-ok borrowed
   rows-are t =
       λ j. first ((16, not (sym (t .whole-is) j)) ∷ (17, not (sym (t .room-is) j)) ∷ (11, not (sym (t .span-is) j))

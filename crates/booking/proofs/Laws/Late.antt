@@ -29,24 +29,24 @@ unfolding withdraws side-of
 withdraws-of false = refl
 withdraws-of true = refl
 
-module _ (b : Bool) (s e : ℕ) (img : List ℕ) where
+module _ (half : ℕ) (b : Bool) (s e : ℕ) (img : List ℕ) where
   abbrev h : Head
-  h = head 12 img
+  h = head half img
 
-  by-tests : (unsound other full lacking : Bool) → not (sound 12 img) ≡ unsound → (b && not (eqb (h .kind) 1)) ≡ other
+  by-tests : (unsound other full lacking : Bool) → not (sound half img) ≡ unsound → (b && not (eqb (h .kind) 1)) ≡ other
       → eqb (h .changes) most-changes ≡ full
-      → lacks-pages 12 s (effect-end e (h .window)) (image-of 12 img) ≡ lacking
-      → judgement unsound other full lacking h ≡ state-check (side-of b) s e img
+      → lacks-pages half s (effect-end e (h .window)) (image-of half img) ≡ lacking
+      → judgement unsound other full lacking h ≡ state-check half (side-of b) s e img
   unfolding judgement state-check
   by-tests unsound other full lacking p q r t =
       λ j. judgement (sym p j) ((sym q ∙ ap (λ w. w && not (eqb (h .kind) 1)) (sym (withdraws-of b))) j) (sym r j) (sym t j) h
 
-  pub late-21 : sound 12 img ≡ false → Refused 21 ≡ state-check (side-of b) s e img
+  pub late-21 : sound half img ≡ false → Refused 21 ≡ state-check half (side-of b) s e img
   unfolding judgement first
   late-21 p = by-tests true _ _ _ (ap not p) refl refl refl
 
-  module _ (p : sound 12 img ≡ true) {g : Head} (k : g ≡ head 12 img) where
-    pub late-22 : (b && not (eqb (g .kind) 1)) ≡ true → Refused 22 ≡ state-check (side-of b) s e img
+  module _ (p : sound half img ≡ true) {g : Head} (k : g ≡ head half img) where
+    pub late-22 : (b && not (eqb (g .kind) 1)) ≡ true → Refused 22 ≡ state-check half (side-of b) s e img
     unfolding judgement first
     late-22 q = by-tests false true _ _ (ap not p) (ap (λ (f : Head). b && not (eqb (f .kind) 1)) (sym k) ∙ q) refl refl
 
@@ -54,7 +54,7 @@ module _ (b : Bool) (s e : ℕ) (img : List ℕ) where
       other : (b && not (eqb (h .kind) 1)) ≡ false
       other = ap (λ (f : Head). b && not (eqb (f .kind) 1)) (sym k) ∙ q
 
-      pub late-23 : eqb (g .changes) most-changes ≡ true → Refused 23 ≡ state-check (side-of b) s e img
+      pub late-23 : eqb (g .changes) most-changes ≡ true → Refused 23 ≡ state-check half (side-of b) s e img
       unfolding judgement first
       late-23 r = by-tests false false true _ (ap not p) other (ap (λ (f : Head). eqb (f .changes) most-changes) (sym k) ∙ r) refl
 
@@ -63,12 +63,12 @@ module _ (b : Bool) (s e : ℕ) (img : List ℕ) where
         full = ap (λ (f : Head). eqb (f .changes) most-changes) (sym k) ∙ r
 
         -- the last test alone decides
-        pub late-last : {z : Bool} → z ≡ lacks-pages 12 s end (image-of 12 img)
-            → cond z (Refused 24) (Accepted g) ≡ state-check (side-of b) s e img
+        pub late-last : {z : Bool} → z ≡ lacks-pages half s end (image-of half img)
+            → cond z (Refused 24) (Accepted g) ≡ state-check half (side-of b) s e img
         unfolding judgement first
         late-last {z} t =
             decided z ∙ by-tests false false false z (ap not p) other full
-            (ap (λ n. lacks-pages 12 s n (image-of 12 img)) (sym (l ∙ ap (λ (f : Head). effect-end e (f .window)) k)) ∙ sym t)
+            (ap (λ n. lacks-pages half s n (image-of half img)) (sym (l ∙ ap (λ (f : Head). effect-end e (f .window)) k)) ∙ sym t)
           where
             decided : (z : Bool) → cond z (Refused 24) (Accepted g) ≡ judgement false false false z h
             decided true = refl

@@ -28,7 +28,7 @@ passed : (c : tie.Else1) → row (began (c .before)) ≡ 0
 passed c = sym (number (c .before)) ∙ c .if1 .left
 
 returns : tie.Need-returns
-returns c = book-early-out _ _ _ _ _ _ (number (c .before)) (c .if1 .taken)
+returns c = book-early-out _ _ _ _ _ _ _ (number (c .before)) (c .if1 .taken)
 
 -- which of the two calls it is
 abbrev side : tie.Else1 → Side
@@ -36,7 +36,7 @@ side c = side-of (began (c .before) .args .withdraws)
 
 fill-requires : tie.Need-fill-requires
 unfolding pages-in
-fill-requires c κs = omega (arith, early-room (side (c .before)) _ _ _ _ _ (passed (c .before)))
+fill-requires c κs = omega (arith, early-room 12 (side (c .before)) _ _ _ _ _ (passed (c .before)))
 
 -- where the scratch had been filled
 abbrev filled : tie.After-check-state-arg → tie.After-fill
@@ -45,7 +45,7 @@ filled c = c .before .before .before
 check-state-requires : tie.Need-check-state-requires
 check-state-requires c κs =
     let input = filled c .before .before in
-    (early-whole (side input) _ _ _ _ _ (passed input), early-span (side input) _ _ _ _ _ (passed input))
+    (early-whole 12 (side input) _ _ _ _ _ (passed input), early-span 12 (side input) _ _ _ _ _ (passed input))
 
 make-change-requires : tie.Need-make-change-requires
 make-change-requires c κs =
@@ -53,7 +53,7 @@ make-change-requires c κs =
     let state = told .before .before in
     let input = filled (state .before) .before .before in
     rw (toZ-ofZ (began (input .before) .fits .v))
-    (accepts (side input) _ _ _ _ _ (passed input) (sym (told .h .given .1) ∙ state .check-state .ensures))
+    (accepts 12 (side input) _ _ _ _ _ (passed input) (sym (told .h .given .1) ∙ state .check-state .ensures) (omega arith) (omega arith))
 
 returns-2 : tie.Need-returns-2
 unfolding pages-in cleared borrowed
@@ -61,7 +61,7 @@ returns-2 c =
     let told = c .before in
     let state = told .before .before in
     let fill = filled (state .before) in
-    book-late-out _ _ _ _ _ _ (passed (fill .before .before)) (sym (told .row .given .1) ∙ state .check-state .ensures)
+    book-late-out _ _ _ _ _ _ _ (passed (fill .before .before)) (sym (told .row .given .1) ∙ state .check-state .ensures)
     (fill .fill .ensures)
 
 returns-3 : tie.Need-returns-3
@@ -72,7 +72,7 @@ returns-3 c =
     let state = told .before .before in
     let fill = filled (state .before) in
     let input = fill .before .before in
-    book-done _ _ _ _ _ _ (passed input) (sym (told .h .given .1) ∙ state .check-state .ensures)
+    book-done _ _ _ _ _ _ _ (passed input) (sym (told .h .given .1) ∙ state .check-state .ensures)
     (rw (toZ-ofZ (began (input .before) .fits .v)) at (did .make-change .ensures))
     (fill .fill .ensures)
 

@@ -17,7 +17,7 @@ abbrev began : tie.After-value-ok → tie.Start
 began c = c .before .before .before .before
 
 abbrev Tested : tie.After-value-ok → Bool → Bool → Bool → Bool → Type 0
-Tested c = Tests (began c .args .v) (began c .args .s) (began c .args .e) (began c .args .img .now) (began c .args .scratch .now)
+Tested c = Tests 12 (began c .args .v) (began c .args .s) (began c .args .e) (began c .args .img .now) (began c .args .scratch .now)
 
 tests : (c : tie.After-value-ok) {whole room span fits : Bool} → c .before .length-fits .result ≡ whole
     → leb (pages-in 12 (began c .args .img .now)) (length (began c .args .scratch .now)) ≡ room
@@ -32,18 +32,18 @@ tests c a b d f =
 
 returns : tie.Need-returns
 unfolding first
-returns c = rows-are _ _ _ _ _ (tests (c .before) (not-true _ (c .if1 .taken)) refl refl refl)
+returns c = rows-are _ _ _ _ _ _ (tests (c .before) (not-true _ (c .if1 .taken)) refl refl refl)
 
 returns-2 : tie.Need-returns-2
 unfolding first pages-in
 returns-2 c =
-    rows-are _ _ _ _ _ (tests (c .before .before) (not-false _ (c .before .if1 .left)) (not-true _ (c .if2 .taken)) refl refl)
+    rows-are _ _ _ _ _ _ (tests (c .before .before) (not-false _ (c .before .if1 .left)) (not-true _ (c .if2 .taken)) refl refl)
 
 returns-3 : tie.Need-returns-3
 unfolding first pages-in
 returns-3 c =
     let room = c .before in
-    rows-are _ _ _ _ _
+    rows-are _ _ _ _ _ _
     (tests (room .before .before) (not-false _ (room .before .if1 .left)) (not-false _ (room .if2 .left)) (not-true _ (c .if3 .taken)) refl)
 
 -- only the value is left to judge
@@ -56,11 +56,11 @@ spanned c f =
 
 returns-4 : tie.Need-returns-4
 unfolding first
-returns-4 c = rows-are _ _ _ _ _ (spanned (c .before) (not-true _ (c .if4 .taken)))
+returns-4 c = rows-are _ _ _ _ _ _ (spanned (c .before) (not-true _ (c .if4 .taken)))
 
 returns-5 : tie.Need-returns-5
 unfolding first
-returns-5 c = rows-are _ _ _ _ _ (spanned (c .before) (not-false _ (c .if4 .left)))
+returns-5 c = rows-are _ _ _ _ _ _ (spanned (c .before) (not-false _ (c .if4 .left)))
 
 pub check-input-spec : {M : Type 1} → statement M
 check-input-spec = tie.close (tie.spec (λ c κs. search needs) (λ c κs. search needs) returns returns-2 returns-3 returns-4 returns-5)

@@ -38,18 +38,18 @@ unfolding head
 read c = c .read-head .ensures ∙ ap head-of (c .before .page-at .ensures)
 
 returns : tie.Need-returns
-returns c = late-21 _ _ _ _ (sym (c .before .sound .ensures) ∙ not-true _ (c .if1 .taken))
+returns c = late-21 _ _ _ _ _ (sym (c .before .sound .ensures) ∙ not-true _ (c .if1 .taken))
 
 returns-2 : tie.Need-returns-2
 returns-2 c =
     let head = c .before .before in
-    late-22 _ _ _ _ (passed (head .before .before)) (read head) (c .if2 .taken)
+    late-22 _ _ _ _ _ (passed (head .before .before)) (read head) (c .if2 .taken)
 
 returns-3 : tie.Need-returns-3
 returns-3 c =
     let side = c .before .before in
     let head = side .before .before in
-    late-23 _ _ _ _ (passed (head .before .before)) (read head) (side .if2 .left) (eq-eqb _ _ (c .if3 .taken))
+    late-23 _ _ _ _ _ (passed (head .before .before)) (read head) (side .if2 .left) (eq-eqb _ _ (c .if3 .taken))
 
 -- where the head had been read
 abbrev headed : tie.After-effect-end → tie.After-read-head
@@ -68,13 +68,13 @@ module _ (c : tie.After-lacks-pages) where
   start = began (headed (c .before) .before .before)
 
   counted : cond (c .lacks-pages .result) (Refused 24) (Accepted (headed (c .before) .read-head .result))
-      ≡ state-check (side-of (start .args .withdraws)) (start .args .s) (start .args .e) (start .args .img .now)
+      ≡ state-check 12 (side-of (start .args .withdraws)) (start .args .s) (start .args .e) (start .args .img .now)
   counted =
       let end = c .before in
       let full = end .before in
       let side = full .before .before in
       let head = side .before .before in
-      late-last _ _ _ _ (passed (head .before .before)) (read head) (side .if2 .left) (ne-eqb _ _ (full .if3 .left))
+      late-last _ _ _ _ _ (passed (head .before .before)) (read head) (side .if2 .left) (ne-eqb _ _ (full .if3 .left))
       (end .effect-end .ensures) (c .lacks-pages .ensures)
 
 returns-4 : tie.Need-returns-4
@@ -87,7 +87,7 @@ lacks-pages-requires : tie.Need-lacks-pages-requires
 unfolding head
 lacks-pages-requires c κs =
     let head = headed c in
-    (record { sound = passed (head .before .before); shown = read head }, later c)
+    (record { half-least = omega arith; half-most = omega arith; sound = passed (head .before .before); shown = read head }, later c)
 
 pub check-state-spec : {M : Type 1} → statement M
 check-state-spec =

@@ -24,14 +24,14 @@ combine-span-requires : tie.Need-combine-span-requires
 combine-span-requires c κs =
     let b = c .before .before .before in
     let a = at-A b in
-    some-C _ _ _ _ (a .cut .ensures) (b .cut2 .ensures) (a .before .before .before .pre)
+    some-C _ _ _ _ _ (a .cut .ensures) (b .cut2 .ensures) (a .before .before .before .pre)
 
 heal-requires : tie.Need-heal-requires
 heal-requires c κs =
     let d = c .before .before .before in
     let b = at-B d in
     let a = at-A b in
-    some-D _ _ _ _ (a .cut .ensures) (b .cut2 .ensures) (d .combine-span .ensures) (a .before .before .before .pre)
+    some-D _ _ _ _ _ (a .cut .ensures) (b .cut2 .ensures) (d .combine-span .ensures) (a .before .before .before .pre)
 
 heal-requires-2 : tie.Need-heal-requires-2
 heal-requires-2 c κs =
@@ -39,7 +39,7 @@ heal-requires-2 c κs =
     let d = at-C f in
     let b = at-B d in
     let a = at-A b in
-    some-E _ _ _ _ (a .cut .ensures) (b .cut2 .ensures) (d .combine-span .ensures) (f .heal .ensures) (a .before .before .before .pre)
+    some-E _ _ _ _ _ (a .cut .ensures) (b .cut2 .ensures) (d .combine-span .ensures) (f .heal .ensures) (a .before .before .before .pre)
 
 count-change-requires : tie.Need-count-change-requires
 count-change-requires c κs =
@@ -48,7 +48,7 @@ count-change-requires c κs =
     let d = at-C f in
     let b = at-B d in
     let a = at-A b in
-    some-count _ _ _ _ (a .cut .ensures) (b .cut2 .ensures) (d .combine-span .ensures) (f .heal .ensures) (g .heal2 .ensures)
+    some-count _ _ _ _ _ (a .cut .ensures) (b .cut2 .ensures) (d .combine-span .ensures) (f .heal .ensures) (g .heal2 .ensures)
     (a .before .before .before .pre)
 
 returns : tie.Need-returns
@@ -59,12 +59,12 @@ returns c =
     let d = at-C f in
     let b = at-B d in
     let a = at-A b in
-    changed _ _ _ _ (a .cut .ensures) (b .cut2 .ensures) (d .combine-span .ensures) (f .heal .ensures) (g .heal2 .ensures)
+    changed _ _ _ _ _ (a .cut .ensures) (b .cut2 .ensures) (d .combine-span .ensures) (f .heal .ensures) (g .heal2 .ensures)
     (k .count-change .ensures)
 
 pub apply-spec : {M : Type 1} → statement M
 apply-spec =
     tie.close
     (tie.spec (λ c κs. search needs)
-    (λ c κs. let a = c .before .before .before in some-B _ _ _ _ (a .cut .ensures) (a .before .before .before .pre))
+    (λ c κs. let a = c .before .before .before in some-B _ _ _ _ _ (a .cut .ensures) (a .before .before .before .pre))
     combine-span-requires heal-requires heal-requires-2 count-change-requires (λ c. search needs) returns)

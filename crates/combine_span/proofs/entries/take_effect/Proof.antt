@@ -6,7 +6,7 @@ use Rattle.combine_span.proofs.entries.take_effect.Statement.{statement
 use Rattle.combine_span.proofs.entries.take_effect.Tie as tie
 
 abbrev Inv-loop : tie.InvT-loop
-Inv-loop img₀ q hi p n i₀ img i = turns.Taking q hi p img₀ n i img
+Inv-loop img₀ q hi p n i₀ img i = turns.Taking q hi p 12 img₀ n i img
 
 abbrev μ-loop : tie.MeasureT-loop
 μ-loop img₀ q hi p n i₀ img i = n - i

@@ -32,7 +32,7 @@ abbrev μ-combine-page : Measures 1 combine-page-kinds.ps ℕ
 μ-combine-page κs a = 2 * a .1 .1 .0 + 1
 
 abbrev Inv-loop : combine-page-lts.InvT-loop
-Inv-loop img₀ q level hi p n i₀ img i = turns.Sending q level hi p img₀ n i img
+Inv-loop img₀ q level hi p n i₀ img i = turns.Sending q level hi p 12 img₀ n i img
 
 abbrev μ-loop : combine-page-lts.MeasureT-loop
 μ-loop img₀ q level hi p n i₀ img i = n - i
@@ -47,14 +47,14 @@ pub +combine-entry+combine-page-spec : {M : Type 1} → statement M
     -- inside-requires
     (λ c κs. search needs)
     -- returns
-    (λ c X h r. subst (Encodes _) (sent-inside _ _ _ _ X (sym (c .before .inside .ensures) ∙ c .if1 .taken)) h)
+    (λ c X h r. subst (Encodes 12 _) (sent-inside _ _ _ _ X (sym (c .before .inside .ensures) ∙ c .if1 .taken)) h)
     -- overlaps-requires
     (λ c κs. search needs)
     -- returns-2
     (λ c X h r.
     let out = c .before .before in
     let apart = sym (out .before .inside .ensures) ∙ out .if1 .left in
-    subst (Encodes _) (sent-apart _ _ _ _ X apart (sym (c .before .overlaps .ensures) ∙ not-true _ (c .if2 .taken))) h)
+    subst (Encodes 12 _) (sent-apart _ _ _ _ X apart (sym (c .before .overlaps .ensures) ∙ not-true _ (c .if2 .taken))) h)
     -- sub-combine-page
     (λ c. let out = c .before .before .before in out .before .before .before .pre .1 .0)
     -- combine-page-requires
@@ -78,7 +78,7 @@ pub +combine-entry+combine-page-spec : {M : Type 1} → statement M
     let some = out .before .before .before .pre .1 .0 in
     let apart = sym (out .before .inside .ensures) ∙ out .if1 .left in
     let meets = sym (met .before .overlaps .ensures) ∙ not-false _ (met .if2 .left) in
-    subst (Encodes _) (sent-below _ _ _ _ X some apart meets)
+    subst (Encodes 12 _) (sent-below _ _ _ _ X some apart meets)
     (call .combine-page .ensures X h (combinable-below _ _ _ _ X some apart meets r))))
     λ t. combine-page-lts.spec (
       take-effect.Asked,

@@ -29,8 +29,8 @@ abbrev began : tie.After-entry-count-in → tie.Start
 began c = read c .before .before .before
 
 -- of every image that the bytes encode: how many entries there are, and with the new one
-module _ (c : tie.After-entry-count-in) {X : Image} (h : Encodes (began c .args .img .now) X) {l : ℕ}
-    (r : Insertable l (began c .args .e .child) (began c .args .i) X) where
+module _ (c : tie.After-entry-count-in) {X : Image} (h : Encodes 12 (began c .args .img .now) X) {l : ℕ}
+    (r : Insertable 12 l (began c .args .e .child) (began c .args .i) X) where
   abbrev p : ℕ
   p = began c .args .e .child
 
@@ -56,15 +56,15 @@ module _ (c : tie.After-entry-count-in) {X : Image} (h : Encodes (began c .args 
 
   -- what is done to the page with the new one is done as asked
   asked : {out : SplitOutcome} {after : List ℕ}
-      → Cut-as (began c .args .e) (split-if-full 12 l (began c .args .e) (inserted (i + 1) new (entries X p)) X) out after
-      → Cut-as (began c .args .e)
+      → Cut-as 12 (began c .args .e) (split-if-full 12 l (began c .args .e) (inserted (i + 1) new (entries X p)) X) out after
+      → Cut-as 12 (began c .args .e)
       (split-if-full 12 l (began c .args .e) (inserted-after i (began c .args .start) (began c .args .child) (entries X p)) X) out after
   asked = cut-as (λ j. split-if-full 12 l (began c .args .e) (gained j) X)
 
-  room : c .entry-count-in .result < 24 → Has-room l p (i + 1) X
+  room : c .entry-count-in .result < 24 → Has-room 12 l p (i + 1) X
   room less = record { tree-page = place .tree-page; inside = place .inside; room = omega (arith, count) }
 
-  splittable : 24 ≤ c .entry-count-in .result → Splittable l p (i + 1) X
+  splittable : 24 ≤ c .entry-count-in .result → Splittable 12 l p (i + 1) X
   splittable full =
       let n = count in
       record { place = place; low = r .low; full = omega arith; takable = r .room (omega arith) }
@@ -78,7 +78,7 @@ returns c X h l r =
     let test = inserted .before .before in
     let k = room (test .before) h r (test .if1 .taken) in
     asked (test .before) h r
-    (saved-as _ l _ X (omega (arith, longer (test .before) h r, k .room)) (inserted .insert-entry .ensures X h l k))
+    (saved-as 12 _ l _ X (omega (arith, longer (test .before) h r, k .room)) (inserted .insert-entry .ensures X h l k))
 
 returns-2 : tie.Need-returns-2
 returns-2 c X h l r =
@@ -86,7 +86,7 @@ returns-2 c X h l r =
     let test = halved .before .before in
     let k = splittable (test .before) h r (test .if1 .left) in
     asked (test .before) h r
-    (halved-as _ l _ X (omega (arith, longer (test .before) h r, k .full)) (halved .split .ensures X h l k))
+    (halved-as 12 _ l _ X (omega (arith, longer (test .before) h r, k .full)) (halved .split .ensures X h l k))
 
 pub insert-after-spec : {M : Type 1} → statement M
 insert-after-spec =

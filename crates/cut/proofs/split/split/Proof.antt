@@ -40,8 +40,8 @@ halved c = kept c .before .before
 
 -- ---- of every image that the bytes encode: the 25 entries, the page taken, and the two halves
 
-module _ (c : tie.After-take) {X : Image} (h : Encodes (began c .args .img .now) X) {l : ℕ}
-    (r : Splittable l (began c .args .e .child) (began c .args .i) X) where
+module _ (c : tie.After-take) {X : Image} (h : Encodes 12 (began c .args .img .now) X) {l : ℕ}
+    (r : Splittable 12 l (began c .args .e .child) (began c .args .i) X) where
   abbrev es : List Entry
   es = inserted (began c .args .i) (began c .args .new) (entries X (began c .args .e .child))
 
@@ -55,7 +55,7 @@ module _ (c : tie.After-take) {X : Image} (h : Encodes (began c .args .img .now)
   spared : c .take .result ≡ spare X
   spared = c .take .ensures X h (r .takable) .0
 
-  holds : Encodes (c .take .last .0) (taken X)
+  holds : Encodes 12 (c .take .last .0) (taken X)
   holds = c .take .ensures X h (r .takable) .1
 
   within : In-image (began c .args .e .child) (taken X)
@@ -65,18 +65,18 @@ module _ (c : tie.After-take) {X : Image} (h : Encodes (began c .args .img .now)
   long = has-len page ∙ many
 
 -- the first half, once it is saved, and the page taken is still one of the image's
-module _ (c : tie.After-first-of) {X : Image} (h : Encodes (began (took c) .args .img .now) X) {l : ℕ}
-    (r : Splittable l (began (took c) .args .e .child) (began (took c) .args .i) X) where
+module _ (c : tie.After-first-of) {X : Image} (h : Encodes 12 (began (took c) .args .img .now) X) {l : ℕ}
+    (r : Splittable 12 l (began (took c) .args .e .child) (began (took c) .args .i) X) where
   left : Has-entries l (take 12 (es (took c) h r)) (c .first-of .result)
   left = has-then (take 12) (page (took c) h r) (c .first-of .ensures)
 
-module _ (c : tie.After-rest-of) {X : Image} (h : Encodes (began (took (halved c)) .args .img .now) X) {l : ℕ}
-    (r : Splittable l (began (took (halved c)) .args .e .child) (began (took (halved c)) .args .i) X) where
+module _ (c : tie.After-rest-of) {X : Image} (h : Encodes 12 (began (took (halved c)) .args .img .now) X) {l : ℕ}
+    (r : Splittable 12 l (began (took (halved c)) .args .e .child) (began (took (halved c)) .args .i) X) where
   right : Has-entries l (drop 12 (es (took (halved c)) h r)) (c .rest-of .result)
   right = has-then (drop 12) (page (took (halved c)) h r) (c .rest-of .ensures)
 
   thirteen : c .rest-of .result .len ≡ 13
-  thirteen = right-len (es (took (halved c)) h r) (many (took (halved c)) h r) right
+  thirteen = right-len 12 (es (took (halved c)) h r) (many (took (halved c)) h r) right
 
 first-of-requires : tie.Need-first-of-requires
 first-of-requires c κs =
@@ -91,7 +91,7 @@ save-requires c κs =
     (λ X h r.
     let half = left first h (r .1) in (
       record { image = _; holds = holds taking h (r .1); ready = within taking h (r .1) },
-      (omega (arith, half .level, r .1 .low), omega (arith, left-len (es taking h (r .1)) (many taking h (r .1)) half)),
+      (omega (arith, half .level, r .1 .low), omega (arith, left-len 12 (es taking h (r .1)) (many taking h (r .1)) half)),
     ))
 
 rest-of-requires : tie.Need-rest-of-requires
@@ -125,7 +125,7 @@ returns c X h l r =
     let saved = c .before .before .before in
     let rest = saved .before .before in
     let taking = took (halved rest) in
-    split-as (began taking .args .e) l (es taking h r) X (left (halved rest) h r) (right rest h r) (spared taking h r)
+    split-as 12 (began taking .args .e) l (es taking h r) X (left (halved rest) h r) (right rest h r) (spared taking h r)
     (ap (λ e. e .start) (c .entry-at .ensures))
     (saved .save2 .ensures _ (kept rest .save .ensures _ (holds taking h r) (within taking h r))
     (within-put (spare-within (spared taking h r) (r .takable)) _ _))

@@ -7,7 +7,7 @@ use Rattle.heal.proofs.push.push_down.Statement.{statement}
 use Rattle.heal.proofs.push.push_down.Tie as tie
 
 abbrev Inv-loop : tie.InvT-loop
-Inv-loop img₀ kind e n i₀ img i = Pushing kind e img₀ n img i
+Inv-loop img₀ kind e n i₀ img i = Pushing kind e 12 img₀ n img i
 
 abbrev μ-loop : tie.MeasureT-loop
 μ-loop img₀ kind e n i₀ img i = n - i

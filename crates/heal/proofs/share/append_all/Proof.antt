@@ -7,7 +7,7 @@ use Rattle.heal.proofs.share.append_all.Statement.{statement}
 use Rattle.heal.proofs.share.append_all.Tie as tie
 
 abbrev Inv-loop : tie.InvT-loop
-Inv-loop img₀ a b m n i₀ img i = Appending a b img₀ m n img i
+Inv-loop img₀ a b m n i₀ img i = Appending a b 12 img₀ m n img i
 
 abbrev μ-loop : tie.MeasureT-loop
 μ-loop img₀ a b m n i₀ img i = n - i

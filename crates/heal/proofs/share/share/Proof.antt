@@ -6,7 +6,7 @@ use Rattle.heal.proofs.share.share.Statement.{statement}
 use Rattle.heal.proofs.share.share.Tie as tie
 
 abbrev Inv-loop : tie.InvT-loop
-Inv-loop img₀ a b k m₀ img m = Sharing a b k img₀ img m
+Inv-loop img₀ a b k m₀ img m = Sharing a b k 12 img₀ img m
 
 abbrev μ-loop : tie.MeasureT-loop
 μ-loop img₀ a b k m₀ img m = (k - m) + (m - k)

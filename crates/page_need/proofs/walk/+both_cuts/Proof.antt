@@ -50,7 +50,7 @@ abbrev began : (n : ℕ) → Searched n → both-cuts-lts.Start (known n) (given
 began n c = let first = c .before in first .before .before .before
 
 below : (n : ℕ) (c : Searched n)
-    → Both-below (began n c .args .img .now) (began n c .args .s) (began n c .args .t) (began n c .args .level) (began n c .args .e)
+    → Both-below 12 (began n c .args .img .now) (began n c .args .s) (began n c .args .t) (began n c .args .level) (began n c .args .e)
     (c .before .find-entry .result) (c .find-entry2 .result)
 below n c =
     let first = c .before in

@@ -11,7 +11,7 @@ add-needs-requires c κs =
     let start = c .before .before .before in
     let args = start .args in
     let X = image-of 12 (args .img .now) in
-    let low = leads-low (args .img .now) (args .s) (args .level) (args .x) (start .pre .0) in (
+    let low = leads-low 12 (args .img .now) (args .s) (args .level) (args .x) (start .pre .0) in (
       small-one 12 X (args .level) (args .x) low (args .s) (c .before .one-cut .ensures),
       small-one 12 X (args .level) (args .y) low (args .t)
           (c .one-cut2 .ensures),

@@ -1,4 +1,5 @@
 -- `store::edits::remove_entry` meets its contract: the page that is lent comes back with one entry less. Assumes nothing.
+use mathlib.Core.Path.{refl}
 use native.Mathlib.Omega.{arith}
 use borrow.Author.Needs.{needs}
 use Rattle.store.proofs.Reading.{lent-within}
@@ -10,7 +11,7 @@ returns : tie.Need-returns
 returns c X h l k =
     let edited = c .before .before in
     let found = edited .before .before in
-    back-removed h (k .tree-page) (found .page-offset .ensures) (edited .remove-slot .kept .1 .0) (found .before .before .args .i) (k .inside)
+    back-removed h (k .tree-page) (found .page-offset .ensures) refl (edited .remove-slot .kept .1 .0) (found .before .before .args .i) (k .inside)
     (edited .remove-slot .ensures)
 
 pub remove-entry-spec : {M : Type 1} → statement M
@@ -20,5 +21,5 @@ remove-entry-spec =
     (λ c. let pre = c .before .before .pre in omega (arith, lent-within (pre .holds) (pre .ready .1 .tree-page)))
     (λ c κs.
     let pre = c .before .before .before .pre in
-    omega (arith, pre .ready .1 .inside, lent-sizes (pre .holds) (pre .ready .1 .tree-page) (c .before .page-offset .ensures)))
+    omega (arith, pre .ready .1 .inside, lent-sizes (pre .holds) (pre .ready .1 .tree-page) (c .before .page-offset .ensures) refl))
     (λ c. omega arith) returns)

@@ -10,7 +10,7 @@ use Rattle.store.proofs.Supplying.{by-head, Headed, some-headed}
 use Rattle.store.proofs.root.count_change.Statement.{statement}
 use Rattle.store.proofs.root.count_change.Tie as tie
 
-headed : (c : tie.After-head-of) → Headed (c .before .before .before .args .img .now) (c .head-of .result) Countable
+headed : (c : tie.After-head-of) → Headed 12 (c .before .before .before .args .img .now) (c .head-of .result) Countable
 headed c = some-headed (c .before .before .before .pre) (c .head-of .ensures)
 
 returns : tie.Need-returns
@@ -18,7 +18,7 @@ unfolding count-change
 returns c X h r =
     let set = c .before .before in
     let read = set .before .before .before in
-    by-head (λ Y. Encodes (read .before .before .before .args .img .now) Y → Encodes (set .set-head .last .0) (count-change Y))
+    by-head (λ Y. Encodes 12 (read .before .before .before .args .img .now) Y → Encodes 12 (set .set-head .last .0) (count-change Y))
     (read .head-of .ensures X h tt)
     (λ k. rw (← add-one (read .head-of .result .changes)) (set .set-head .ensures _ k (record { pages = refl }))) h
 

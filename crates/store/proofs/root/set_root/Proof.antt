@@ -20,7 +20,7 @@ returns c X h any =
     let set = c .before .before in
     let read = set .before .before in
     let args = read .before .before .before .args in
-    by-head (λ Y. Encodes (args .img .now) Y → Encodes (set .set-head .last .0) (with-root (args .height) (args .p) Y))
+    by-head (λ Y. Encodes 12 (args .img .now) Y → Encodes 12 (set .set-head .last .0) (with-root (args .height) (args .p) Y))
     (read .head-of .ensures X h tt)
     (λ k. set .set-head .ensures _ k (record { pages = refl })) h
 

@@ -11,7 +11,7 @@ use Rattle.store.proofs.supply.give_back.Statement.{statement}
 use Rattle.store.proofs.supply.give_back.Tie as tie
 
 headed : (c : tie.After-head-of)
-    → Headed (c .before .before .before .args .img .now) (c .head-of .result) (Givable (c .before .before .before .args .p))
+    → Headed 12 (c .before .before .before .args .img .now) (c .head-of .result) (Givable (c .before .before .before .args .p))
 headed c = some-headed (c .before .before .before .pre) (c .head-of .ensures)
 
 set-free-requires : tie.Need-set-free-requires
@@ -31,10 +31,10 @@ returns c X h r =
     let set = freed .before .before .before .before in
     let read = set .before .before .before in
     let args = read .before .before .before .args in
-    by-head (λ Y. Encodes (args .img .now) Y → Givable (args .p) Y → Encodes (freed .set-free .last .0) (given-back (args .p) Y))
+    by-head (λ Y. Encodes 12 (args .img .now) Y → Givable (args .p) Y → Encodes 12 (freed .set-free .last .0) (given-back (args .p) Y))
     (read .head-of .ensures X h tt)
     (λ k g.
-    subst (Encodes _) (given-back-is (args .p) _)
+    subst (Encodes 12 _) (given-back-is (args .p) _)
     (freed .set-free .ensures _ (set .set-head .ensures _ k (record { pages = refl }))
     (record { least = g .within .least; below = g .within .below })))
     h r

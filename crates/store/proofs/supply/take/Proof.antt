@@ -12,7 +12,7 @@ use Rattle.store.proofs.Supplying.{marked-below, chained-within}
 use Rattle.store.proofs.supply.take.Statement.{statement}
 use Rattle.store.proofs.supply.take.Tie as tie
 
-headed : (c : tie.After-head-of) → Headed (c .before .before .before .args .img .now) (c .head-of .result) Takable
+headed : (c : tie.After-head-of) → Headed 12 (c .before .before .before .args .img .now) (c .head-of .result) Takable
 headed c = some-headed (c .before .before .before .pre) (c .head-of .ensures)
 
 add-h : tie.Need-add-h
@@ -27,12 +27,12 @@ returns c X h r =
     let then = set .before .before in
     let read = then .before .before in
     by-head
-    (λ Y. Encodes (read .before .before .before .args .img .now) Y
-    → (read .head-of .result .mark ≡ spare Y) × Encodes (set .set-head .last .0) (taken Y))
+    (λ Y. Encodes 12 (read .before .before .before .args .img .now) Y
+    → (read .head-of .result .mark ≡ spare Y) × Encodes 12 (set .set-head .last .0) (taken Y))
     (read .head-of .ensures X h tt)
     (λ k. (
       spare-marked _ (then .if1 .taken),
-      subst (Encodes _) (taken-marked _ (then .if1 .taken))
+      subst (Encodes 12 _) (taken-marked _ (then .if1 .taken))
           (set .set-head .ensures _ k (record { pages = refl })),
     ))
     h
@@ -50,13 +50,13 @@ returns-2 c X h r =
     let else = next .before .before in
     let read = else .before .before in
     by-head
-    (λ Y. Encodes (read .before .before .before .args .img .now) Y → Takable Y
-    → (read .head-of .result .free ≡ spare Y) × Encodes (set .set-head2 .last .0) (taken Y))
+    (λ Y. Encodes 12 (read .before .before .before .args .img .now) Y → Takable Y
+    → (read .head-of .result .free ≡ spare Y) × Encodes 12 (set .set-head2 .last .0) (taken Y))
     (read .head-of .ensures X h tt)
     (λ k t.
     let some : 1 ≤ read .head-of .result .chain = omega (arith, else .if1 .left) in (
       spare-chained _ (else .if1 .left),
-      subst (Encodes _) (taken-chained _ (else .if1 .left) (t .front some)
+      subst (Encodes 12 _) (taken-chained _ (else .if1 .left) (t .front some)
           (next .next-free .ensures _ k (chained-within (else .if1 .left) t) _ (t .front some .is)))
           (set .set-head2 .ensures _ k (record { pages = refl })),
     ))
