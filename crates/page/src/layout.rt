@@ -72,17 +72,9 @@ pub const HALF: usize = MOST_HALF;
 
 pub const CAPACITY: usize = 2 * HALF;
 
-pub const FEWEST_ENTRIES: u32 = HALF as u32;
-
-pub const MOST_ENTRIES: u32 = CAPACITY as u32;
-
 pub const ENTRIES_OFFSET: usize = STARTS_OFFSET + START_BYTES * CAPACITY;
 
 pub const PAGE_BYTES: usize = ENTRIES_OFFSET + ENTRY_BYTES * CAPACITY;
-
-pub const BODY_BYTES: usize = PAGE_BYTES - GAP_OFFSET;
-
-pub const HEAD_REST: usize = PAGE_BYTES - HEAD_BYTES;
 
 // How many entries a page has at most.
 pub fn capacity(half: usize) -> usize
