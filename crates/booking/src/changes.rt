@@ -9,10 +9,18 @@ ghost use Rattle.booking.specs.Sides.{side-of};
 ghost use Rattle.booking.specs.Rows.{Accepts};
 
 // No row turns it back, so that every step finds its pages, and nothing overflows.
-pub(crate) fn make_change(img: &mut [u8], h: Head, withdraws: bool, v: i64, s: u32, e: u32)
-    requires { ⌜ Accepts 12 (side-of withdraws) v s e (now img) h ⌝ }
-    ensures { λ _. ⌜ now (img .exit) ≡ changed 12 (side-of withdraws) v s e (now (img .entry)) ⌝ }
+pub(crate) fn make_change(
+    half: usize,
+    img: &mut [u8],
+    h: Head,
+    withdraws: bool,
+    v: i64,
+    s: u32,
+    e: u32,
+)
+    requires { ⌜ Accepts half (side-of withdraws) v s e (now img) h ⌝ }
+    ensures { λ _. ⌜ now (img .exit) ≡ changed half (side-of withdraws) v s e (now (img .entry)) ⌝ }
 {
     let end = effect_end(e, h.window);
-    apply(img, h.kind, s, end, effect(withdraws, v))
+    apply(half, img, h.kind, s, end, effect(withdraws, v))
 }

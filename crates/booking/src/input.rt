@@ -5,19 +5,20 @@ use calls::refusals::IMAGE_LENGTH;
 use calls::refusals::SCRATCH_SHORT;
 use calls::refusals::SPAN_EMPTY;
 use calls::refusals::VALUE_RANGE;
-use page::layout::HALF;
-use page::layout::PAGE_BYTES;
+use page::layout::page_size;
 use rule::time::value_ok;
 ghost use mathlib.Core.Path.{_≡_};
+ghost use Prim.Native.Nat.{_≤_};
 ghost use Rattle.calls.specs.Refusals.{first};
 ghost use Rattle.calls.specs.Calls.{book-input-rows};
 
 // 16, 17, 11 or 13, in this order, or 0.
-pub(crate) fn check_input(img: &[u8], scratch: &[u8], v: i64, s: u32, e: u32) -> u32
-    ensures { λ r. ⌜ r ≡ first (book-input-rows 12 v s e (now (img .entry)) (now (scratch .entry))) ⌝ }
+pub(crate) fn check_input(half: usize, img: &[u8], scratch: &[u8], v: i64, s: u32, e: u32) -> u32
+    requires { ⌜ half ≤ 12 ⌝ }
+    ensures { λ r. ⌜ r ≡ first (book-input-rows half v s e (now (img .entry)) (now (scratch .entry))) ⌝ }
 {
-    let whole = length_fits(HALF, img);
-    let room = img.len() / PAGE_BYTES <= scratch.len();
+    let whole = length_fits(half, img);
+    let room = img.len() / page_size(half) <= scratch.len();
     let span = s < e;
     let fits = value_ok(v);
     if !whole {

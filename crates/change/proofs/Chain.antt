@@ -40,7 +40,8 @@ module _ (half kind s e : ℕ) (effect : Pair) where
       some-C = some-then reach-B (λ X h c. c .for-C)
 
       module _ {i3 : List ℕ}
-          (d : Post half i2 (Span-combinable (task kind s e effect)) (λ X. Encodes half i3 (combine-span (combine kind) s e effect X))) where
+          (d : Post half i2 (Span-combinable (task kind s e effect))
+          (λ X. Encodes half i3 (combine-span (combine kind) s e effect X))) where
         reach-C : Reach i0 i3 (after-C half kind s e effect)
         reach-C = then reach-B (λ X h c. c .for-C) d
 

@@ -12,14 +12,15 @@ ghost use Rattle.store.specs.Encoding.{Encodes, Pre, Post};
 ghost use Rattle.change.specs.Changeable.{Changeable};
 
 // Each step finds the image as the one before left it.
-pub fn apply(img: &mut [u8], kind: u32, s: u32, e: u32, effect: Pair)
-    requires { ⌜ Pre 12 (now img) (Changeable 12 kind s e effect) ⌝ }
-    ensures { λ _. ⌜ Post 12 (now (img .entry)) (Changeable 12 kind s e effect)
-        (λ X. Encodes 12 (now (img .exit)) (change 12 (combine kind) s e effect X)) ⌝ }
+pub fn apply(half: usize, img: &mut [u8], kind: u32, s: u32, e: u32, effect: Pair)
+    requires { ⌜ Pre half (now img) (Changeable half kind s e effect) ⌝ }
+    ensures { λ _. ⌜ Post half (now (img .entry)) (Changeable half kind s e effect)
+        (λ X. Encodes half (now (img .exit)) (change half (combine kind) s e effect X)) ⌝ }
 {
-    cut(img, s);
-    cut(img, e);
+    cut(half, img, s);
+    cut(half, img, e);
     combine_span(
+        half,
         img,
         SpanEffect {
             kind: kind,
@@ -28,7 +29,7 @@ pub fn apply(img: &mut [u8], kind: u32, s: u32, e: u32, effect: Pair)
             effect: effect,
         },
     );
-    heal(img, kind, s);
-    heal(img, kind, e);
-    count_change(img);
+    heal(half, img, kind, s);
+    heal(half, img, kind, e);
+    count_change(half, img);
 }

@@ -99,7 +99,8 @@ module _ (q : SpanEffect) (level hi p : ℕ) where
     pub same : length img ≡ length img₀
     pub each : Post half img₀ Start (λ X. (n ≡ length (entries X p)) × Encodes half img (sent-of i X))
 
-  pub none : {half : ℕ} {img : List ℕ} {n : ℕ} → Post-level half img (λ l. Tree-page l p) (λ l X. (n ≡ length (entries X p)) × (n ≤ capacity half))
+  pub none : {half : ℕ} {img : List ℕ} {n : ℕ}
+      → Post-level half img (λ l. Tree-page l p) (λ l X. (n ≡ length (entries X p)) × (n ≤ capacity half))
       → Sending half img n 0 img
   unfolding part-sent
   none count = record { same = refl; each = λ X h r. (count X h level (r .tree-page) .0, h) }
@@ -188,7 +189,8 @@ module _ (q : SpanEffect) (level hi p : ℕ) where
     pub can-take : Pre half img₀ Start → Pre-level half img (Page-takes q hi p)
     can-take s = some-then (t .each) (λ X h r. (level, takes-then X h r)) s
 
-    pub took : {img′ : List ℕ} → Post-level half img (Page-takes q hi p) (λ l Y. Encodes half img′ (put p (tree l (all-took q hi (entries Y p))) Y))
+    pub took : {img′ : List ℕ} → Post-level half img (Page-takes q hi p)
+        (λ l Y. Encodes half img′ (put p (tree l (all-took q hi (entries Y p))) Y))
         → Post half img₀ Start (λ X. Encodes half img′ (page-by q level hi p X))
     took {img′} take X h r =
         let Y : Image = all-sent q hi level (entries X p) X in

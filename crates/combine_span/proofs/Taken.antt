@@ -100,7 +100,8 @@ module _ (q : SpanEffect) (hi : ℕ) where
       pub same : length img ≡ length img₀
       pub each : Post-level half img₀ (Page-takes q hi p) (λ l X. (n ≡ length (entries X p)) × Encodes half img (part-put i l X))
 
-    pub none : {half : ℕ} {img : List ℕ} {n : ℕ} → Post-level half img (λ l. Tree-page l p) (λ l X. (n ≡ length (entries X p)) × (n ≤ capacity half))
+    pub none : {half : ℕ} {img : List ℕ} {n : ℕ}
+        → Post-level half img (λ l. Tree-page l p) (λ l X. (n ≡ length (entries X p)) × (n ≤ capacity half))
         → Taking half img n 0 img
     unfolding part-took
     none {half} {img} count =

@@ -40,29 +40,29 @@ fn with_effect(q: SpanEffect, x: Entry) -> Entry
 }
 
 // The i-th entry of page p, a page that ends at hi: it is written only if it is inside.
-fn entry_takes(img: &mut [u8], q: SpanEffect, hi: u32, p: u32, i: usize)
-    requires { ⌜ Pre-level 12 (now img) (Entry-takes q hi p i) ⌝ }
-    ensures { λ _. ⌜ Post-level 12 (now (img .entry)) (Entry-takes q hi p i) (λ l X. Encodes 12 (now (img .exit))
+fn entry_takes(half: usize, img: &mut [u8], q: SpanEffect, hi: u32, p: u32, i: usize)
+    requires { ⌜ Pre-level half (now img) (Entry-takes q hi p i) ⌝ }
+    ensures { λ _. ⌜ Post-level half (now (img .entry)) (Entry-takes q hi p i) (λ l X. Encodes half (now (img .exit))
         (put p (tree l (splice i (took-by q (end-in hi (entries X p) i) (at (entries X p) i) ∷ []) (entries X p))) X)) ⌝ }
 {
-    let x = entry_of(img, p, i);
-    let end = entry_end(img, p, hi, i);
+    let x = entry_of(half, img, p, i);
+    let end = entry_end(half, img, p, hi, i);
     if !inside(q.s, q.e, x.start, end) {
         return;
     }
-    set_entry(img, p, i, with_effect(q, x))
+    set_entry(half, img, p, i, with_effect(q, x))
 }
 
 // All entries of page p, which ends at hi.
-pub(crate) fn take_effect(img: &mut [u8], q: SpanEffect, hi: u32, p: u32)
-    requires { ⌜ Pre-level 12 (now img) (Page-takes q hi p) ⌝ }
-    ensures { λ _. ⌜ Post-level 12 (now (img .entry)) (Page-takes q hi p)
-        (λ l X. Encodes 12 (now (img .exit)) (put p (tree l (all-took q hi (entries X p))) X)) ⌝ }
+pub(crate) fn take_effect(half: usize, img: &mut [u8], q: SpanEffect, hi: u32, p: u32)
+    requires { ⌜ Pre-level half (now img) (Page-takes q hi p) ⌝ }
+    ensures { λ _. ⌜ Post-level half (now (img .entry)) (Page-takes q hi p)
+        (λ l X. Encodes half (now (img .exit)) (put p (tree l (all-took q hi (entries X p))) X)) ⌝ }
 {
-    let n = entry_count_in(img, p);
+    let n = entry_count_in(half, img, p);
     let mut i = 0;
     while i < n {
-        entry_takes(img, q, hi, p, i);
+        entry_takes(half, img, q, hi, p, i);
         i += 1;
     }
 }

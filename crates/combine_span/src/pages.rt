@@ -13,31 +13,33 @@ ghost use Rattle.combine_span.specs.SpanCombinable.{page-by, sent-by, Pa
 
 // Page p of the level named, which ends at hi: what its entries send below, one after the other, and then what they take themselves. The
 // page is read from the image as it is at each turn: what was sent below has left it as it was.
-pub(crate) fn combine_page(img: &mut [u8], q: SpanEffect, level: u32, hi: u32, p: u32)
-    requires { ⌜ Pre 12 (now img) (Page-combinable q level hi p) ⌝ }
-    ensures { λ _. ⌜ Post 12 (now (img .entry)) (Page-combinable q level hi p) (λ X. Encodes 12 (now (img .exit)) (page-by q level hi p X)) ⌝ }
+pub(crate) fn combine_page(half: usize, img: &mut [u8], q: SpanEffect, level: u32, hi: u32, p: u32)
+    requires { ⌜ Pre half (now img) (Page-combinable q level hi p) ⌝ }
+    ensures { λ _. ⌜ Post half (now (img .entry)) (Page-combinable q level hi p)
+        (λ X. Encodes half (now (img .exit)) (page-by q level hi p X)) ⌝ }
 {
     // A leaf has no pages below.
     if level == 0 {
-        take_effect(img, q, hi, p);
+        take_effect(half, img, q, hi, p);
         return;
     }
-    let n = entry_count_in(img, p);
+    let n = entry_count_in(half, img, p);
     let mut i = 0;
     while i < n {
-        let x = entry_of(img, p, i);
-        let end = entry_end(img, p, hi, i);
-        combine_entry(img, q, level, end, x);
+        let x = entry_of(half, img, p, i);
+        let end = entry_end(half, img, p, hi, i);
+        combine_entry(half, img, q, level, end, x);
         i += 1;
     }
-    take_effect(img, q, hi, p)
+    take_effect(half, img, q, hi, p)
 }
 
 // "one partly inside sends it to its child": what an entry of an inner page of that level, which ends at hi, sends below. The level falls.
-fn combine_entry(img: &mut [u8], q: SpanEffect, level: u32, hi: u32, x: Entry)
+fn combine_entry(half: usize, img: &mut [u8], q: SpanEffect, level: u32, hi: u32, x: Entry)
     requires { ⌜ 1 ≤ level ⌝ }
-    requires { ⌜ Pre 12 (now img) (Entry-combinable q level hi x) ⌝ }
-    ensures { λ _. ⌜ Post 12 (now (img .entry)) (Entry-combinable q level hi x) (λ X. Encodes 12 (now (img .exit)) (sent-by q level hi x X)) ⌝ }
+    requires { ⌜ Pre half (now img) (Entry-combinable q level hi x) ⌝ }
+    ensures { λ _. ⌜ Post half (now (img .entry)) (Entry-combinable q level hi x)
+        (λ X. Encodes half (now (img .exit)) (sent-by q level hi x X)) ⌝ }
 {
     if inside(q.s, q.e, x.start, hi) {
         return;
@@ -45,5 +47,5 @@ fn combine_entry(img: &mut [u8], q: SpanEffect, level: u32, hi: u32, x: Entry)
     if !overlaps(q.s, q.e, x.start, hi) {
         return;
     }
-    combine_page(img, q, level - 1, hi, x.child)
+    combine_page(half, img, q, level - 1, hi, x.child)
 }

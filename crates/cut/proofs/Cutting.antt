@@ -56,7 +56,8 @@ module _ (e : Entry) (t : ℕ) where
   unfolding became cut-leaf-entry
   leaf-two s = sym (rw (ne-eqb (e .start) t s))
 
-  pub leaf-as : {half level : ℕ} {X : Image} {g : SplitOutcome} {after : List ℕ} → level ≡ 0 → became e g ≡ cut-leaf-entry t e → Encodes half after X
+  pub leaf-as : {half level : ℕ} {X : Image} {g : SplitOutcome} {after : List ℕ} → level ≡ 0 → became e g ≡ cut-leaf-entry t e
+      → Encodes half after X
       → Cut-as half e (cut-entry half t level e X) g after
   unfolding cut-entry
   leaf-as {half} {level} {X} {g} {after} z b h =
@@ -106,7 +107,8 @@ module _ {half : ℕ} {e : Entry} {level t : ℕ} {X : Image} {f : Found} (k : S
   under = below half (level - 1) (e .child) t X
 
   -- what it leads to is cut, with the answer that a match has told
-  pub found-cut : {g g′ : SplitOutcome} {after : List ℕ} → g ≡ g′ → Cut-as half (f .entry) (cut-entry half t (level - 1) (f .entry) X) g after
+  pub found-cut : {g g′ : SplitOutcome} {after : List ℕ} → g ≡ g′
+      → Cut-as half (f .entry) (cut-entry half t (level - 1) (f .entry) X) g after
       → Cut-as half (f .entry) under g′ after
   found-cut same b = told same (cut-as (ap (λ x. cut-entry half t (level - 1) x X) (k .entry)) b)
 
@@ -142,7 +144,8 @@ module _ {half : ℕ} {e : Entry} {level t : ℕ} {X : Image} {f : Found} (k : S
                 tree-page =
                     record {
                       within =
-                          cut-keeps (In-image p) (λ q c Y v. within-put v q c) (λ Y v. within-taken v) half t (level - 1) (entry-for t p X) X
+                          cut-keeps (In-image p) (λ q c Y v. within-put v q c) (λ Y v. within-taken v) half t (level - 1)
+                          (entry-for t p X) X
                           (s .tree-page .within);
                       page = r .kept ∙ s .tree-page .page ∙ ap (tree (level - 1)) (sym same-entries);
                     };
@@ -164,7 +167,8 @@ module _ {half : ℕ} {e : Entry} {level t : ℕ} {X : Image} {f : Found} (k : S
 
     -- and e becomes what the cutting says
     pub found-two : {g : SplitOutcome} {then : List ℕ}
-        → Cut-as half e (split-if-full half (level - 1) e (inserted-after (f .index) start q (entries (under .image) (e .child))) (under .image)) g then
+        → Cut-as half e (split-if-full half (level - 1) e (inserted-after (f .index) start q (entries (under .image) (e .child)))
+        (under .image)) g then
         → Cut-as half e (cut-entry half t level e X) g then
     unfolding cut-entry
     found-two {g} {then} m =

@@ -93,7 +93,8 @@ module _ (half t : ℕ) (X : Image) {h : Head} (read : h ≡ X .head) where
         }
 
     pub root-two : {then : List ℕ} → t < END
-        → Encodes half then (grow-root (entry 0 none (h .root) ∷ entry start none q ∷ []) (from-root half t X .image)) → Encodes half then (cut half t X)
+        → Encodes half then (grow-root (entry 0 none (h .root) ∷ entry start none q ∷ []) (from-root half t X .image))
+        → Encodes half then (cut half t X)
     unfolding became root-entry
     root-two {then} l m =
         subst (Encodes half then)

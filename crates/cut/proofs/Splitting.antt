@@ -26,7 +26,8 @@ use Rattle.cut.specs.declared.SplitOutcome.the-variants.{Same, Split}
 use Rattle.cut.specs.Answers.{became, inserted-after, Cut-as}
 
 -- the answer that a match has told, and the same cutting in other words
-pub told : {half : ℕ} {e : Entry} {c : Cutting} {g g′ : SplitOutcome} {after : List ℕ} → g ≡ g′ → Cut-as half e c g after → Cut-as half e c g′ after
+pub told : {half : ℕ} {e : Entry} {c : Cutting} {g g′ : SplitOutcome} {after : List ℕ} → g ≡ g′ → Cut-as half e c g after
+    → Cut-as half e c g′ after
 told {half} {e} {c} {after = after} same m = subst (λ r. Cut-as half e c r after) same m
 
 pub cut-as : {half : ℕ} {e : Entry} {c c′ : Cutting} {g : SplitOutcome} {after : List ℕ} → c ≡ c′ → Cut-as half e c g after
@@ -59,12 +60,14 @@ module _ (half : ℕ) (e : Entry) (level : ℕ) (es : List Entry) (X : Image) {a
   pub saved-as : length es ≤ capacity half → Encodes half after (put (e .child) (tree level es) X)
       → Cut-as half e (split-if-full half level e es X) Same after
   unfolding split-if-full not-split became
-  saved-as few h = cut-as (ap (decided half e level es X) (sym (le-leb (length es) (capacity half) few))) (record { becomes = refl; holds = h })
+  saved-as few h = cut-as (ap (decided half e level es X) (sym (le-leb (length es) (capacity half) few)))
+      (record { becomes = refl; holds = h })
 
   -- "the page keeps 12, a taken page gets 13, the parent gains an entry with the same pair"
   pub split-as : {q start : ℕ} {left right : Page} → Has-entries level (take half es) left → Has-entries level (drop half es) right
       → q ≡ spare X → start ≡ at (entry-list right) 0 .start
-      → Encodes half after (put q (tree (right .level) (entry-list right)) (put (e .child) (tree (left .level) (entry-list left)) (taken X)))
+      → Encodes half after (put q (tree (right .level) (entry-list right))
+      (put (e .child) (tree (left .level) (entry-list left)) (taken X)))
       → Cut-as half e (split half level e es X) (Split start q) after
   unfolding split became
   split-as {q} {start} l r n s h =

@@ -10,16 +10,16 @@ ghost use Rattle.store.specs.Encoding.{Encodes, Pre, Post};
 ghost use Rattle.cut.specs.Cuttable.{Cuttable};
 
 // "nothing if t is END or starts a leaf entry".
-pub fn cut(img: &mut [u8], t: u32)
-    requires { ⌜ Pre 12 (now img) (Cuttable 12 t) ⌝ }
-    ensures { λ _. ⌜ Post 12 (now (img .entry)) (Cuttable 12 t) (λ X. Encodes 12 (now (img .exit)) (cut 12 t X)) ⌝ }
+pub fn cut(half: usize, img: &mut [u8], t: u32)
+    requires { ⌜ Pre half (now img) (Cuttable half t) ⌝ }
+    ensures { λ _. ⌜ Post half (now (img .entry)) (Cuttable half t) (λ X. Encodes half (now (img .exit)) (cut half t X)) ⌝ }
 {
     if t == END {
         return;
     }
-    let h = head_of(img);
-    let SplitOutcome::Split(start, q) = cut_entry(img, h.height, root_entry(h), t) else {
+    let h = head_of(half, img);
+    let SplitOutcome::Split(start, q) = cut_entry(half, img, h.height, root_entry(h), t) else {
         return;
     };
-    grow_root(img, h.root, start, q)
+    grow_root(half, img, h.root, start, q)
 }

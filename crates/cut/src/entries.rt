@@ -22,16 +22,17 @@ fn cut_leaf_entry(e: Entry, t: u32) -> SplitOutcome
 // "Lower pages take first": the page under e is written once the page below it is. Where that one was split, its entry becomes two.
 // The page under e is read on the way down for one entry alone, and is still the same on the way up: so no level of the recursion
 // holds a decoded page.
-pub(crate) fn cut_entry(img: &mut [u8], level: u32, e: Entry, t: u32) -> SplitOutcome
-    requires { ⌜ Pre 12 (now img) (Entry-cuttable 12 level e t) ⌝ }
-    ensures { λ r. ⌜ Post 12 (now (img .entry)) (Entry-cuttable 12 level e t) (λ X. Cut-as 12 e (cut-entry 12 t level e X) r (now (img .exit))) ⌝ }
+pub(crate) fn cut_entry(half: usize, img: &mut [u8], level: u32, e: Entry, t: u32) -> SplitOutcome
+    requires { ⌜ Pre half (now img) (Entry-cuttable half level e t) ⌝ }
+    ensures { λ r. ⌜ Post half (now (img .entry)) (Entry-cuttable half level e t)
+        (λ X. Cut-as half e (cut-entry half t level e X) r (now (img .exit))) ⌝ }
 {
     if level == 0 {
         return cut_leaf_entry(e, t);
     }
-    let found = find_entry(img, e.child, t);
-    let SplitOutcome::Split(start, q) = cut_entry(img, level - 1, found.entry, t) else {
+    let found = find_entry(half, img, e.child, t);
+    let SplitOutcome::Split(start, q) = cut_entry(half, img, level - 1, found.entry, t) else {
         return SplitOutcome::Same;
     };
-    insert_after(img, e, found.index, start, q)
+    insert_after(half, img, e, found.index, start, q)
 }

@@ -33,13 +33,13 @@ fn new_root(level: u32, root: u32, start: u32, q: u32) -> Page
 }
 
 // The new root is the page that is taken last, a level above.
-pub(crate) fn grow_root(img: &mut [u8], root: u32, start: u32, q: u32)
-    requires { ⌜ Pre 12 (now img) Root-growable ⌝ }
-    ensures { λ _. ⌜ Post 12 (now (img .entry)) Root-growable
-        (λ X. Encodes 12 (now (img .exit)) (grow-root (entry 0 none root ∷ entry start none q ∷ []) X)) ⌝ }
+pub(crate) fn grow_root(half: usize, img: &mut [u8], root: u32, start: u32, q: u32)
+    requires { ⌜ Pre half (now img) Root-growable ⌝ }
+    ensures { λ _. ⌜ Post half (now (img .entry)) Root-growable
+        (λ X. Encodes half (now (img .exit)) (grow-root (entry 0 none root ∷ entry start none q ∷ []) X)) ⌝ }
 {
-    let h = head_of(img);
-    let p = take(img);
-    set_root(img, h.height + 1, p);
-    save(img, p, new_root(h.height, root, start, q));
+    let h = head_of(half, img);
+    let p = take(half, img);
+    set_root(half, img, h.height + 1, p);
+    save(half, img, p, new_root(h.height, root, start, q));
 }

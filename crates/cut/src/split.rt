@@ -6,8 +6,7 @@ use edit::split::first_of;
 use edit::split::rest_of;
 use page::Entry;
 use page::Page;
-use page::layout::CAPACITY;
-use page::layout::HALF;
+use page::layout::capacity;
 use store::edits::insert_entry;
 use store::entries::entry_count_in;
 use store::entries::entry_of;
@@ -23,51 +22,52 @@ ghost use Rattle.cut.specs.Answers.{inserted-after, Cut-as};
 ghost use Rattle.cut.specs.Cuttable.{Has-place, Splittable, Insertable};
 
 // Page p with e as its i-th entry.
-fn page_with(img: &[u8], p: u32, i: usize, e: Entry) -> Page
-    requires { ⌜ Pre-level 12 (now img) (λ l. Has-place l p i) ⌝ }
-    ensures { λ r. ⌜ Post-level 12 (now (img .entry)) (λ l. Has-place l p i) (λ l X. Has-entries l (inserted i e (entries X p)) r) ⌝ }
+fn page_with(half: usize, img: &[u8], p: u32, i: usize, e: Entry) -> Page
+    requires { ⌜ Pre-level half (now img) (λ l. Has-place l p i) ⌝ }
+    ensures { λ r. ⌜ Post-level half (now (img .entry)) (λ l. Has-place l p i) (λ l X. Has-entries l (inserted i e (entries X p)) r) ⌝ }
 {
-    insert(load(img, p), i, e)
+    insert(load(half, img, p), i, e)
 }
 
-// "25 entries split: the page keeps 12, a taken page gets 13". The page under e has 24, and new is the i-th of the 25.
-fn split(img: &mut [u8], e: Entry, i: usize, new: Entry) -> SplitOutcome
-    requires { ⌜ Pre-level 12 (now img) (λ l. Splittable 12 l (e .child) i) ⌝ }
-    ensures { λ r. ⌜ Post-level 12 (now (img .entry)) (λ l. Splittable 12 l (e .child) i)
-        (λ l X. Cut-as 12 e (split 12 l e (inserted i new (entries X (e .child))) X) r (now (img .exit))) ⌝ }
+// "25 entries split: the page keeps 12, a taken page gets 13". The page under e is full, and new is the i-th of one more than it holds.
+fn split(half: usize, img: &mut [u8], e: Entry, i: usize, new: Entry) -> SplitOutcome
+    requires { ⌜ Pre-level half (now img) (λ l. Splittable half l (e .child) i) ⌝ }
+    ensures { λ r. ⌜ Post-level half (now (img .entry)) (λ l. Splittable half l (e .child) i)
+        (λ l X. Cut-as half e (split half l e (inserted i new (entries X (e .child))) X) r (now (img .exit))) ⌝ }
 {
-    let page = page_with(img, e.child, i, new);
-    let q = take(img);
-    let left = first_of(page, HALF);
-    save(img, e.child, left);
-    let right = rest_of(page, HALF);
-    save(img, q, right);
+    let page = page_with(half, img, e.child, i, new);
+    let q = take(half, img);
+    let left = first_of(page, half);
+    save(half, img, e.child, left);
+    let right = rest_of(page, half);
+    save(half, img, q, right);
     let first = entry_at(right, 0);
     SplitOutcome::Split(first.start, q)
 }
 
 // The i-th entry of the page under e becomes two with the same pair: behind it stands one with the start and the child named.
 pub(crate) fn insert_after(
+    half: usize,
     img: &mut [u8],
     e: Entry,
     i: usize,
     start: u32,
     child: u32,
 ) -> SplitOutcome
-    requires { ⌜ Pre-level 12 (now img) (λ l. Insertable 12 l (e .child) i) ⌝ }
-    ensures { λ r. ⌜ Post-level 12 (now (img .entry)) (λ l. Insertable 12 l (e .child) i)
-        (λ l X. Cut-as 12 e (split-if-full 12 l e (inserted-after i start child (entries X (e .child))) X) r (now (img .exit))) ⌝ }
+    requires { ⌜ Pre-level half (now img) (λ l. Insertable half l (e .child) i) ⌝ }
+    ensures { λ r. ⌜ Post-level half (now (img .entry)) (λ l. Insertable half l (e .child) i)
+        (λ l X. Cut-as half e (split-if-full half l e (inserted-after i start child (entries X (e .child))) X) r (now (img .exit))) ⌝ }
 {
-    let old = entry_of(img, e.child, i);
+    let old = entry_of(half, img, e.child, i);
     let pair = old.pair;
     let new = Entry {
         start: start,
         pair: pair,
         child: child,
     };
-    if entry_count_in(img, e.child) < CAPACITY {
-        insert_entry(img, e.child, i + 1, new);
+    if entry_count_in(half, img, e.child) < capacity(half) {
+        insert_entry(half, img, e.child, i + 1, new);
         return SplitOutcome::Same;
     }
-    split(img, e, i + 1, new)
+    split(half, img, e, i + 1, new)
 }

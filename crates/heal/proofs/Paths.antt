@@ -25,7 +25,8 @@ module _ (half q : ℕ) {n : ℕ} (X : Image) (has : n ≡ length (entries X q))
   pub rebalances-rebalanceable : {level p i : ℕ} → n < half → Rebalanceable-if-short half level p i q X → Rebalanceable half level p i X
   rebalances-rebalanceable few s = s .rebalances (short-is few)
 
-  pub if-short-rebalanced : (kind level p i : ℕ) → n < half → rebalance half (combine kind) level p i X ≡ rebalance-if-short half kind level p i q X
+  pub if-short-rebalanced : (kind level p i : ℕ) → n < half
+      → rebalance half (combine kind) level p i X ≡ rebalance-if-short half kind level p i q X
   unfolding rebalance-if-short
   if-short-rebalanced kind level p i few = ap (λ b. cond b (rebalance half (combine kind) level p i X) X) (sym (short-is few))
 

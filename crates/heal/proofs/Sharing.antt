@@ -104,7 +104,8 @@ module _ (a b : ℕ) where
 
     pub append-more : {after : List ℕ} {e : Entry} → length after ≡ length img
         → Post-level half img (λ v. Has-entry v b i) (λ v X. e ≡ at (entries X b) i)
-        → Post-level half img (λ v. Has-room half v a (m + i)) (λ v X. Encodes half after (put a (tree v (inserted (m + i) e (entries X a))) X))
+        → Post-level half img (λ v. Has-room half v a (m + i))
+        (λ v X. Encodes half after (put a (tree v (inserted (m + i) e (entries X a))) X))
         → Appending half img₀ m n after (i + 1)
     append-more {after} kept read g =
         record {
@@ -237,7 +238,8 @@ module _ {half level a b m k : ℕ} {X : Image} (s : Movable half level a b m k 
           ∙ (λ j. put b (tree level (gets j)) (put a (tree level (keeps j)) X))
 
 -- an entry is read; a page is edited, and then the other
-module _ {half : ℕ} {Reads Edits Then Start : ℕ → Image → Type 0} {img mid : List ℕ} {e : Entry} {here : Image → Entry} {to : ℕ → Image → Image}
+module _ {half : ℕ} {Reads Edits Then Start : ℕ → Image → Type 0} {img mid : List ℕ} {e : Entry} {here : Image → Entry}
+    {to : ℕ → Image → Image}
     (read : Post-level half img Reads (λ v X. e ≡ here X)) (edit : Post-level half img Edits (λ v X. Encodes half mid (to v X)))
     (has : (v : ℕ) (X : Image) → Start v X → Reads v X) (can : (v : ℕ) (X : Image) → Start v X → Edits v X)
     (next : (v : ℕ) (X : Image) → Start v X → e ≡ here X → Then v (to v X)) where

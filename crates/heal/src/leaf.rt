@@ -23,26 +23,26 @@ fn alike(e: Entry, before: Entry) -> bool
 }
 
 // Whether the i-th entry of page p goes, which was read as e.
-fn heals(img: &[u8], p: u32, i: usize, e: Entry, t: u32) -> bool
-    requires { ⌜ Pre-level 12 (now img) (λ v. Entry-read e v p i) ⌝ }
-    ensures { λ r. ⌜ Post-level 12 (now (img .entry)) (λ v. Entry-read e v p i) (λ v X. r ≡ heals t (entries X p) i) ⌝ }
+fn heals(half: usize, img: &[u8], p: u32, i: usize, e: Entry, t: u32) -> bool
+    requires { ⌜ Pre-level half (now img) (λ v. Entry-read e v p i) ⌝ }
+    ensures { λ r. ⌜ Post-level half (now (img .entry)) (λ v. Entry-read e v p i) (λ v X. r ≡ heals t (entries X p) i) ⌝ }
 {
     if i == 0 {
         return false;
     }
-    let before = entry_of(img, p, i - 1);
+    let before = entry_of(half, img, p, i - 1);
     (e.start == t) & alike(e, before)
 }
 
 // The leaf p. Nothing is written where no entry goes. The kind's rule has no part in it.
-pub(crate) fn heal_leaf(img: &mut [u8], p: u32, t: u32)
-    requires { ⌜ Pre 12 (now img) (Searchable 0 p t) ⌝ }
-    ensures { λ _. ⌜ Post 12 (now (img .entry)) (Searchable 0 p t)
-        (λ X. (kind : ℕ) → Encodes 12 (now (img .exit)) (heal-page 12 (combine kind) t 0 p X)) ⌝ }
+pub(crate) fn heal_leaf(half: usize, img: &mut [u8], p: u32, t: u32)
+    requires { ⌜ Pre half (now img) (Searchable 0 p t) ⌝ }
+    ensures { λ _. ⌜ Post half (now (img .entry)) (Searchable 0 p t)
+        (λ X. (kind : ℕ) → Encodes half (now (img .exit)) (heal-page half (combine kind) t 0 p X)) ⌝ }
 {
-    let found = find_entry(img, p, t);
+    let found = find_entry(half, img, p, t);
     let i = found.index;
-    if heals(img, p, i, found.entry, t) {
-        remove_entry(img, p, i);
+    if heals(half, img, p, i, found.entry, t) {
+        remove_entry(half, img, p, i);
     }
 }

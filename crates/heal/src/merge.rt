@@ -10,23 +10,23 @@ ghost use Rattle.store.specs.Encoding.{Encodes, Pre-level, Post-level};
 ghost use Rattle.heal.specs.Siblings.{Mergeable, siblings-joined};
 
 // The two pages; the page above them stays as it is.
-fn join_siblings(img: &mut [u8], kind: u32, p: u32, l: usize)
-    requires { ⌜ Pre-level 12 (now img) (λ v. Mergeable 12 v p l) ⌝ }
-    ensures { λ _. ⌜ Post-level 12 (now (img .entry)) (λ v. Mergeable 12 v p l)
-        (λ v X. Encodes 12 (now (img .exit)) (siblings-joined kind v p l X)) ⌝ }
+fn join_siblings(half: usize, img: &mut [u8], kind: u32, p: u32, l: usize)
+    requires { ⌜ Pre-level half (now img) (λ v. Mergeable half v p l) ⌝ }
+    ensures { λ _. ⌜ Post-level half (now (img .entry)) (λ v. Mergeable half v p l)
+        (λ v X. Encodes half (now (img .exit)) (siblings-joined kind v p l X)) ⌝ }
 {
-    let s = push_siblings(img, kind, p, l);
-    append_all(img, s.left, s.right);
-    give_back(img, s.right);
+    let s = push_siblings(half, img, kind, p, l);
+    append_all(half, img, s.left, s.right);
+    give_back(half, img, s.right);
 }
 
 // The pages under the l-th entry of page p and the next become one.
-pub(crate) fn merge(img: &mut [u8], kind: u32, p: u32, l: usize)
-    requires { ⌜ Pre-level 12 (now img) (λ v. Mergeable 12 v p l) ⌝ }
-    ensures { λ _. ⌜ Post-level 12 (now (img .entry)) (λ v. Mergeable 12 v p l)
-        (λ v X. Encodes 12 (now (img .exit)) (merge (combine kind) v p l X)) ⌝ }
+pub(crate) fn merge(half: usize, img: &mut [u8], kind: u32, p: u32, l: usize)
+    requires { ⌜ Pre-level half (now img) (λ v. Mergeable half v p l) ⌝ }
+    ensures { λ _. ⌜ Post-level half (now (img .entry)) (λ v. Mergeable half v p l)
+        (λ v X. Encodes half (now (img .exit)) (merge (combine kind) v p l X)) ⌝ }
 {
-    join_siblings(img, kind, p, l);
-    remove_entry(img, p, l + 1);
-    empty_pair(img, p, l);
+    join_siblings(half, img, kind, p, l);
+    remove_entry(half, img, p, l + 1);
+    empty_pair(half, img, p, l);
 }

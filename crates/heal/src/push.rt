@@ -19,15 +19,17 @@ ghost use Rattle.store.specs.Preconditions.{Has-entry, Push-ready};
 ghost use Rattle.heal.specs.Siblings.{Siblings, Entry-pushable, with-pair, emptied, Both-pushed, pair-emptied};
 
 // The pair combined into the i-th entry of page q.
-fn push_entry(img: &mut [u8], kind: u32, pair: Pair, q: u32, i: usize)
-    requires { ⌜ Pre-level 12 (now img) (λ v. Entry-pushable pair v q i) ⌝ }
-    ensures { λ _. ⌜ Post-level 12 (now (img .entry)) (λ v. Entry-pushable pair v q i)
-        (λ v X. Encodes 12 (now (img .exit)) (put q (tree v (splice i (with-pair kind pair (at (entries X q) i) ∷ []) (entries X q))) X)) ⌝ }
+fn push_entry(half: usize, img: &mut [u8], kind: u32, pair: Pair, q: u32, i: usize)
+    requires { ⌜ Pre-level half (now img) (λ v. Entry-pushable pair v q i) ⌝ }
+    ensures { λ _. ⌜ Post-level half (now (img .entry)) (λ v. Entry-pushable pair v q i)
+        (λ v X. Encodes half (now (img .exit))
+        (put q (tree v (splice i (with-pair kind pair (at (entries X q) i) ∷ []) (entries X q))) X)) ⌝ }
 {
-    let e = entry_of(img, q, i);
+    let e = entry_of(half, img, q, i);
     let own = e.pair;
     let both = combine(kind, pair, own);
     set_entry(
+        half,
         img,
         q,
         i,
@@ -40,28 +42,34 @@ fn push_entry(img: &mut [u8], kind: u32, pair: Pair, q: u32, i: usize)
 }
 
 // The pair of e combined into each entry of the page under e.
-pub(crate) fn push_down(img: &mut [u8], kind: u32, e: Entry)
-    requires { ⌜ Pre-level 12 (now img) (λ v. Push-ready v e) ⌝ }
-    ensures { λ _. ⌜ Post-level 12 (now (img .entry)) (λ v. Push-ready v e)
-        (λ v X. Encodes 12 (now (img .exit)) (put (e .child) (tree v (pushed (combine kind) X e)) X)) ⌝ }
+pub(crate) fn push_down(half: usize, img: &mut [u8], kind: u32, e: Entry)
+    requires { ⌜ Pre-level half (now img) (λ v. Push-ready v e) ⌝ }
+    ensures { λ _. ⌜ Post-level half (now (img .entry)) (λ v. Push-ready v e)
+        (λ v X. Encodes half (now (img .exit)) (put (e .child) (tree v (pushed (combine kind) X e)) X)) ⌝ }
 {
-    let n = entry_count_in(img, e.child);
+    let n = entry_count_in(half, img, e.child);
     let mut i: usize = 0;
     while i < n {
-        push_entry(img, kind, e.pair, e.child, i);
+        push_entry(half, img, kind, e.pair, e.child, i);
         i += 1;
     }
 }
 
 // The pages under the l-th entry of page p and under the next.
-pub(crate) fn push_siblings(img: &mut [u8], kind: u32, p: u32, l: usize) -> SiblingPages
-    requires { ⌜ Pre-level 12 (now img) (λ v. Siblings v p l) ⌝ }
-    ensures { λ r. ⌜ Post-level 12 (now (img .entry)) (λ v. Siblings v p l) (λ v X. Both-pushed 12 kind v p l X r (now (img .exit))) ⌝ }
+pub(crate) fn push_siblings(
+    half: usize,
+    img: &mut [u8],
+    kind: u32,
+    p: u32,
+    l: usize,
+) -> SiblingPages
+    requires { ⌜ Pre-level half (now img) (λ v. Siblings v p l) ⌝ }
+    ensures { λ r. ⌜ Post-level half (now (img .entry)) (λ v. Siblings v p l) (λ v X. Both-pushed half kind v p l X r (now (img .exit))) ⌝ }
 {
-    let a = entry_of(img, p, l);
-    let b = entry_of(img, p, l + 1);
-    push_down(img, kind, a);
-    push_down(img, kind, b);
+    let a = entry_of(half, img, p, l);
+    let b = entry_of(half, img, p, l + 1);
+    push_down(half, img, kind, a);
+    push_down(half, img, kind, b);
     SiblingPages {
         left: a.child,
         right: b.child,
@@ -81,10 +89,11 @@ pub(crate) fn emptied(e: Entry, start: u32) -> Entry
 }
 
 // The pair of the l-th entry of page p, once the page under it has it.
-pub(crate) fn empty_pair(img: &mut [u8], p: u32, l: usize)
-    requires { ⌜ Pre-level 12 (now img) (λ v. Has-entry v p l) ⌝ }
-    ensures { λ _. ⌜ Post-level 12 (now (img .entry)) (λ v. Has-entry v p l) (λ v X. Encodes 12 (now (img .exit)) (pair-emptied v p l X)) ⌝ }
+pub(crate) fn empty_pair(half: usize, img: &mut [u8], p: u32, l: usize)
+    requires { ⌜ Pre-level half (now img) (λ v. Has-entry v p l) ⌝ }
+    ensures { λ _. ⌜ Post-level half (now (img .entry)) (λ v. Has-entry v p l)
+        (λ v X. Encodes half (now (img .exit)) (pair-emptied v p l X)) ⌝ }
 {
-    let e = entry_of(img, p, l);
-    set_entry(img, p, l, emptied(e, e.start));
+    let e = entry_of(half, img, p, l);
+    set_entry(half, img, p, l, emptied(e, e.start));
 }

@@ -1,7 +1,6 @@
 // "A page other than the root left with 11 turns to its left neighbour under the same parent, else the right."
 use crate::merge::merge;
 use crate::redistribute::redistribute;
-use page::layout::HALF;
 use store::entries::entry_count_in;
 use store::entries::entry_of;
 ghost use mathlib.Core.Path.{_≡_};
@@ -28,24 +27,24 @@ fn left_of(i: usize) -> usize
 }
 
 // How many entries the left one has then, if the sibling has n and gives one.
-fn left_share(i: usize, n: usize) -> usize
+fn left_share(half: usize, i: usize, n: usize) -> usize
     requires { ⌜ 1 ≤ n ⌝ }
-    ensures { λ r. ⌜ r ≡ cond (eqb i 0) 12 (n - 1) ⌝ }
+    ensures { λ r. ⌜ r ≡ cond (eqb i 0) half (n - 1) ⌝ }
 {
-    if i == 0 { HALF } else { n - 1 }
+    if i == 0 { half } else { n - 1 }
 }
 
 // The page under the i-th entry of page p is rebalanced with its sibling.
-pub(crate) fn rebalance(img: &mut [u8], kind: u32, p: u32, i: usize)
-    requires { ⌜ Pre-level 12 (now img) (λ v. Rebalanceable 12 v p i) ⌝ }
-    ensures { λ _. ⌜ Post-level 12 (now (img .entry)) (λ v. Rebalanceable 12 v p i)
-        (λ v X. Encodes 12 (now (img .exit)) (rebalance 12 (combine kind) v p i X)) ⌝ }
+pub(crate) fn rebalance(half: usize, img: &mut [u8], kind: u32, p: u32, i: usize)
+    requires { ⌜ Pre-level half (now img) (λ v. Rebalanceable half v p i) ⌝ }
+    ensures { λ _. ⌜ Post-level half (now (img .entry)) (λ v. Rebalanceable half v p i)
+        (λ v X. Encodes half (now (img .exit)) (rebalance half (combine kind) v p i X)) ⌝ }
 {
-    let e = entry_of(img, p, sibling(i));
-    let n = entry_count_in(img, e.child);
-    if n > HALF {
-        redistribute(img, kind, p, left_of(i), left_share(i, n));
+    let e = entry_of(half, img, p, sibling(i));
+    let n = entry_count_in(half, img, e.child);
+    if n > half {
+        redistribute(half, img, kind, p, left_of(i), left_share(half, i, n));
         return;
     }
-    merge(img, kind, p, left_of(i));
+    merge(half, img, kind, p, left_of(i));
 }

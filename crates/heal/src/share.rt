@@ -10,48 +10,50 @@ ghost use Rattle.store.specs.Encoding.{Encodes, Pre-level, Post-level};
 ghost use Rattle.heal.specs.Siblings.{Appendable, Sharable, Movable, Nearer, shared};
 
 // The entries of page b behind those of page a. Page b keeps its own: whoever calls gives it back.
-pub(crate) fn append_all(img: &mut [u8], a: u32, b: u32)
-    requires { ⌜ Pre-level 12 (now img) (λ v. Appendable 12 v a b) ⌝ }
-    ensures { λ _. ⌜ Post-level 12 (now (img .entry)) (λ v. Appendable 12 v a b)
-        (λ v X. Encodes 12 (now (img .exit)) (put a (tree v (entries X a ++ entries X b)) X)) ⌝ }
+pub(crate) fn append_all(half: usize, img: &mut [u8], a: u32, b: u32)
+    requires { ⌜ Pre-level half (now img) (λ v. Appendable half v a b) ⌝ }
+    ensures { λ _. ⌜ Post-level half (now (img .entry)) (λ v. Appendable half v a b)
+        (λ v X. Encodes half (now (img .exit)) (put a (tree v (entries X a ++ entries X b)) X)) ⌝ }
 {
-    let m = entry_count_in(img, a);
-    let n = entry_count_in(img, b);
+    let m = entry_count_in(half, img, a);
+    let n = entry_count_in(half, img, b);
     let mut i: usize = 0;
     while i < n {
-        let e = entry_of(img, b, i);
-        insert_entry(img, a, m + i, e);
+        let e = entry_of(half, img, b, i);
+        insert_entry(half, img, a, m + i, e);
         i += 1;
     }
 }
 
 // Page a has m entries and is to have k: the first of page b becomes its last, or its last becomes the first of page b. How many it has
 // then.
-fn move_one(img: &mut [u8], a: u32, b: u32, m: usize, k: usize) -> usize
-    requires { ⌜ Pre-level 12 (now img) (λ v. Movable 12 v a b m k) ⌝ }
+fn move_one(half: usize, img: &mut [u8], a: u32, b: u32, m: usize, k: usize) -> usize
+    requires { ⌜ Pre-level half (now img) (λ v. Movable half v a b m k) ⌝ }
     ensures { λ r. ⌜ Nearer m k r ⌝ }
-    ensures { λ r. ⌜ Post-level 12 (now (img .entry)) (λ v. Movable 12 v a b m k) (λ v X. Encodes 12 (now (img .exit)) (shared v a b r X)) ⌝ }
+    ensures { λ r. ⌜ Post-level half (now (img .entry)) (λ v. Movable half v a b m k)
+        (λ v X. Encodes half (now (img .exit)) (shared v a b r X)) ⌝ }
 {
     if m < k {
-        let e = entry_of(img, b, 0);
-        insert_entry(img, a, m, e);
-        remove_entry(img, b, 0);
+        let e = entry_of(half, img, b, 0);
+        insert_entry(half, img, a, m, e);
+        remove_entry(half, img, b, 0);
         return m + 1;
     }
     let last = m - 1;
-    let e = entry_of(img, a, last);
-    remove_entry(img, a, last);
-    insert_entry(img, b, 0, e);
+    let e = entry_of(half, img, a, last);
+    remove_entry(half, img, a, last);
+    insert_entry(half, img, b, 0, e);
     last
 }
 
 // Page a has the first k of all entries from now on. A heal moves one; however many there are to move, the loop gets there.
-pub(crate) fn share(img: &mut [u8], a: u32, b: u32, k: usize)
-    requires { ⌜ Pre-level 12 (now img) (λ v. Sharable 12 v a b k) ⌝ }
-    ensures { λ _. ⌜ Post-level 12 (now (img .entry)) (λ v. Sharable 12 v a b k) (λ v X. Encodes 12 (now (img .exit)) (shared v a b k X)) ⌝ }
+pub(crate) fn share(half: usize, img: &mut [u8], a: u32, b: u32, k: usize)
+    requires { ⌜ Pre-level half (now img) (λ v. Sharable half v a b k) ⌝ }
+    ensures { λ _. ⌜ Post-level half (now (img .entry)) (λ v. Sharable half v a b k)
+        (λ v X. Encodes half (now (img .exit)) (shared v a b k X)) ⌝ }
 {
-    let mut m = entry_count_in(img, a);
+    let mut m = entry_count_in(half, img, a);
     while m != k {
-        m = move_one(img, a, b, m, k);
+        m = move_one(half, img, a, b, m, k);
     }
 }

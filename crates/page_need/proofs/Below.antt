@@ -136,11 +136,14 @@ pub record Found-below (half : ℕ) (img : List ℕ) (t l : ℕ) (e : Entry) (m 
 abbrev Finds : ℕ → List ℕ → ℕ → ℕ → Found → Type 0
 Finds half img t p m = Post-level half img (λ v. Searchable v p t) (λ v X. m ≡ found-in t (entries X p))
 
-found-at : {half : ℕ} {img : List ℕ} {t l : ℕ} {m : Found} (e : Entry) → ¬ (l ≡ 0) → Fit-from half img t (l - 1) (e .child) → Finds half img t (e .child) m
+found-at : {half : ℕ} {img : List ℕ} {t l : ℕ} {m : Found} (e : Entry) → ¬ (l ≡ 0) → Fit-from half img t (l - 1) (e .child)
+    → Finds half img t (e .child) m
     → Found-below half img t l e m
-found-at {half} {img} {l = l} e h k each = record { inner = h; page = k; is = each (image-of half img) (k .holds) (l - 1) (fit-searchable k) }
+found-at {half} {img} {l = l} e h k each =
+    record { inner = h; page = k; is = each (image-of half img) (k .holds) (l - 1) (fit-searchable k) }
 
-pub found-below : {half : ℕ} {img : List ℕ} {t l : ℕ} {m : Found} (e : Entry) → Leads half img t l e → ¬ (l ≡ 0) → Finds half img t (e .child) m
+pub found-below : {half : ℕ} {img : List ℕ} {t l : ℕ} {m : Found} (e : Entry) → Leads half img t l e → ¬ (l ≡ 0)
+    → Finds half img t (e .child) m
     → Found-below half img t l e m
 found-below e k h each = found-at e h (leads-on e k h) each
 
@@ -148,7 +151,8 @@ found-below e k h each = found-at e h (leads-on e k h) each
 abbrev pub Both-below : ℕ → List ℕ → ℕ → ℕ → ℕ → Entry → Found → Found → Type 0
 Both-below half img s t l e m n = Found-below half img s l e m × Found-below half img t l e n
 
-pub both-below : {half : ℕ} {img : List ℕ} {s t l : ℕ} {m n : Found} (e : Entry) → Leads half img s l e × (s < t) → ¬ (l ≡ 0) → Finds half img s (e .child) m
+pub both-below : {half : ℕ} {img : List ℕ} {s t l : ℕ} {m n : Found} (e : Entry) → Leads half img s l e × (s < t) → ¬ (l ≡ 0)
+    → Finds half img s (e .child) m
     → Finds half img t (e .child) n
     → Both-below half img s t l e m n
 both-below e k h first second =
@@ -297,4 +301,5 @@ module _ {half : ℕ} {img : List ℕ} {s t l : ℕ} {e : Entry} {m m′ : Found
     apart-small = small-apart half s t X (l - 1) (m .entry) (m′ .entry) (omega (arith, k .0 .page .low)) h
 
     pub apart-inner : {r : Need} → ¬ (m .index ≡ m′ .index) → r ≡ page-need half (m .count) n → r ≡ both-cuts half s t l e X
-    apart-inner other = inner-both half s t X l e (k .0 .inner) (k .0 .is) (k .1 .is) (h ∙ ap on (sym (ne-eqb (m .index) (m′ .index) other)))
+    apart-inner other = inner-both half s t X l e (k .0 .inner) (k .0 .is) (k .1 .is)
+        (h ∙ ap on (sym (ne-eqb (m .index) (m′ .index) other)))

@@ -1,9 +1,10 @@
 // What one page or one leaf entry has a part in.
 use super::Need;
 use page::Entry;
-use page::layout::CAPACITY;
+use page::layout::capacity;
 ghost use mathlib.Core.Path.{_≡_};
 ghost use Prim.Native.Nat.{_≤_};
+ghost use Rattle.page.specs.Layout.{capacity};
 ghost use Rattle.page_need.specs.Needs.{leaf-need, add-needs, page-need};
 ghost use Rattle.page_need.specs.Leads.{Small};
 
@@ -29,11 +30,11 @@ pub(crate) fn add_needs(a: Need, b: Need) -> Need
 }
 
 // "25 entries split: the page keeps 12, a taken page gets 13, the parent gains an entry": a page of n entries that gains some.
-pub(crate) fn page_need(n: usize, below: Need) -> Need
-    requires { ⌜ (n ≤ 24) × Small below ⌝ }
-    ensures { λ r. ⌜ r ≡ page-need 12 n below ⌝ }
+pub(crate) fn page_need(half: usize, n: usize, below: Need) -> Need
+    requires { ⌜ (half ≤ 12) × (n ≤ capacity half) × Small below ⌝ }
+    ensures { λ r. ⌜ r ≡ page-need half n below ⌝ }
 {
-    if n + below.adds as usize <= CAPACITY {
+    if n + below.adds as usize <= capacity(half) {
         return Need {
             adds: 0,
             pages: below.pages,

@@ -13,26 +13,26 @@ ghost use Rattle.page_need.specs.Needs.{cuts-need};
 ghost use Rattle.page_need.specs.Leads.{Sound-image};
 
 // What the two cuts ask for from the root down: "nothing if t is END".
-fn cuts_need(img: &[u8], h: Head, s: u32, e: u32) -> Need
-    requires { ⌜ Sound-image 12 (now img) h ⌝ }
+fn cuts_need(half: usize, img: &[u8], h: Head, s: u32, e: u32) -> Need
+    requires { ⌜ Sound-image half (now img) h ⌝ }
     requires { ⌜ s < e ⌝ }
-    ensures { λ r. ⌜ r ≡ cuts-need 12 s e (image-of 12 (now (img .entry))) ⌝ }
+    ensures { λ r. ⌜ r ≡ cuts-need half s e (image-of half (now (img .entry))) ⌝ }
 {
     let root = root_entry(h);
     if e == END {
-        return one_cut(img, s, h.height, root);
+        return one_cut(half, img, s, h.height, root);
     }
-    both_cuts(img, s, e, h.height, root)
+    both_cuts(half, img, s, e, h.height, root)
 }
 
 // 24's condition, of a sound image and its head, before anything is written: "A and B together take more pages than chain and
 // pages from the high mark hold".
-pub fn lacks_pages(img: &[u8], h: Head, s: u32, e: u32) -> bool
-    requires { ⌜ Sound-image 12 (now img) h ⌝ }
+pub fn lacks_pages(half: usize, img: &[u8], h: Head, s: u32, e: u32) -> bool
+    requires { ⌜ Sound-image half (now img) h ⌝ }
     requires { ⌜ s < e ⌝ }
-    ensures { λ r. ⌜ r ≡ lacks-pages 12 s e (image-of 12 (now (img .entry))) ⌝ }
+    ensures { λ r. ⌜ r ≡ lacks-pages half s e (image-of half (now (img .entry))) ⌝ }
 {
-    let n = cuts_need(img, h, s, e);
+    let n = cuts_need(half, img, h, s, e);
     let held = h.chain as u64 + (h.pages - h.mark) as u64;
     held < (n.adds + n.pages) as u64
 }

@@ -72,7 +72,8 @@ module _ (half t l : ℕ) (x : Node (Subtree (suc l))) (S : Supply) where
       length-splice (index-of t (flat (x .subtree))) (r .became) (x .subtree) (has-index l t x k) in
       ap (λ b. cond b (not-split x es (r .supply)) (split-if-full half x es (r .supply)) .supply)
       (ne-eqb (length (r .became)) 1 (λ e. omega arith))
-      ∙ ap (λ b. cond b (not-split x es (r .supply)) (split half x es (r .supply)) .supply) (lt-leb (length es) (capacity half) (omega arith))
+      ∙ ap (λ b. cond b (not-split x es (r .supply)) (split half x es (r .supply)) .supply)
+      (lt-leb (length es) (capacity half) (omega arith))
 
 -- ---- the pages on the path
 
@@ -141,7 +142,8 @@ module _ {half kind changes : ℕ} (t : ℕ) {X : Image} {S : Supply} (s : Suppl
   entry-cuttable (suc l) x k low m = (
     page-cuttable (suc l) x k low m,
     subst⁻¹ (λ e. Entry-cuttable half (suc l) e t X) (entry-there (suc l) x k)
-        (entry-cuttable l (there (suc l) t (x .subtree)) (known-below k .known) (omega arith) (omega (arith, inner-mark half t (suc l) x S))),
+        (entry-cuttable l (there (suc l) t (x .subtree)) (known-below k .known) (omega arith)
+        (omega (arith, inner-mark half t (suc l) x S))),
   )
 
 -- ---- from the root

@@ -287,7 +287,8 @@ module _ (half kind changes t : ℕ) (S : Supply) where
     -- ---- the root
 
     -- its only entry leads to one of the image's pages
-    only-inside : {l hi : ℕ} {x : Node (Subtree (suc l))} → Known half kind changes t X S l 0 hi 0 0 x → 1 ≤ l → length (left l x .nodes) ≡ 1
+    only-inside : {l hi : ℕ} {x : Node (Subtree (suc l))} → Known half kind changes t X S l 0 hi 0 0 x → 1 ≤ l
+        → length (left l x .nodes) ≡ 1
         → In-image (node-at l (left l x .nodes) 0 .entry .child) (after l x)
     only-inside {l} {x = x} k some one =
         let q = node-at l (left l x .nodes) 0 .entry .child in
@@ -344,7 +345,8 @@ module _ (half kind changes t : ℕ) (S : Supply) where
         }
 
 -- "Heal at t": an image with the structure is ready for it.
-pub structure-healable : {half kind changes : ℕ} {X : Image} {Y : State} → 2 ≤ half → (t : ℕ) → Structure half kind changes X Y → Healable half kind t X
+pub structure-healable : {half kind changes : ℕ} {X : Image} {Y : State} → 2 ≤ half → (t : ℕ) → Structure half kind changes X Y
+    → Healable half kind t X
 unfolding root-node
 structure-healable {half} {kind} {changes} {X} {Y} two t g =
     let l : ℕ = Y .tree .level in

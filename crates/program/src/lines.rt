@@ -2,6 +2,7 @@
 use crate::PAGES;
 use booking::book::book;
 use calls::refusals::ACCEPTED;
+use page::layout::HALF;
 use print::lines::put_refused;
 use print::lines::put_unread;
 use text::Parsed;
@@ -28,7 +29,7 @@ fn run_booking(
         (now (img .exit)) (now (out .entry)) at (now (out .exit)) r ⌝ }
 {
     let mut scratch = [0u8; PAGES];
-    let number = book(img, &mut scratch, withdraws, v, s, e);
+    let number = book(HALF, img, &mut scratch, withdraws, v, s, e);
     if number == ACCEPTED {
         return at;
     }

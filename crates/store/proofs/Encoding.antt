@@ -44,7 +44,17 @@ pub record Tree-read (half : ℕ) (s : List ℕ) (l : ℕ) (es : List Entry) : T
 
 module _ {half : ℕ} {img : List ℕ} {X : Image} (h : Encodes half img X) where
   pub holds-length : length img ≡ page-size half * X .head .pages
-  holds-length = ap length (h .bytes) ∙ length-of-written half X (omega (arith, h .half-least)) (omega (arith, h .pages-least)) (h .sized-kept)
+  holds-length = ap length (h .bytes) ∙ length-of-written half X (omega (arith, h .half-least)) (omega (arith, h .pages-least))
+      (h .sized-kept)
+
+  -- page 0, and so the head's numbers
+  pub holds-first : page-size half * 0 + page-size half ≤ length img
+  holds-first =
+      let some : 0 < X .head .pages = omega (arith, h .pages-least) in
+      omega (arith, holds-length, page-within half some)
+
+  pub holds-numbers : 36 ≤ length img
+  holds-numbers = omega (arith, holds-first, h .half-least)
 
   pub holds-pages : pages-in half img ≡ X .head .pages
   holds-pages =
@@ -84,7 +94,8 @@ module _ {half : ℕ} {img : List ℕ} {X : Image} (h : Encodes half img X) wher
         let c : (level-of s ≡ l) × (entries-of half s ≡ es) = tree-cell half s (holds-cell (t .within) ∙ t .page) in
         let size : length es ≡ min (entry-count s) (capacity half) = ap length (sym (c .1)) ∙ length-entries-of half s in
         let n : entry-count s ≡ length es =
-        ap entry-count (holds-page (t .within) ∙ tree-written half (t .page)) ∙ number-of-tree half l es (omega arith) (omega (arith, h .half-most)) in
+        ap entry-count (holds-page (t .within) ∙ tree-written half (t .page))
+        ∙ number-of-tree half l es (omega arith) (omega (arith, h .half-most)) in
         record { level = c .0; entries = c .1; len = n; few = omega arith }
 
     pub holds-tree : {r : Page} → Read half r (page-at half img p) → Loaded half l (entries X p) r

@@ -54,3 +54,7 @@ pub record Same-size (h : Head) (X : Image) : Type 0 where
 -- the image with that head and the same pages
 abbrev pub with-head : Head → Image → Image
 with-head h X = record { head = h; page = X .page }
+
+-- The bytes of every such image have the head h then: its numbers stand at the same bytes for every capacity.
+abbrev pub Head-set : Head → List ℕ → List ℕ → Type 0
+Head-set h img after = (half : ℕ) → Post half img (Same-size h) (λ X. Encodes half after (with-head h X))

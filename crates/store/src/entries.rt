@@ -6,51 +6,51 @@ use lookup::find::find;
 use page::Entry;
 use page::at::entry_at;
 use page::at::entry_count;
-use page::layout::HALF;
 ghost use mathlib.Core.Path.{_≡_};
 ghost use Prim.Native.Nat.{suc, _≤_};
 ghost use lib.ListN.{length, drop};
 ghost use Rattle.page.specs.Entries.{at};
+ghost use Rattle.page.specs.Layout.{capacity};
 ghost use Rattle.steps.specs.Supply.{entries};
 ghost use Rattle.steps.specs.Combine.{next-start};
 ghost use Rattle.store.specs.Encoding.{Pre-level, Post-level};
 ghost use Rattle.store.specs.Preconditions.{Tree-page, Has-entry, Searchable, found-in};
 
 // How many entries page p has.
-pub fn entry_count_in(img: &[u8], p: u32) -> usize
-    requires { ⌜ Pre-level 12 (now img) (λ l. Tree-page l p) ⌝ }
-    ensures { λ r. ⌜ Post-level 12 (now (img .entry)) (λ l. Tree-page l p) (λ l X. (r ≡ length (entries X p)) × (r ≤ 24)) ⌝ }
+pub fn entry_count_in(half: usize, img: &[u8], p: u32) -> usize
+    requires { ⌜ Pre-level half (now img) (λ l. Tree-page l p) ⌝ }
+    ensures { λ r. ⌜ Post-level half (now (img .entry)) (λ l. Tree-page l p) (λ l X. (r ≡ length (entries X p)) × (r ≤ capacity half)) ⌝ }
 {
-    entry_count(page_at(HALF, img, p)) as usize
+    entry_count(page_at(half, img, p)) as usize
 }
 
 // The i-th entry of page p.
-pub fn entry_of(img: &[u8], p: u32, i: usize) -> Entry
-    requires { ⌜ Pre-level 12 (now img) (λ l. Has-entry l p i) ⌝ }
-    ensures { λ r. ⌜ Post-level 12 (now (img .entry)) (λ l. Has-entry l p i) (λ l X. r ≡ at (entries X p) i) ⌝ }
+pub fn entry_of(half: usize, img: &[u8], p: u32, i: usize) -> Entry
+    requires { ⌜ Pre-level half (now img) (λ l. Has-entry l p i) ⌝ }
+    ensures { λ r. ⌜ Post-level half (now (img .entry)) (λ l. Has-entry l p i) (λ l X. r ≡ at (entries X p) i) ⌝ }
 {
-    entry_at(HALF, page_at(HALF, img, p), i)
+    entry_at(half, page_at(half, img, p), i)
 }
 
 // Where the i-th entry of page p ends, if the page ends at hi.
-pub fn entry_end(img: &[u8], p: u32, hi: u32, i: usize) -> u32
-    requires { ⌜ Pre-level 12 (now img) (λ l. Has-entry l p i) ⌝ }
-    ensures { λ r. ⌜ Post-level 12 (now (img .entry)) (λ l. Has-entry l p i) (λ l X. r ≡ next-start hi (drop (suc i) (entries X p))) ⌝ }
+pub fn entry_end(half: usize, img: &[u8], p: u32, hi: u32, i: usize) -> u32
+    requires { ⌜ Pre-level half (now img) (λ l. Has-entry l p i) ⌝ }
+    ensures { λ r. ⌜ Post-level half (now (img .entry)) (λ l. Has-entry l p i) (λ l X. r ≡ next-start hi (drop (suc i) (entries X p))) ⌝ }
 {
-    end_at(page_at(HALF, img, p), hi, i)
+    end_at(page_at(half, img, p), hi, i)
 }
 
 // The last entry of page p starting at t or before.
-pub fn find_entry(img: &[u8], p: u32, t: u32) -> Found
-    requires { ⌜ Pre-level 12 (now img) (λ l. Searchable l p t) ⌝ }
-    ensures { λ r. ⌜ Post-level 12 (now (img .entry)) (λ l. Searchable l p t) (λ l X. r ≡ found-in t (entries X p)) ⌝ }
+pub fn find_entry(half: usize, img: &[u8], p: u32, t: u32) -> Found
+    requires { ⌜ Pre-level half (now img) (λ l. Searchable l p t) ⌝ }
+    ensures { λ r. ⌜ Post-level half (now (img .entry)) (λ l. Searchable l p t) (λ l X. r ≡ found-in t (entries X p)) ⌝ }
 {
-    let s = page_at(HALF, img, p);
+    let s = page_at(half, img, p);
     let n = entry_count(s) as usize;
     let i = find(s, n, t);
     Found {
         count: n,
         index: i,
-        entry: entry_at(HALF, s, i),
+        entry: entry_at(half, s, i),
     }
 }

@@ -23,22 +23,22 @@ pub fn root_entry(h: Head) -> Entry
 }
 
 // The root is page p now, at that height.
-pub fn set_root(img: &mut [u8], height: u32, p: u32)
-    requires { ⌜ Pre 12 (now img) Any ⌝ }
-    ensures { λ _. ⌜ Post 12 (now (img .entry)) Any (λ X. Encodes 12 (now (img .exit)) (with-root height p X)) ⌝ }
+pub fn set_root(half: usize, img: &mut [u8], height: u32, p: u32)
+    requires { ⌜ Pre half (now img) Any ⌝ }
+    ensures { λ _. ⌜ Post half (now (img .entry)) Any (λ X. Encodes half (now (img .exit)) (with-root height p X)) ⌝ }
 {
-    let mut h = head_of(img);
+    let mut h = head_of(half, img);
     h.height = height;
     h.root = p;
     set_head(img, h);
 }
 
 // "Then changes rises by 1."
-pub fn count_change(img: &mut [u8])
-    requires { ⌜ Pre 12 (now img) Countable ⌝ }
-    ensures { λ _. ⌜ Post 12 (now (img .entry)) Countable (λ X. Encodes 12 (now (img .exit)) (count-change X)) ⌝ }
+pub fn count_change(half: usize, img: &mut [u8])
+    requires { ⌜ Pre half (now img) Countable ⌝ }
+    ensures { λ _. ⌜ Post half (now (img .entry)) Countable (λ X. Encodes half (now (img .exit)) (count-change X)) ⌝ }
 {
-    let mut h = head_of(img);
+    let mut h = head_of(half, img);
     h.changes = h.changes + 1;
     set_head(img, h);
 }

@@ -9,11 +9,11 @@ ghost use Rattle.store.specs.Encoding.{Encodes, Pre, Post};
 ghost use Rattle.store.specs.Preconditions.{Takable, Givable};
 
 // Takes a page. Its bytes stay: whoever takes it writes it.
-pub fn take(img: &mut [u8]) -> u32
-    requires { ⌜ Pre 12 (now img) Takable ⌝ }
-    ensures { λ r. ⌜ Post 12 (now (img .entry)) Takable (λ X. (r ≡ spare X) × Encodes 12 (now (img .exit)) (taken X)) ⌝ }
+pub fn take(half: usize, img: &mut [u8]) -> u32
+    requires { ⌜ Pre half (now img) Takable ⌝ }
+    ensures { λ r. ⌜ Post half (now (img .entry)) Takable (λ X. (r ≡ spare X) × Encodes half (now (img .exit)) (taken X)) ⌝ }
 {
-    let mut h = head_of(img);
+    let mut h = head_of(half, img);
     if h.chain == 0 {
         let p = h.mark;
         h.mark = p + 1;
@@ -21,21 +21,21 @@ pub fn take(img: &mut [u8]) -> u32
         return p;
     }
     let p = h.free;
-    h.free = next_free(img, p);
+    h.free = next_free(half, img, p);
     h.chain = h.chain - 1;
     set_head(img, h);
     p
 }
 
 // Gives page p back: it is the chain's first now, and leads to the one that was.
-pub fn give_back(img: &mut [u8], p: u32)
-    requires { ⌜ Pre 12 (now img) (Givable p) ⌝ }
-    ensures { λ _. ⌜ Post 12 (now (img .entry)) (Givable p) (λ X. Encodes 12 (now (img .exit)) (given-back p X)) ⌝ }
+pub fn give_back(half: usize, img: &mut [u8], p: u32)
+    requires { ⌜ Pre half (now img) (Givable p) ⌝ }
+    ensures { λ _. ⌜ Post half (now (img .entry)) (Givable p) (λ X. Encodes half (now (img .exit)) (given-back p X)) ⌝ }
 {
-    let mut h = head_of(img);
+    let mut h = head_of(half, img);
     let first = h.free;
     h.free = p;
     h.chain = h.chain + 1;
     set_head(img, h);
-    set_free(img, p, first);
+    set_free(half, img, p, first);
 }

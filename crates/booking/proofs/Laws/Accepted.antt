@@ -100,7 +100,8 @@ module _ {half : ℕ} {side : Side} {v : ℤ} {s e : ℕ} {img : List ℕ} {h : 
     pub accepted-some : Pre half img (Changeable half (h .kind) s to p)
     accepted-some = record { image = X; holds = holds; ready = ready-so }
 
-    pub accepted-changed : {after : List ℕ} → Post half img (Changeable half (h .kind) s to p) (λ Z. Encodes half after (change half (combine (h .kind)) s to p Z))
+    pub accepted-changed : {after : List ℕ}
+        → Post half img (Changeable half (h .kind) s to p) (λ Z. Encodes half after (change half (combine (h .kind)) s to p Z))
         → after ≡ changed half side v s e img
     unfolding changed
     accepted-changed g =

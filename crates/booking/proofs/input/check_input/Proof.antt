@@ -1,5 +1,6 @@
 -- `booking::input::check_input` meets its contract: the first test that fails gives the status. Assumes nothing.
-use mathlib.Core.Path.{_≡_, refl, sym, _∙_}
+use mathlib.Core.Path.{_≡_, refl, sym, ap, _∙_}
+use Prim.Native.Nat.{_/_}
 use mathlib.Core.Bool.{Bool, true}
 use native.Mathlib.Omega.{arith}
 use lib.ListN.{length}
@@ -7,25 +8,33 @@ use lib.Dec.{leb, ltb}
 use borrow.Author.Needs.{needs}
 use borrow.Author.Tests.{not-true, not-false}
 use mir.Facts.{toZ-ofZ}
-use Rattle.image.specs.Images.{pages-in}
+use Rattle.access.proofs.Laws.{pages-counted}
 use Rattle.calls.specs.Refusals.{first}
 use Rattle.booking.proofs.Laws.Early.{Tests, rows-are, span-less}
 use Rattle.booking.proofs.input.check_input.Statement.{statement}
 use Rattle.booking.proofs.input.check_input.Tie as tie
 
+-- where the length had been tested, and the start
+abbrev tested : tie.After-value-ok → tie.After-length-fits
+tested c = c .before .before
+
 abbrev began : tie.After-value-ok → tie.Start
-began c = c .before .before .before .before
+began c = tested c .before .before .before
 
 abbrev Tested : tie.After-value-ok → Bool → Bool → Bool → Bool → Type 0
-Tested c = Tests 12 (began c .args .v) (began c .args .s) (began c .args .e) (began c .args .img .now) (began c .args .scratch .now)
+Tested c =
+    Tests (began c .args .half) (began c .args .v) (began c .args .s) (began c .args .e) (began c .args .img .now)
+    (began c .args .scratch .now)
 
-tests : (c : tie.After-value-ok) {whole room span fits : Bool} → c .before .length-fits .result ≡ whole
-    → leb (pages-in 12 (began c .args .img .now)) (length (began c .args .scratch .now)) ≡ room
+tests : (c : tie.After-value-ok) {whole room span fits : Bool} → tested c .length-fits .result ≡ whole
+    → leb (length (began c .args .img .now) / c .before .page-size .result) (length (began c .args .scratch .now)) ≡ room
     → ltb (began c .args .s) (began c .args .e) ≡ span → c .value-ok .result ≡ fits → Tested c whole room span fits
 tests c a b d f =
+    let args = began c .args in
     record {
-      whole-is = sym (c .before .length-fits .ensures) ∙ a;
-      room-is = b;
+      whole-is = sym (tested c .length-fits .ensures) ∙ a;
+      room-is = sym (ap (λ n. leb n (length (args .scratch .now)))
+          (pages-counted (args .half) (args .img .now) (c .before .page-size .ensures))) ∙ b;
       span-is = span-less _ _ (omega (arith, began c .fits .e)) ∙ d;
       fits-is = sym (rw (toZ-ofZ (began c .fits .v)) at (c .value-ok .ensures)) ∙ f;
     }
@@ -35,12 +44,12 @@ unfolding first
 returns c = rows-are _ _ _ _ _ _ (tests (c .before) (not-true _ (c .if1 .taken)) refl refl refl)
 
 returns-2 : tie.Need-returns-2
-unfolding first pages-in
+unfolding first
 returns-2 c =
     rows-are _ _ _ _ _ _ (tests (c .before .before) (not-false _ (c .before .if1 .left)) (not-true _ (c .if2 .taken)) refl refl)
 
 returns-3 : tie.Need-returns-3
-unfolding first pages-in
+unfolding first
 returns-3 c =
     let room = c .before in
     rows-are _ _ _ _ _ _
@@ -49,7 +58,6 @@ returns-3 c =
 -- only the value is left to judge
 spanned : (c : tie.Else3) {fits : Bool} → c .before .before .before .value-ok .result ≡ fits
     → Tested (c .before .before .before) true true true fits
-unfolding pages-in
 spanned c f =
     let room = c .before in
     tests (room .before .before) (not-false _ (room .before .if1 .left)) (not-false _ (room .if2 .left)) (not-false _ (c .if3 .left)) f
@@ -63,4 +71,5 @@ unfolding first
 returns-5 c = rows-are _ _ _ _ _ _ (spanned (c .before) (not-false _ (c .if4 .left)))
 
 pub check-input-spec : {M : Type 1} → statement M
-check-input-spec = tie.close (tie.spec (λ c κs. search needs) (λ c κs. search needs) returns returns-2 returns-3 returns-4 returns-5)
+check-input-spec = tie.close (tie.spec (λ c κs. search needs) (λ c κs. omega arith) (λ c. omega (arith, c .page-size .ensures))
+    (λ c κs. search needs) returns returns-2 returns-3 returns-4 returns-5)

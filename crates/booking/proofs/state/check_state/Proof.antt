@@ -8,7 +8,8 @@ use borrow.Author.Needs.{needs}
 use borrow.Author.Tests.{not-true, not-false, eq-eqb, ne-eqb}
 use Rattle.rule.specs.Time.{effect-end}
 use Rattle.page.specs.Layout.{head-of}
-use Rattle.image.specs.Images.{page-at}
+use Rattle.page.proofs.Laws.Offsets.{page-within}
+use Rattle.image.specs.Images.{pages-in}
 use Rattle.image.specs.Sound.{sound}
 use Rattle.calls.specs.Calls.{head}
 use Rattle.access.specs.Access.{Page-in}
@@ -25,15 +26,18 @@ use Rattle.booking.proofs.state.check_state.Tie as tie
 abbrev began : tie.Else1 → tie.Start
 began c = c .before .before .before
 
-within : (c : tie.Else1) → Page-in 12 (began c .args .img .now) 0
+within : (c : tie.Else1) → let args = began c .args in Page-in (args .half) (args .img .now) 0
 within c =
-    let z = sized 12 _ (began c .pre .0) in
-    omega (arith, z .size, z .least)
+    let half = began c .args .half in
+    let z = sized half _ (began c .pre .0 .2) in
+    let one : 0 < pages-in half (began c .args .img .now) = omega (arith, z .least) in
+    omega (arith, z .size, page-within half one)
 
-passed : (c : tie.Else1) → sound 12 (began c .args .img .now) ≡ true
+passed : (c : tie.Else1) → sound (began c .args .half) (began c .args .img .now) ≡ true
 passed c = sym (c .before .sound .ensures) ∙ not-false _ (c .if1 .left)
 
-read : (c : tie.After-read-head) → c .read-head .result ≡ head 12 (began (c .before .before) .args .img .now)
+read : (c : tie.After-read-head) → c .read-head .result ≡ head (began (c .before .before) .args .half)
+    (began (c .before .before) .args .img .now)
 unfolding head
 read c = c .read-head .ensures ∙ ap head-of (c .before .page-at .ensures)
 
@@ -68,7 +72,7 @@ module _ (c : tie.After-lacks-pages) where
   start = began (headed (c .before) .before .before)
 
   counted : cond (c .lacks-pages .result) (Refused 24) (Accepted (headed (c .before) .read-head .result))
-      ≡ state-check 12 (side-of (start .args .withdraws)) (start .args .s) (start .args .e) (start .args .img .now)
+      ≡ state-check (start .args .half) (side-of (start .args .withdraws)) (start .args .s) (start .args .e) (start .args .img .now)
   counted =
       let end = c .before in
       let full = end .before in
@@ -87,14 +91,22 @@ lacks-pages-requires : tie.Need-lacks-pages-requires
 unfolding head
 lacks-pages-requires c κs =
     let head = headed c in
-    (record { half-least = omega arith; half-most = omega arith; sound = passed (head .before .before); shown = read head }, later c)
+    let start = began (head .before .before) in (
+      record {
+        half-least = start .pre .0 .0;
+        half-most = start .pre .0 .1;
+        sound = passed (head .before .before);
+        shown = read head;
+      },
+      later c,
+    )
 
 pub check-state-spec : {M : Type 1} → statement M
 check-state-spec =
     tie.close
     (tie.spec
-    (λ c κs. (omega arith, omega arith, c .before .pre .0))
+    (λ c κs. let asked = c .before .pre .0 in (omega (arith, asked .0), asked .1, asked .2))
     returns
     (λ c κs. within c)
-    (λ c κs. omega (arith, ap length (c .page-at .ensures) ∙ page-length 12 _ 0 (within (c .before))))
+    (λ c κs. omega (arith, ap length (c .page-at .ensures) ∙ page-length _ _ 0 (within (c .before)), began (c .before) .pre .0 .0))
     returns-2 returns-3 (λ c κs. search needs) lacks-pages-requires returns-4 returns-5)

@@ -23,7 +23,7 @@ start c = read c .before .before .before
 
 -- ---- the entry that was read and its end, in every image that the bytes encode
 
-module _ (c : tie.After-inside) (X : Image) (h : Encodes 12 (start c .args .img .now) X) (l : ℕ)
+module _ (c : tie.After-inside) (X : Image) (h : Encodes (start c .args .half) (start c .args .img .now) X) (l : ℕ)
     (k : Entry-takes (start c .args .q) (start c .args .hi) (start c .args .p) (start c .args .i) l X) where
   entry-is : read c .entry-of .result ≡ at (entries X (start c .args .p)) (start c .args .i)
   entry-is = read c .entry-of .ensures X h l (k .has)
@@ -41,7 +41,7 @@ returns c X h l k =
     let e = entry-is test X h l k in
     let d = end-is test X h l k in
     let out = sym (test .inside .ensures) ∙ not-true _ (c .if1 .taken) in
-    subst (Encodes 12 _) (untaken _ _ _ _ l X k (sym e ∙ took-outside q _ _ out ∙ λ j. took-by q (d j) (e j))) h
+    subst (Encodes _ _) (untaken _ _ _ _ l X k (sym e ∙ took-outside q _ _ out ∙ λ j. took-by q (d j) (e j))) h
 
 with-effect-requires : tie.Need-with-effect-requires
 with-effect-requires c κs =
@@ -61,7 +61,7 @@ returns-2 c X h l k =
     let d = end-is test X h l k in
     let es = entries X (start test .args .p) in
     let in-span = sym (test .inside .ensures) ∙ not-false _ (else .if1 .left) in
-    subst (Encodes 12 _) (ap (λ y. put (start test .args .p) (tree l (splice (start test .args .i) (y ∷ []) es)) X)
+    subst (Encodes _ _) (ap (λ y. put (start test .args .p) (tree l (splice (start test .args .i) (y ∷ []) es)) X)
     (made .with-effect .ensures ∙ took-inside q _ _ in-span ∙ λ j. took-by q (d j) (e j)))
     (call .set-entry .ensures X h l (k .has))
 

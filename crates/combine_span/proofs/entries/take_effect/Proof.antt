@@ -6,10 +6,10 @@ use Rattle.combine_span.proofs.entries.take_effect.Statement.{statement
 use Rattle.combine_span.proofs.entries.take_effect.Tie as tie
 
 abbrev Inv-loop : tie.InvT-loop
-Inv-loop img₀ q hi p n i₀ img i = turns.Taking q hi p 12 img₀ n i img
+Inv-loop half img₀ q hi p n i₀ img i = turns.Taking q hi p half img₀ n i img
 
 abbrev μ-loop : tie.MeasureT-loop
-μ-loop img₀ q hi p n i₀ img i = n - i
+μ-loop half img₀ q hi p n i₀ img i = n - i
 
 abbrev start : tie.At-loop Inv-loop μ-loop → tie.Start Inv-loop μ-loop
 start c = c .before .before .before .before
@@ -28,7 +28,7 @@ loop-again : tie.Need-loop-again Inv-loop μ-loop
 loop-again c =
     let call = c .before .before in
     let turn = call .before .before in
-    turns.more _ _ _ (turn .before .loop .inv) (turn .loop-test .taken) (call .entry-takes .ensures) (call .entry-takes .kept .0)
+    turns.more _ _ _ (turn .before .loop .inv) (turn .loop-test .taken) (call .entry-takes .ensures) (call .entry-takes .kept .1 .0)
 
 pub take-effect-spec : {M : Type 1} → statement M
 take-effect-spec =

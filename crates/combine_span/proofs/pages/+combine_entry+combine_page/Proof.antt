@@ -26,16 +26,16 @@ use Rattle.combine_span.proofs.pages.+combine_entry+combine_page.{state
 use Rattle.combine_span.proofs.pages.+combine_entry+combine_page.Tie.{close}
 
 abbrev μ-combine-entry : Measures 1 combine-entry-kinds.ps ℕ
-μ-combine-entry κs a = 2 * a .1 .1 .0
+μ-combine-entry κs a = 2 * a .1 .1 .1 .0
 
 abbrev μ-combine-page : Measures 1 combine-page-kinds.ps ℕ
-μ-combine-page κs a = 2 * a .1 .1 .0 + 1
+μ-combine-page κs a = 2 * a .1 .1 .1 .0 + 1
 
 abbrev Inv-loop : combine-page-lts.InvT-loop
-Inv-loop img₀ q level hi p n i₀ img i = turns.Sending q level hi p 12 img₀ n i img
+Inv-loop half img₀ q level hi p n i₀ img i = turns.Sending q level hi p half img₀ n i img
 
 abbrev μ-loop : combine-page-lts.MeasureT-loop
-μ-loop img₀ q level hi p n i₀ img i = n - i
+μ-loop half img₀ q level hi p n i₀ img i = n - i
 
 pub +combine-entry+combine-page-spec : {M : Type 1} → statement M
 +combine-entry+combine-page-spec =
@@ -47,14 +47,14 @@ pub +combine-entry+combine-page-spec : {M : Type 1} → statement M
     -- inside-requires
     (λ c κs. search needs)
     -- returns
-    (λ c X h r. subst (Encodes 12 _) (sent-inside _ _ _ _ X (sym (c .before .inside .ensures) ∙ c .if1 .taken)) h)
+    (λ c X h r. subst (Encodes _ _) (sent-inside _ _ _ _ X (sym (c .before .inside .ensures) ∙ c .if1 .taken)) h)
     -- overlaps-requires
     (λ c κs. search needs)
     -- returns-2
     (λ c X h r.
     let out = c .before .before in
     let apart = sym (out .before .inside .ensures) ∙ out .if1 .left in
-    subst (Encodes 12 _) (sent-apart _ _ _ _ X apart (sym (c .before .overlaps .ensures) ∙ not-true _ (c .if2 .taken))) h)
+    subst (Encodes _ _) (sent-apart _ _ _ _ X apart (sym (c .before .overlaps .ensures) ∙ not-true _ (c .if2 .taken))) h)
     -- sub-combine-page
     (λ c. let out = c .before .before .before in out .before .before .before .pre .1 .0)
     -- combine-page-requires
@@ -78,7 +78,7 @@ pub +combine-entry+combine-page-spec : {M : Type 1} → statement M
     let some = out .before .before .before .pre .1 .0 in
     let apart = sym (out .before .inside .ensures) ∙ out .if1 .left in
     let meets = sym (met .before .overlaps .ensures) ∙ not-false _ (met .if2 .left) in
-    subst (Encodes 12 _) (sent-below _ _ _ _ X some apart meets)
+    subst (Encodes _ _) (sent-below _ _ _ _ X some apart meets)
     (call .combine-page .ensures X h (combinable-below _ _ _ _ X some apart meets r))))
     λ t. combine-page-lts.spec (
       take-effect.Asked,
@@ -146,7 +146,7 @@ pub +combine-entry+combine-page-spec : {M : Type 1} → statement M
     let at = end .before .before in
     let turn = at .before .before in
     turns.more _ _ _ _ (turn .before .loop .inv) (turn .loop-test .taken) (at .entry-of .ensures) (end .entry-end .ensures)
-    (call .combine-entry .ensures) (call .combine-entry .kept .0))
+    (call .combine-entry .ensures) (call .combine-entry .kept .1 .0))
     -- take-effect-requires-2
     (λ c κs.
     let end = c .before in
@@ -154,7 +154,7 @@ pub +combine-entry+combine-page-spec : {M : Type 1} → statement M
     let inner = loop .before .before .before in
     turns.can-take _ _ _ _ (turns.all-sent-of _ _ _ _ (loop .loop .inv) (end .loop-test .left)) (inner .before .before .pre .1))
     -- same-length-2
-    (λ c. let call = c .before .before in call .take-effect2 .kept .0 ∙ call .before .before .before .loop .inv .same)
+    (λ c. let call = c .before .before in call .take-effect2 .kept .1 .0 ∙ call .before .before .before .loop .inv .same)
     -- returns-2
     (λ c.
     let call = c .before .before in

@@ -10,7 +10,8 @@ use Rattle.combine_span.proofs.root.combine_span.Tie as tie
 abbrev start : tie.After-head-of → tie.Start
 start c = c .before .before .before
 
-headed : (c : tie.After-head-of) → Headed 12 (start c .args .img .now) (c .head-of .result) (Span-combinable (start c .args .q))
+headed : (c : tie.After-head-of) → Headed (start c .args .half) (start c .args .img .now) (c .head-of .result)
+    (Span-combinable (start c .args .q))
 headed c = some-headed (start c .pre) (c .head-of .ensures)
 
 sub-combine-page : tie.Need-sub-combine-page
@@ -27,8 +28,8 @@ returns c X h r =
     let call = c .before .before in
     let read = call .before .before .before in
     let args = start read .args in
-    by-head (λ Y. Encodes 12 (args .img .now) Y → Span-combinable (args .q) Y
-    → Encodes 12 (call .combine-page .last .0) (combine-span-by (args .q) Y))
+    by-head (λ Y. Encodes (args .half) (args .img .now) Y → Span-combinable (args .q) Y
+    → Encodes (args .half) (call .combine-page .last .1 .0) (combine-span-by (args .q) Y))
     (read .head-of .ensures X h tt) (λ k t. call .combine-page .ensures _ k (t .root)) h r
 
 pub combine-span-spec : {M : Type 1} → statement M

@@ -33,24 +33,28 @@ inside : (c : tie.After-root-entry) → started c .args .t < END
 inside c = omega (arith, tested c .if1 .left)
 
 -- the root as an entry, of every image that the bytes encode, and what it becomes
-module _ (c : tie.After-root-entry) (X : Image) (h : Encodes 12 (started c .args .img .now) X) (r : Cuttable 12 (started c .args .t) X) where
-  root : Root-cuttable 12 (started c .args .t) X
+module _ (c : tie.After-root-entry) (X : Image) (h : Encodes (started c .args .half) (started c .args .img .now) X)
+    (r : Cuttable (started c .args .half) (started c .args .t) X) where
+  root : Root-cuttable (started c .args .half) (started c .args .t) X
   root = r .root (inside c)
 
-  ready : Entry-cuttable 12 (read c .head-of .result .height) (c .root-entry .result) (started c .args .t) X
-  ready = root-ready 12 (started c .args .t) X (read c .head-of .ensures X h tt) (c .root-entry .ensures) root
+  ready : Entry-cuttable (started c .args .half) (read c .head-of .result .height) (c .root-entry .result) (started c .args .t) X
+  ready = root-ready _ (started c .args .t) X (read c .head-of .ensures X h tt) (c .root-entry .ensures) root
 
-grew : (c : tie.After-cut-entry) (X : Image) → Encodes 12 (started (c .before) .args .img .now) X → Cuttable 12 (started (c .before) .args .t) X
-    → Cut-as 12 (root-entry X) (from-root 12 (started (c .before) .args .t) X) (c .cut-entry .result) (c .cut-entry .last .0)
+grew : (c : tie.After-cut-entry) (X : Image)
+    → let args = started (c .before) .args in
+    Encodes (args .half) (args .img .now) X
+    → Cuttable (args .half) (args .t) X
+    → Cut-as (args .half) (root-entry X) (from-root (args .half) (args .t) X) (c .cut-entry .result) (c .cut-entry .last .1 .0)
 grew c X h r =
     let entry = c .before in
-    root-cut 12 (started entry .args .t) X (read entry .head-of .ensures X h tt) (entry .root-entry .ensures)
+    root-cut _ (started entry .args .t) X (read entry .head-of .ensures X h tt) (entry .root-entry .ensures)
     (c .cut-entry .ensures X h (ready entry X h r))
 
 returns : tie.Need-returns
 returns c X h r =
     let t = c .before .before .args .t in
-    subst (Encodes 12 _) (sym (cut-end 12 t X (omega (arith, c .if1 .taken)))) h
+    subst (Encodes _ _) (sym (cut-end _ t X (omega (arith, c .if1 .taken)))) h
 
 cut-entry-requires : tie.Need-cut-entry-requires
 cut-entry-requires c κs = readied (started c .pre) (ready c)
@@ -58,7 +62,7 @@ cut-entry-requires c κs = readied (started c .pre) (ready c)
 returns-2 : tie.Need-returns-2
 returns-2 c X h r =
     let call = answered (c .before .before) in
-    root-same 12 _ X (inside (call .before)) (told (c .enum-told .given .1) (grew call X h r))
+    root-same _ _ X (inside (call .before)) (told (c .enum-told .given .1) (grew call X h r))
 
 grow-root-requires : tie.Need-grow-root-requires
 grow-root-requires c κs =
@@ -68,7 +72,7 @@ grow-root-requires c κs =
     (λ X h r.
     let g = told (known .start .given .1) (grew call X h r) in
     let head = read (call .before) .head-of .ensures X h tt in
-    record { image = _; holds = g .holds; ready = root-growable 12 _ X head g (root (call .before) X h r) })
+    record { image = _; holds = g .holds; ready = root-growable _ _ X head g (root (call .before) X h r) })
 
 returns-3 : tie.Need-returns-3
 returns-3 c X h r =
@@ -77,8 +81,8 @@ returns-3 c X h r =
     let call = answered (known .before .before) in
     let g = told (known .start .given .1) (grew call X h r) in
     let head = read (call .before) .head-of .ensures X h tt in
-    root-two 12 _ X head g (inside (call .before))
-    (raising .grow-root .ensures _ (g .holds) (root-growable 12 _ X head g (root (call .before) X h r)))
+    root-two _ _ X head g (inside (call .before))
+    (raising .grow-root .ensures _ (g .holds) (root-growable _ _ X head g (root (call .before) X h r)))
 
 pub cut-spec : {M : Type 1} → statement M
 cut-spec =

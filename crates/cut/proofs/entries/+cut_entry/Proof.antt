@@ -16,7 +16,7 @@ use Rattle.cut.proofs.entries.+cut_entry.{statement}
 use Rattle.cut.proofs.entries.+cut_entry.Tie.{close}
 
 abbrev μ-cut-entry : Measures 1 cut-entry-kinds.ps ℕ
-μ-cut-entry κs a = a .1 .0
+μ-cut-entry κs a = a .1 .1 .0
 
 pub +cut-entry-spec : {M : Type 1} → statement M
 +cut-entry-spec =

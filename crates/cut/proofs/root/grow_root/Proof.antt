@@ -24,7 +24,8 @@ took c = c .before .before .before
 abbrev read : tie.After-take → tie.After-head-of
 read c = c .before .before
 
-headed : (c : tie.After-head-of) → Headed 12 (c .before .before .before .args .img .now) (c .head-of .result) Root-growable
+headed : (c : tie.After-head-of)
+    → let args = c .before .before .before .args in Headed (args .half) (args .img .now) (c .head-of .result) Root-growable
 headed c = some-headed (c .before .before .before .pre) (c .head-of .ensures)
 
 set-root-requires : tie.Need-set-root-requires
@@ -44,7 +45,7 @@ save-requires c κs =
         holds = raised .set-root .ensures _ (q .1) tt;
         ready = within-rooted (spare-within (q .0) (k .ready .takable)) _ _;
       },
-      (omega (arith, c .new-root .ensures .level, k .ready .low), omega (arith, has-len (c .new-root .ensures))),
+      (omega (arith, c .new-root .ensures .level, k .ready .low), omega (arith, has-len (c .new-root .ensures), k .holds .half-least)),
     )
 
 returns : tie.Need-returns
@@ -56,7 +57,8 @@ returns c X h r =
     let head = read taking in
     let args = head .before .before .before .args in
     let es = entry 0 none (args .root) ∷ entry (args .start) none (args .q) ∷ [] in
-    by-head (λ Y. Encodes 12 (args .img .now) Y → Root-growable Y → Encodes 12 (saved .save .last .0) (grow-root es Y))
+    by-head (λ Y. Encodes (args .half) (args .img .now) Y → Root-growable Y
+    → Encodes (args .half) (saved .save .last .1 .0) (grow-root es Y))
     (head .head-of .ensures X h tt)
     (λ k ready.
     let q = taking .take .ensures _ k (ready .takable) in

@@ -7,6 +7,7 @@ use borrow.Author.Needs.{needs}
 use lib.ListN.{length}
 use Rattle.page.specs.declared.Entry.{Entry}
 use Rattle.page.specs.Entries.{entry, inserted}
+use Rattle.page.specs.Layout.{capacity}
 use Rattle.image.specs.Images.{Image}
 use Rattle.steps.specs.Supply.{entries}
 use Rattle.steps.specs.Cut.{split-if-full}
@@ -29,19 +30,23 @@ abbrev began : tie.After-entry-count-in → tie.Start
 began c = read c .before .before .before
 
 -- of every image that the bytes encode: how many entries there are, and with the new one
-module _ (c : tie.After-entry-count-in) {X : Image} (h : Encodes 12 (began c .args .img .now) X) {l : ℕ}
-    (r : Insertable 12 l (began c .args .e .child) (began c .args .i) X) where
+module _ (c : tie.After-capacity) {X : Image} (h : Encodes (began (c .before) .args .half) (began (c .before) .args .img .now) X) {l : ℕ}
+    (r : Insertable (began (c .before) .args .half) l (began (c .before) .args .e .child) (began (c .before) .args .i) X) where
+  abbrev half : ℕ
+  half = began (c .before) .args .half
+
   abbrev p : ℕ
-  p = began c .args .e .child
+  p = began (c .before) .args .e .child
 
   abbrev i : ℕ
-  i = began c .args .i
+  i = began (c .before) .args .i
 
   abbrev new : Entry
-  new = entry (began c .args .start) (read c .entry-of .result .pair) (began c .args .child)
+  new = entry (began (c .before) .args .start) (read (c .before) .entry-of .result .pair) (began (c .before) .args .child)
 
-  count : (c .entry-count-in .result ≡ length (entries X p)) × (c .entry-count-in .result ≤ 24)
-  count = c .entry-count-in .ensures X h l (r .has-entry .tree-page)
+  count : (c .before .entry-count-in .result ≡ length (entries X p))
+      × (c .before .entry-count-in .result ≤ capacity (began (c .before) .args .half))
+  count = c .before .entry-count-in .ensures X h l (r .has-entry .tree-page)
 
   place : Has-place l p (i + 1) X
   place = record { tree-page = r .has-entry .tree-page; inside = omega (arith, r .has-entry .inside) }
@@ -49,28 +54,33 @@ module _ (c : tie.After-entry-count-in) {X : Image} (h : Encodes 12 (began c .ar
   longer : length (inserted (i + 1) new (entries X p)) ≡ suc (length (entries X p))
   longer = length-inserted (i + 1) new (entries X p)
 
-  gained : inserted (i + 1) new (entries X p) ≡ inserted-after i (began c .args .start) (began c .args .child) (entries X p)
+  gained : inserted (i + 1) new (entries X p) ≡ inserted-after i (began (c .before) .args .start) (began (c .before) .args .child)
+      (entries X p)
   gained =
-      inserted-after-is i (began c .args .start) (began c .args .child) (entries X p) (r .has-entry .inside)
-      (ap (λ e. entry (began c .args .start) (e .pair) (began c .args .child)) (read c .entry-of .ensures X h l (r .has-entry)))
+      inserted-after-is i (began (c .before) .args .start) (began (c .before) .args .child) (entries X p) (r .has-entry .inside)
+      (ap (λ e. entry (began (c .before) .args .start) (e .pair) (began (c .before) .args .child))
+      (read (c .before) .entry-of .ensures X h l (r .has-entry)))
 
   -- what is done to the page with the new one is done as asked
   asked : {out : SplitOutcome} {after : List ℕ}
-      → Cut-as 12 (began c .args .e) (split-if-full 12 l (began c .args .e) (inserted (i + 1) new (entries X p)) X) out after
-      → Cut-as 12 (began c .args .e)
-      (split-if-full 12 l (began c .args .e) (inserted-after i (began c .args .start) (began c .args .child) (entries X p)) X) out after
-  asked = cut-as (λ j. split-if-full 12 l (began c .args .e) (gained j) X)
+      → Cut-as half (began (c .before) .args .e)
+      (split-if-full half l (began (c .before) .args .e) (inserted (i + 1) new (entries X p)) X) out after
+      → Cut-as half (began (c .before) .args .e)
+      (split-if-full half l (began (c .before) .args .e)
+      (inserted-after i (began (c .before) .args .start) (began (c .before) .args .child) (entries X p)) X) out after
+  asked = cut-as (λ j. split-if-full half l (began (c .before) .args .e) (gained j) X)
 
-  room : c .entry-count-in .result < 24 → Has-room 12 l p (i + 1) X
-  room less = record { tree-page = place .tree-page; inside = place .inside; room = omega (arith, count) }
+  room : c .before .entry-count-in .result < c .capacity .result → Has-room half l p (i + 1) X
+  room less = record { tree-page = place .tree-page; inside = place .inside; room = omega (arith, count, c .capacity .ensures) }
 
-  splittable : 24 ≤ c .entry-count-in .result → Splittable 12 l p (i + 1) X
+  splittable : c .capacity .result ≤ c .before .entry-count-in .result → Splittable half l p (i + 1) X
   splittable full =
       let n = count in
+      let m = c .capacity .ensures in
       record { place = place; low = r .low; full = omega arith; takable = r .room (omega arith) }
 
-fits : (c : tie.After-entry-count-in) → began c .args .i < 24
-fits c = from (began c .pre) (λ X h r. omega (arith, r .1 .has-entry .inside, count c h (r .1)))
+fits : (c : tie.After-capacity) → began (c .before) .args .i < 24
+fits c = from (began (c .before) .pre) (λ X h r. omega (arith, r .1 .has-entry .inside, count c h (r .1), h .half-most))
 
 returns : tie.Need-returns
 returns c X h l r =
@@ -78,7 +88,7 @@ returns c X h l r =
     let test = inserted .before .before in
     let k = room (test .before) h r (test .if1 .taken) in
     asked (test .before) h r
-    (saved-as 12 _ l _ X (omega (arith, longer (test .before) h r, k .room)) (inserted .insert-entry .ensures X h l k))
+    (saved-as _ _ l _ X (omega (arith, longer (test .before) h r, k .room)) (inserted .insert-entry .ensures X h l k))
 
 returns-2 : tie.Need-returns-2
 returns-2 c X h l r =
@@ -86,19 +96,20 @@ returns-2 c X h l r =
     let test = halved .before .before in
     let k = splittable (test .before) h r (test .if1 .left) in
     asked (test .before) h r
-    (halved-as 12 _ l _ X (omega (arith, longer (test .before) h r, k .full)) (halved .split .ensures X h l k))
+    (halved-as _ _ l _ X (omega (arith, longer (test .before) h r, k .full)) (halved .split .ensures X h l k))
 
 pub insert-after-spec : {M : Type 1} → statement M
 insert-after-spec =
     tie.close
     (tie.spec (λ c κs. search needs) (λ c κs. search needs)
+    (λ c κs. omega (arith, began c .pre .holds .half-most))
     (λ c. omega (arith, fits (c .before .before)))
     (λ c κs.
     let test = c .before in
-    readied (began (test .before) .pre) (λ X h r. (_, room (test .before) h (r .1) (test .if1 .taken))))
+    readied (began (test .before .before) .pre) (λ X h r. (_, room (test .before) h (r .1) (test .if1 .taken))))
     (λ c. search needs) returns
     (λ c. omega (arith, fits (c .before .before)))
     (λ c κs.
     let test = c .before in
-    readied (began (test .before) .pre) (λ X h r. (_, splittable (test .before) h (r .1) (test .if1 .left))))
+    readied (began (test .before .before) .pre) (λ X h r. (_, splittable (test .before) h (r .1) (test .if1 .left))))
     (λ c. search needs) returns-2)

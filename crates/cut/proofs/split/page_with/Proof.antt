@@ -16,7 +16,7 @@ insert-requires c κs =
     from (began c .pre)
     (λ X h r.
     let page = c .load .ensures X h (r .0) (r .1 .tree-page) in
-    (omega (arith, loaded-len page, r .1 .inside), page .few))
+    (omega (arith, loaded-len page, r .1 .inside), omega (arith, page .few, h .half-most)))
 
 returns : tie.Need-returns
 returns c X h l r =

@@ -22,14 +22,14 @@ returns : tie.Need-returns
 returns c X h s =
     let read = c .before .before in
     let e = ap (λ (k : Head). k .height) (read .head-of .ensures X h tt) in
-    subst (Encodes 12 _) (collapsed-low (begin read .args .kind) X (omega (arith, c .if1 .taken))) h
+    subst (Encodes _ _) (collapsed-low (begin read .args .kind) X (omega (arith, c .if1 .taken))) h
 
 -- ---- the root, of every image that the bytes encode
 
 abbrev start : tie.Else1 → tie.Start
 start c = begin (c .before .before)
 
-module _ (c : tie.Else1) (X : Image) (h : Encodes 12 (start c .args .img .now) X) (s : Collapsible-if-single X) where
+module _ (c : tie.Else1) (X : Image) (h : Encodes (start c .args .half) (start c .args .img .now) X) (s : Collapsible-if-single X) where
   head : c .before .before .head-of .result ≡ X .head
   head = c .before .before .head-of .ensures X h tt
 
@@ -39,7 +39,8 @@ module _ (c : tie.Else1) (X : Image) (h : Encodes 12 (start c .args .img .now) X
 abbrev high : tie.After-entry-count-in → tie.Else1
 high c = c .before .before
 
-module _ (c : tie.After-entry-count-in) (X : Image) (h : Encodes 12 (start (high c) .args .img .now) X) (s : Collapsible-if-single X) where
+module _ (c : tie.After-entry-count-in) (X : Image) (h : Encodes (start (high c) .args .half) (start (high c) .args .img .now) X)
+    (s : Collapsible-if-single X) where
   len : c .entry-count-in .result ≡ length (entries X (X .head .root))
   len = read-len X (head (high c) X h s) (c .entry-count-in .ensures X h _ (root (high c) X h s) .0)
 
@@ -64,14 +65,14 @@ returns-2 c X h s =
     let one = gone .before .before in
     let read = one .before in
     let l = collapses read X h s (one .if2 .taken) in
-    subst (Encodes 12 _) (collapsed-collapse-root (start (high read) .args .kind) X (l .inner) (sym (len read X h s) ∙ one .if2 .taken))
+    subst (Encodes _ _) (collapsed-collapse-root (start (high read) .args .kind) X (l .inner) (sym (len read X h s) ∙ one .if2 .taken))
     (gone .collapse-root .ensures X h l)
 
 returns-3 : tie.Need-returns-3
 returns-3 c X h s =
     let read = c .before in
     let n = len read X h s in
-    subst (Encodes 12 _) (collapsed-wide (start (high read) .args .kind) X (λ e. c .if2 .left (n ∙ e))) h
+    subst (Encodes _ _) (collapsed-wide (start (high read) .args .kind) X (λ e. c .if2 .left (n ∙ e))) h
 
 pub collapse-if-single-spec : {M : Type 1} → statement M
 collapse-if-single-spec =

@@ -24,7 +24,7 @@ use Rattle.heal.proofs.collapse.collapse_root.Tie as tie
 abbrev start : tie.After-head-of → tie.Start
 start c = c .before .before .before
 
-module _ (c : tie.After-head-of) (X : Image) (h : Encodes 12 (start c .args .img .now) X) (s : Collapsible X) where
+module _ (c : tie.After-head-of) (X : Image) (h : Encodes (start c .args .half) (start c .args .img .now) X) (s : Collapsible X) where
   head : c .head-of .result ≡ X .head
   head = c .head-of .ensures X h tt
 
@@ -37,7 +37,8 @@ module _ (c : tie.After-head-of) (X : Image) (h : Encodes 12 (start c .args .img
 abbrev read : tie.After-entry-of → tie.After-head-of
 read c = c .before .before
 
-module _ (c : tie.After-entry-of) (X : Image) (h : Encodes 12 (start (read c) .args .img .now) X) (s : Collapsible X) where
+module _ (c : tie.After-entry-of) (X : Image) (h : Encodes (start (read c) .args .half) (start (read c) .args .img .now) X)
+    (s : Collapsible X) where
   found : c .entry-of .result ≡ at (entries X (X .head .root)) 0
   found = read-entry X (head (read c) X h s) 0 (c .entry-of .ensures X h _ (root (read c) X h s))
 
@@ -62,8 +63,8 @@ written c X =
     let e = entry c .entry-of .result in
     put (e .child) (tree (X .head .height - 2) (pushed (combine (start (read (entry c)) .args .kind)) X e)) X
 
-one : (c : tie.After-push-down) → Post 12 (start (read (entry c)) .args .img .now) Collapsible
-    (λ X. Encodes 12 (c .push-down .last .0) (written c X))
+one : (c : tie.After-push-down) → Post (start (read (entry c)) .args .half) (start (read (entry c)) .args .img .now) Collapsible
+    (λ X. Encodes (start (read (entry c)) .args .half) (c .push-down .last .1 .0) (written c X))
 one c X h s = c .push-down .ensures X h _ (child (entry c) X h s)
 
 abbrev pushed-at : tie.After-give-back-arg → tie.After-push-down
@@ -78,8 +79,10 @@ give-back-requires c κs =
 abbrev down : tie.After-give-back → tie.After-push-down
 down c = pushed-at (c .before)
 
-two : (c : tie.After-give-back) → Post 12 (start (read (entry (down c))) .args .img .now) Collapsible
-    (λ X. Encodes 12 (c .give-back .last .0) (given-back (read (entry (down c)) .head-of .result .root) (written (down c) X)))
+two : (c : tie.After-give-back) → Post (start (read (entry (down c))) .args .half)
+    (start (read (entry (down c))) .args .img .now) Collapsible
+    (λ X. Encodes (start (read (entry (down c))) .args .half) (c .give-back .last .1 .0)
+    (given-back (read (entry (down c)) .head-of .result .root) (written (down c) X)))
 two c = then (one (down c)) (λ X h s. givable-put (goes (read (entry (down c))) X h s) _ _) (c .give-back .ensures)
 
 abbrev given : tie.After-struct-known → tie.After-give-back
@@ -102,7 +105,7 @@ returns c X h s =
     let rooted = c .before .before in
     let back = given (rooted .before) in
     let at = entry (down back) in
-    subst (Encodes 12 _)
+    subst (Encodes _ _)
     (collapse-root-is (start (read at) .args .kind) X (head (read at) X h s) (found at X h s))
     (then (two back) (λ X h s. tt) (rooted .set-root .ensures) X h s)
 

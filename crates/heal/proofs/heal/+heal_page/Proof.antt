@@ -20,7 +20,7 @@ use Rattle.heal.proofs.heal.+heal_page.{statement}
 use Rattle.heal.proofs.heal.+heal_page.Tie.{close}
 
 abbrev μ-heal-page : Measures 1 heal-page-kinds.ps ℕ
-μ-heal-page κs a = a .1 .1 .0
+μ-heal-page κs a = a .1 .1 .1 .0
 
 pub +heal-page-spec : {M : Type 1} → statement M
 +heal-page-spec =
@@ -33,7 +33,7 @@ pub +heal-page-spec : {M : Type 1} → statement M
     -- heal-leaf-requires
     (λ c κs.
     let start = c .before .before .before in
-    readied (start .pre .1) (λ X h s. leaf-ready 12 (start .args .kind) (c .before .if1 .taken) s))
+    readied (start .pre .1) (λ X h s. leaf-ready _ (start .args .kind) (c .before .if1 .taken) s))
     -- same-length
     (λ c. search needs)
     -- returns
@@ -42,8 +42,8 @@ pub +heal-page-spec : {M : Type 1} → statement M
     let then = leaf .before .before in
     let args = then .before .before .args in
     let e = then .if1 .taken in
-    subst⁻¹ (λ l. Encodes 12 (leaf .heal-leaf .last .0) (heal 12 (combine (args .kind)) (args .t) l (args .p) X)) e
-    (leaf .heal-leaf .ensures X h (leaf-ready 12 (args .kind) e s) (args .kind)))
+    subst⁻¹ (λ l. Encodes (args .half) (leaf .heal-leaf .last .1 .0) (heal (args .half) (combine (args .kind)) (args .t) l (args .p) X)) e
+    (leaf .heal-leaf .ensures X h (leaf-ready _ (args .kind) e s) (args .kind)))
     -- find-entry-requires
     (λ c κs. readied (c .before .before .before .pre .1) (λ X h s. (_, inner (c .before .if1 .left) s .searchable)))
     -- sub-heal-page
@@ -73,4 +73,4 @@ pub +heal-page-spec : {M : Type 1} → statement M
     let below = called .before .before .before in
     let found = below .before .before .before in
     let k = found-inner (found .before .before .if1 .left) h s (found .find-entry .ensures) in
-    subst (Encodes 12 _) (k .done) (after .rebalance-if-short .ensures _ (below .heal-page .ensures X h (k .below)) _ (k .rebalances))))
+    subst (Encodes _ _) (k .done) (after .rebalance-if-short .ensures _ (below .heal-page .ensures X h (k .below)) _ (k .rebalances))))

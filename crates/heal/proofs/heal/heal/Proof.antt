@@ -26,19 +26,20 @@ sub-heal-page c =
     omega (arith, s .some))
 
 -- of every image that the bytes encode
-module _ (c : tie.After-head-of) (X : Image) (h : Encodes 12 (start c .args .img .now) X)
-    (s : Healable 12 (start c .args .kind) (start c .args .t) X) where
+module _ (c : tie.After-head-of) (X : Image) (h : Encodes (start c .args .half) (start c .args .img .now) X)
+    (s : Healable (start c .args .half) (start c .args .kind) (start c .args .t) X) where
   head : c .head-of .result ≡ X .head
   head = c .head-of .ensures X h tt
 
   -- what the heal of the root leaves, by a head
   abbrev left-by : Head → Image
-  left-by k = heal-page 12 (combine (start c .args .kind)) (start c .args .t) (k .height - 1) (k .root) X
+  left-by k = heal-page (start c .args .half) (combine (start c .args .kind)) (start c .args .t) (k .height - 1) (k .root) X
 
-  page : Page-healable 12 (start c .args .kind) (start c .args .t) (c .head-of .result .height - 1) (c .head-of .result .root) X
+  page : Page-healable (start c .args .half) (start c .args .kind) (start c .args .t) (c .head-of .result .height - 1)
+      (c .head-of .result .root) X
   page =
       let args = start c .args in
-      subst (λ k. Page-healable 12 (args .kind) (args .t) (k .height - 1) (k .root) X) (sym head) (s .page)
+      subst (λ k. Page-healable (args .half) (args .kind) (args .t) (k .height - 1) (k .root) X) (sym head) (s .page)
 
   collapses : Collapsible-if-single (left-by (c .head-of .result))
   collapses = subst (λ k. Collapsible-if-single (left-by k)) (sym head) (s .collapses)
@@ -65,7 +66,7 @@ returns c X h s =
     let read = below .before .before .before in
     let args = start read .args in
     let holds = below .heal-page .ensures X h (page read X h s) in
-    subst (Encodes 12 _) (healed-is (args .kind) X 12 (args .t) (head read X h s))
+    subst (Encodes _ _) (healed-is (args .kind) X _ (args .t) (head read X h s))
     (after .collapse-if-single .ensures _ holds (collapses read X h s))
 
 pub heal-spec : {M : Type 1} → statement M

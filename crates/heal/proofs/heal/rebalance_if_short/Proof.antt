@@ -17,7 +17,7 @@ rebalance-requires c κs =
     from (start .pre)
     (λ X h s.
     let n = read .entry-count-in .ensures X h _ (s .1 .tree-page) in
-    record { image = X; holds = h; ready = (_, rebalances-rebalanceable 12 (start .args .q) X (n .0) (c .before .if1 .taken) (s .1)) })
+    record { image = X; holds = h; ready = (_, rebalances-rebalanceable _ (start .args .q) X (n .0) (c .before .if1 .taken) (s .1)) })
 
 returns : tie.Need-returns
 returns c X h v s =
@@ -26,15 +26,15 @@ returns c X h v s =
     let read = short .before in
     let args = read .before .before .before .args in
     let n = read .entry-count-in .ensures X h v (s .tree-page) in
-    subst (Encodes 12 _) (if-short-rebalanced 12 (args .q) X (n .0) (args .kind) v (args .p) (args .i) (short .if1 .taken))
-    (after .rebalance .ensures X h v (rebalances-rebalanceable 12 (args .q) X (n .0) (short .if1 .taken) s))
+    subst (Encodes _ _) (if-short-rebalanced _ (args .q) X (n .0) (args .kind) v (args .p) (args .i) (short .if1 .taken))
+    (after .rebalance .ensures X h v (rebalances-rebalanceable _ (args .q) X (n .0) (short .if1 .taken) s))
 
 returns-2 : tie.Need-returns-2
 returns-2 c X h v s =
     let read = c .before in
     let args = read .before .before .before .args in
     let n = read .entry-count-in .ensures X h v (s .tree-page) in
-    subst (Encodes 12 _) (if-short-kept 12 (args .q) X (n .0) (args .kind) v (args .p) (args .i) (c .if1 .left)) h
+    subst (Encodes _ _) (if-short-kept _ (args .q) X (n .0) (args .kind) v (args .p) (args .i) (c .if1 .left)) h
 
 pub rebalance-if-short-spec : {M : Type 1} → statement M
 rebalance-if-short-spec =

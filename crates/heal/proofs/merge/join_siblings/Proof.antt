@@ -14,12 +14,13 @@ abbrev start : tie.After-push-siblings → tie.Start
 start c = c .before .before .before
 
 -- both pages, of every image that the bytes encode
-module _ (c : tie.After-push-siblings) (X : Image) (h : Encodes 12 (start c .args .img .now) X) {v : ℕ}
-    (s : Mergeable 12 v (start c .args .p) (start c .args .l) X) where
-  down : Both-pushed 12 (start c .args .kind) v (start c .args .p) (start c .args .l) X (c .push-siblings .result) (c .push-siblings .last .0)
+module _ (c : tie.After-push-siblings) (X : Image) (h : Encodes (start c .args .half) (start c .args .img .now) X) {v : ℕ}
+    (s : Mergeable (start c .args .half) v (start c .args .p) (start c .args .l) X) where
+  down : Both-pushed (start c .args .half) (start c .args .kind) v (start c .args .p) (start c .args .l) X (c .push-siblings .result)
+      (c .push-siblings .last .1 .0)
   down = c .push-siblings .ensures X h v (s .siblings)
 
-  ready : Appendable 12 v (c .push-siblings .result .left) (c .push-siblings .result .right)
+  ready : Appendable (start c .args .half) v (c .push-siblings .result .left) (c .push-siblings .result .right)
       (both-pushed (start c .args .kind) v (start c .args .p) (start c .args .l) X)
   ready = down-appendable (s .siblings) (start c .args .kind) (down .left) (down .right) (s .few)
 
@@ -54,7 +55,7 @@ returns c X h v s =
     let at = pushed (all .before) in
     let kind = start at .args .kind in
     let d = down at X h s in
-    subst (Encodes 12 _) (joined-is (s .siblings) kind (d .left) (d .right))
+    subst (Encodes _ _) (joined-is (s .siblings) kind (d .left) (d .right))
     (given .give-back .ensures _ (all .append-all .ensures _ (d .holds) v (ready at X h s))
     (down-givable (s .siblings) kind (d .left) (d .right) _ (s .room)))
 

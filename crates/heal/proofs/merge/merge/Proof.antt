@@ -55,7 +55,7 @@ returns c X h v s =
     let kind = start at .args .kind in
     let t = s .siblings in
     let k = merged-parent t kind in
-    subst (Encodes 12 _) (merge-is t kind)
+    subst (Encodes _ _) (merge-is t kind)
     (empty .empty-pair .ensures _ (gone .remove-entry .ensures _ (at .join-siblings .ensures X h v s) _ (right-there t k)) _
     (left-there t k []))
 

@@ -17,7 +17,7 @@ returns c X h v s =
     let read = made .before .before in
     let args = read .before .before .before .args in
     let e = made .emptied .ensures ∙ ap (λ x. emptied (x .start) x) (read .entry-of .ensures X h v s) in
-    subst (Encodes 12 _) (ap (λ x. put (args .p) (tree v (splice (args .l) (x ∷ []) (entries X (args .p)))) X) e)
+    subst (Encodes _ _) (ap (λ x. put (args .p) (tree v (splice (args .l) (x ∷ []) (entries X (args .p)))) X) e)
     (set .set-entry .ensures X h v s)
 
 pub empty-pair-spec : {M : Type 1} → statement M

@@ -7,10 +7,10 @@ use Rattle.heal.proofs.push.push_down.Statement.{statement}
 use Rattle.heal.proofs.push.push_down.Tie as tie
 
 abbrev Inv-loop : tie.InvT-loop
-Inv-loop img₀ kind e n i₀ img i = Pushing kind e 12 img₀ n img i
+Inv-loop half img₀ kind e n i₀ img i = Pushing kind e half img₀ n img i
 
 abbrev μ-loop : tie.MeasureT-loop
-μ-loop img₀ kind e n i₀ img i = n - i
+μ-loop half img₀ kind e n i₀ img i = n - i
 
 abbrev start : tie.After-entry-count-in Inv-loop μ-loop → tie.Start Inv-loop μ-loop
 start c = c .before .before .before
@@ -31,7 +31,7 @@ loop-again : tie.Need-loop-again Inv-loop μ-loop
 loop-again c =
     let pushed = c .before .before in
     let turn = pushed .before .before in
-    more _ _ (turn .before .loop .inv) (turn .loop-test .taken) (pushed .push-entry .kept .0) (pushed .push-entry .ensures)
+    more _ _ (turn .before .loop .inv) (turn .loop-test .taken) (pushed .push-entry .kept .1 .0) (pushed .push-entry .ensures)
 
 returns : tie.Need-returns Inv-loop μ-loop
 returns c = all _ _ (c .before .loop .inv) (c .loop-test .left)

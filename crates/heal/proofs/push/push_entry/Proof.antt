@@ -29,7 +29,7 @@ returns c X h v s =
     let q = args .q in
     let es = entries X q in
     let e = read .entry-of .result in
-    subst (Encodes 12 _)
+    subst (Encodes _ _)
     (ap (λ r. put q (tree v (splice (args .i) (entry (e .start) r (e .child) ∷ []) es)) X) (both .combine .ensures)
     ∙ ap (λ e. put q (tree v (splice (args .i) (with-pair (args .kind) (args .pair) e ∷ []) es)) X)
     (read .entry-of .ensures X h v (s .has)))

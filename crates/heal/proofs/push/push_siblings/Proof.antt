@@ -29,7 +29,7 @@ add-entry-of c = from (start (c .before) .pre) (λ X h s. omega (arith, next-fit
 abbrev first : tie.After-entry-of2 → tie.After-entry-of
 first c = c .before .before
 
-module _ (c : tie.After-entry-of2) (X : Image) (h : Encodes 12 (start (first c) .args .img .now) X) {v : ℕ}
+module _ (c : tie.After-entry-of2) (X : Image) (h : Encodes (start (first c) .args .half) (start (first c) .args .img .now) X) {v : ℕ}
     (s : Siblings v (start (first c) .args .p) (start (first c) .args .l) X) where
   left : first c .entry-of .result ≡ at (entries X (start (first c) .args .p)) (start (first c) .args .l)
   left = first c .entry-of .ensures X h _ (entry-there s (omega arith))
@@ -87,7 +87,7 @@ returns c X h v s =
       left = ap (λ (x : Entry). x .child) a;
       right = ap (λ (x : Entry). x .child) b;
       holds =
-          subst (Encodes 12 _)
+          subst (Encodes _ _)
           (ap (λ es. put (e .child) (tree v es) (half at X h s)) (pushed-else _ _ X _ (apart at X h s) f)
           ∙ (λ j. put (b j .child) (tree v (pushed f X (b j))) (put (a j .child) (tree v (pushed f X (a j))) X)))
           (two .push-down2 .ensures _ (one .push-down .ensures X h v (left-ready at X h s)) v (right-ready at X h s));

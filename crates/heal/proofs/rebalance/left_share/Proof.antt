@@ -1,4 +1,4 @@
--- `heal::rebalance::left_share` meets its contract: the left page gets as many as half the capacity, or keeps all but its last. Assumes nothing.
+-- `heal::rebalance::left_share` meets its contract: the left page gets half a capacity, or keeps all but its last. Assumes nothing.
 use borrow.Author.Needs.{needs}
 use Rattle.heal.proofs.Rebalancing.{share-right, share-left}
 use Rattle.heal.proofs.rebalance.left_share.Statement.{statement}
@@ -8,5 +8,5 @@ pub left-share-spec : {M : Type 1} → statement M
 left-share-spec =
     tie.close
     (tie.spec (λ c. search needs)
-    (λ c. share-right (c .before .args .i) (c .if1 .taken) 12 (c .before .args .n))
-    (λ c. share-left (c .before .args .i) (c .if1 .left) 12 (c .before .args .n)))
+    (λ c. share-right (c .before .args .i) (c .if1 .taken) (c .before .args .half) (c .before .args .n))
+    (λ c. share-left (c .before .args .i) (c .if1 .left) (c .before .args .half) (c .before .args .n)))

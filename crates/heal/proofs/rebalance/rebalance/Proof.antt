@@ -5,6 +5,7 @@ use borrow.Author.Needs.{needs}
 use native.Mathlib.Omega.{arith}
 use lib.ListN.{length}
 use Rattle.page.specs.Entries.{at}
+use Rattle.page.specs.Layout.{capacity}
 use Rattle.image.specs.Images.{Image}
 use Rattle.steps.specs.Supply.{entries}
 use Rattle.steps.specs.Heal.{sibling}
@@ -29,8 +30,8 @@ entry-of-requires c κs =
 abbrev start : tie.After-entry-of → tie.Start
 start c = begin (c .before)
 
-module _ (c : tie.After-entry-of) (X : Image) (h : Encodes 12 (start c .args .img .now) X)
-    {v : ℕ} (s : Rebalanceable 12 v (start c .args .p) (start c .args .i) X) where
+module _ (c : tie.After-entry-of) (X : Image) (h : Encodes (start c .args .half) (start c .args .img .now) X)
+    {v : ℕ} (s : Rebalanceable (start c .args .half) v (start c .args .p) (start c .args .i) X) where
   entry : c .entry-of .result ≡ at (entries X (start c .args .p)) (sibling (start c .args .i))
   entry =
       let j = c .before .sibling .ensures in
@@ -42,13 +43,13 @@ module _ (c : tie.After-entry-of) (X : Image) (h : Encodes 12 (start c .args .im
 abbrev asked : tie.After-entry-count-in → tie.After-entry-of
 asked c = c .before .before
 
-module _ (c : tie.After-entry-count-in) (X : Image) (h : Encodes 12 (start (asked c) .args .img .now) X)
-    {v : ℕ} (s : Rebalanceable 12 v (start (asked c) .args .p) (start (asked c) .args .i) X) where
+module _ (c : tie.After-entry-count-in) (X : Image) (h : Encodes (start (asked c) .args .half) (start (asked c) .args .img .now) X)
+    {v : ℕ} (s : Rebalanceable (start (asked c) .args .half) v (start (asked c) .args .p) (start (asked c) .args .i) X) where
   len :
       c .entry-count-in .result ≡ length (entries X (at (entries X (start (asked c) .args .p)) (sibling (start (asked c) .args .i)) .child))
   len = c .entry-count-in .ensures X h v (tree-page (asked c) X h s) .0 ∙ ap (λ e. length (entries X (e .child))) (entry (asked c) X h s)
 
-  few : c .entry-count-in .result ≤ 24
+  few : c .entry-count-in .result ≤ capacity (start (asked c) .args .half)
   few = c .entry-count-in .ensures X h v (tree-page (asked c) X h s) .1
 
 entry-count-in-requires : tie.Need-entry-count-in-requires
@@ -75,7 +76,7 @@ returns c X h v s =
     let read = many .before in
     let args = start (asked read) .args in
     let n = len read X h s in
-    subst (Encodes 12 _) (rebalance-redistributed 12 (args .kind) v (args .p) (args .i) X l n k (many .if1 .taken))
+    subst (Encodes _ _) (rebalance-redistributed _ (args .kind) v (args .p) (args .i) X l n k (many .if1 .taken))
     (c .before .before .redistribute .ensures X h v (rebalance-redistributable l n k (many .if1 .taken) (few read X h s) s))
 
 merge-requires : tie.Need-merge-requires
@@ -94,7 +95,7 @@ returns-2 c X h v s =
     let read = some .before in
     let args = start (asked read) .args in
     let n = len read X h s in
-    subst (Encodes 12 _) (rebalance-merged 12 (args .kind) v (args .p) (args .i) X l n (some .if1 .left))
+    subst (Encodes _ _) (rebalance-merged _ (args .kind) v (args .p) (args .i) X l n (some .if1 .left))
     (c .before .before .merge .ensures X h v (rebalance-mergeable l n (some .if1 .left) s))
 
 pub rebalance-spec : {M : Type 1} → statement M

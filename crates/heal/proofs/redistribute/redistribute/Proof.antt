@@ -20,15 +20,16 @@ abbrev start : tie.After-share-siblings → tie.Start
 start c = c .before .before .before
 
 abbrev Ready : tie.After-share-siblings → ℕ → Image → Type 0
-Ready c v X = let args = start c .args in Redistributable 12 v (args .p) (args .l) (args .k) X
+Ready c v X = let args = start c .args in Redistributable (args .half) v (args .p) (args .l) (args .k) X
 
 -- ---- both pages once they are shared, of every image that the bytes encode
 
-module _ (c : tie.After-share-siblings) (X : Image) (h : Encodes 12 (start c .args .img .now) X) {v : ℕ} (s : Ready c v X) where
+module _ (c : tie.After-share-siblings) (X : Image) (h : Encodes (start c .args .half) (start c .args .img .now) X) {v : ℕ}
+    (s : Ready c v X) where
   abbrev then : Image
   then = let args = start c .args in siblings-shared (args .kind) v (args .p) (args .l) (args .k) X
 
-  holds : Encodes 12 (c .share-siblings .last .0) then
+  holds : Encodes (start c .args .half) (c .share-siblings .last .1 .0) then
   holds = c .share-siblings .ensures X h v s
 
   above : Same-parent v (start c .args .p) X then
@@ -43,7 +44,8 @@ begun c = c .before .before .before
 abbrev shared : tie.After-entry-of → tie.After-share-siblings
 shared c = begun (c .before)
 
-module _ (c : tie.After-entry-of) (X : Image) (h : Encodes 12 (start (shared c) .args .img .now) X) {v : ℕ} (s : Ready (shared c) v X) where
+module _ (c : tie.After-entry-of) (X : Image) (h : Encodes (start (shared c) .args .half) (start (shared c) .args .img .now) X) {v : ℕ}
+    (s : Ready (shared c) v X) where
   right : c .entry-of .result ≡ at (entries (then (shared c) X h s) (start (shared c) .args .p)) (start (shared c) .args .l + 1)
   right = c .entry-of .ensures _ (holds (shared c) X h s) _ (next (shared c) X h s)
 
@@ -102,7 +104,7 @@ returns c X h v s =
     let one = read new in
     let made = shared one in
     let args = start made .args in
-    subst (Encodes 12 _)
+    subst (Encodes _ _)
     (redistribute-is (s .siblings) (args .kind) (args .k) (right one X h s)
     (new .before .before .entry-of2 .ensures _ (holds made X h s) v (first one X h s)) (new .emptied .ensures))
     (empty .empty-pair .ensures _ (set .set-entry .ensures _ (holds made X h s) _ (next made X h s)) _

@@ -14,12 +14,13 @@ abbrev start : tie.After-push-siblings → tie.Start
 start c = c .before .before .before
 
 -- both pages, of every image that the bytes encode
-module _ (c : tie.After-push-siblings) (X : Image) (h : Encodes 12 (start c .args .img .now) X) {v : ℕ}
-    (s : Redistributable 12 v (start c .args .p) (start c .args .l) (start c .args .k) X) where
-  down : Both-pushed 12 (start c .args .kind) v (start c .args .p) (start c .args .l) X (c .push-siblings .result) (c .push-siblings .last .0)
+module _ (c : tie.After-push-siblings) (X : Image) (h : Encodes (start c .args .half) (start c .args .img .now) X) {v : ℕ}
+    (s : Redistributable (start c .args .half) v (start c .args .p) (start c .args .l) (start c .args .k) X) where
+  down : Both-pushed (start c .args .half) (start c .args .kind) v (start c .args .p) (start c .args .l) X (c .push-siblings .result)
+      (c .push-siblings .last .1 .0)
   down = c .push-siblings .ensures X h v (s .siblings)
 
-  ready : Sharable 12 v (c .push-siblings .result .left) (c .push-siblings .result .right) (start c .args .k)
+  ready : Sharable (start c .args .half) v (c .push-siblings .result .left) (c .push-siblings .result .right) (start c .args .k)
       (both-pushed (start c .args .kind) v (start c .args .p) (start c .args .l) X)
   ready = down-sharable (s .siblings) (start c .args .kind) (down .left) (down .right) s
 
@@ -37,7 +38,7 @@ returns c X h v s =
     let at = pushed (shared .before) in
     let args = start at .args in
     let d = down at X h s in
-    subst (Encodes 12 _) (shared-is (s .siblings) (args .kind) (d .left) (d .right) (args .k))
+    subst (Encodes _ _) (shared-is (s .siblings) (args .kind) (d .left) (d .right) (args .k))
     (shared .share .ensures _ (d .holds) v (ready at X h s))
 
 pub share-siblings-spec : {M : Type 1} → statement M

@@ -7,10 +7,10 @@ use Rattle.heal.proofs.share.append_all.Statement.{statement}
 use Rattle.heal.proofs.share.append_all.Tie as tie
 
 abbrev Inv-loop : tie.InvT-loop
-Inv-loop img₀ a b m n i₀ img i = Appending a b 12 img₀ m n img i
+Inv-loop half img₀ a b m n i₀ img i = Appending a b half img₀ m n img i
 
 abbrev μ-loop : tie.MeasureT-loop
-μ-loop img₀ a b m n i₀ img i = n - i
+μ-loop half img₀ a b m n i₀ img i = n - i
 
 entry-count-in-requires : tie.Need-entry-count-in-requires Inv-loop μ-loop
 entry-count-in-requires c κs = readied (c .before .before .pre) (λ X h s. (_, s .1 .pages .left))
@@ -50,7 +50,7 @@ loop-again c =
     let put = c .before .before in
     let read = put .before .before in
     let turn = read .before .before in
-    append-more _ _ (turn .before .loop .inv) (turn .loop-test .taken) (put .insert-entry .kept .0) (read .entry-of .ensures)
+    append-more _ _ (turn .before .loop .inv) (turn .loop-test .taken) (put .insert-entry .kept .1 .0) (read .entry-of .ensures)
     (put .insert-entry .ensures)
 
 returns : tie.Need-returns Inv-loop μ-loop

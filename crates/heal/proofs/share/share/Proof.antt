@@ -6,10 +6,10 @@ use Rattle.heal.proofs.share.share.Statement.{statement}
 use Rattle.heal.proofs.share.share.Tie as tie
 
 abbrev Inv-loop : tie.InvT-loop
-Inv-loop img₀ a b k m₀ img m = Sharing a b k 12 img₀ img m
+Inv-loop half img₀ a b k m₀ img m = Sharing a b k half img₀ img m
 
 abbrev μ-loop : tie.MeasureT-loop
-μ-loop img₀ a b k m₀ img m = (k - m) + (m - k)
+μ-loop half img₀ a b k m₀ img m = (k - m) + (m - k)
 
 abbrev start : tie.After-entry-count-in Inv-loop μ-loop → tie.Start Inv-loop μ-loop
 start c = c .before .before .before
@@ -33,7 +33,7 @@ loop-again : tie.Need-loop-again Inv-loop μ-loop
 loop-again c =
     let moved = c .before .before in
     let turn = moved .before .before in
-    share-more _ _ _ (turn .before .loop .inv) (turn .loop-test .taken) (moved .move-one .kept .0) (moved .move-one .ensures .0)
+    share-more _ _ _ (turn .before .loop .inv) (turn .loop-test .taken) (moved .move-one .kept .1 .0) (moved .move-one .ensures .0)
     (moved .move-one .ensures .1)
 
 returns : tie.Need-returns Inv-loop μ-loop

@@ -8,15 +8,21 @@ use Rattle.page_need.proofs.Counts.{page-need-few, page-need-over}
 use Rattle.page_need.proofs.parts.page_need.Statement.{statement}
 use Rattle.page_need.proofs.parts.page_need.Tie as tie
 
+returns : tie.Need-returns
+returns c =
+    let at = c .before in
+    let args = at .before .before .args in
+    sym (page-need-few (args .half) (args .n) (args .below) (omega (arith, at .capacity .ensures, c .if1 .taken)))
+
 returns-2 : tie.Need-returns-2
 returns-2 c =
-    let start = c .before .before .before in
-    let d : start .args .below .pages + 1 ≡ suc (start .args .below .pages) = omega arith in
-    ap (need 1) d ∙ sym (page-need-over 12 (start .args .n) (start .args .below) (c .before .if1 .left))
+    let else = c .before in
+    let at = else .before in
+    let args = at .before .before .args in
+    let d : args .below .pages + 1 ≡ suc (args .below .pages) = omega arith in
+    ap (need 1) d ∙ sym (page-need-over (args .half) (args .n) (args .below) (omega (arith, at .capacity .ensures, else .if1 .left)))
 
 pub page-need-spec : {M : Type 1} → statement M
 page-need-spec =
     tie.close
-    (tie.spec (λ c. search needs) (λ c. search needs)
-    (λ c. sym (page-need-few 12 (c .before .before .args .n) (c .before .before .args .below) (c .if1 .taken)))
-    (λ c. search needs) returns-2)
+    (tie.spec (λ c. search needs) (λ c. search needs) (λ c κs. omega (arith, c .before .pre .0)) returns (λ c. search needs) returns-2)

@@ -8,7 +8,7 @@ use Rattle.page_need.proofs.verdict.cuts_need.Statement.{statement}
 use Rattle.page_need.proofs.verdict.cuts_need.Tie as tie
 
 leads : (c : tie.After-root-entry) → let start = c .before .before in
-    Leads 12 (start .args .img .now) (start .args .s) (start .args .h .height) (c .root-entry .result)
+    Leads (start .args .half) (start .args .img .now) (start .args .s) (start .args .h .height) (c .root-entry .result)
 leads c =
     let start = c .before .before in
     opened-leads (start .pre .0) (bytes-of (start .args .img .now) (c .before .shared-slice-known .given)) (start .args .s)

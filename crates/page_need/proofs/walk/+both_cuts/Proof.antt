@@ -6,7 +6,8 @@ use borrow.Fn.Kinds.{In}
 use borrow.Fn.PlainCycle.{Measures}
 use Rattle.lists.proofs.Cycles.{at-measure, below-measure}
 use Rattle.image.specs.Images.{image-of}
-use Rattle.page_need.proofs.Below.{fit-some, leads-on, later-fit, Both-below, both-below, found-most, found-leads, small-leaf, both-leaf}
+use Rattle.page_need.proofs.Below.{fit-some, leads-on, later-fit, Both-below}
+use Rattle.page_need.proofs.Below.{both-below, found-most, found-leads, small-leaf, both-leaf}
 use Rattle.page_need.proofs.Below.{same-small, same-inner, apart-small, apart-inner}
 use Rattle.page_need.proofs.walk.both_cuts.Reads as both-cuts
 use Rattle.page_need.proofs.walk.both_cuts.Kinds as both-cuts-kinds
@@ -20,7 +21,7 @@ use Rattle.page_need.proofs.walk.+both_cuts.{statement}
 use Rattle.page_need.proofs.walk.+both_cuts.Tie.{close}
 
 abbrev μ-both-cuts : Measures 1 both-cuts-kinds.ps ℕ
-μ-both-cuts κs a = a .1 .1 .1 .0
+μ-both-cuts κs a = a .1 .1 .1 .1 .0
 
 -- what it knows of the functions that it calls, itself among them below the measure
 abbrev known : ℕ → both-cuts-lts.Claims
@@ -50,7 +51,8 @@ abbrev began : (n : ℕ) → Searched n → both-cuts-lts.Start (known n) (given
 began n c = let first = c .before in first .before .before .before
 
 below : (n : ℕ) (c : Searched n)
-    → Both-below 12 (began n c .args .img .now) (began n c .args .s) (began n c .args .t) (began n c .args .level) (began n c .args .e)
+    → Both-below (began n c .args .half) (began n c .args .img .now) (began n c .args .s) (began n c .args .t) (began n c .args .level)
+    (began n c .args .e)
     (c .before .find-entry .result) (c .find-entry2 .result)
 below n c =
     let first = c .before in
@@ -70,7 +72,7 @@ pub +both-cuts-spec : {M : Type 1} → statement M
     let second = c .before in
     let leaf = second .before .before in
     let args = leaf .before .before .args in
-    both-leaf 12 (args .s) (args .t) (image-of 12 (args .img .now)) (args .level) (args .e) (leaf .if1 .taken)
+    both-leaf _ (args .s) (args .t) (image-of (args .half) (args .img .now)) (args .level) (args .e) (leaf .if1 .taken)
     (second .before .leaf-need .ensures) (second .leaf-need2 .ensures)
     (c .add-needs .ensures))
     -- find-entry-requires
@@ -91,7 +93,7 @@ pub +both-cuts-spec : {M : Type 1} → statement M
     (λ c κs.
     let same = c .before in
     let k = below n (same .before .before .before) in
-    (found-most (k .0), same-small k (c .both-cuts .ensures)))
+    (k .0 .page .holds .half-most, found-most (k .0), same-small k (c .both-cuts .ensures)))
     -- returns-2
     (λ c.
     let same = c .before .before in
@@ -104,7 +106,7 @@ pub +both-cuts-spec : {M : Type 1} → statement M
     (λ c κs.
     let other = c .before in
     let k = below n (other .before .before .before) in
-    (found-most (k .0), apart-small k (c .parted-cuts .ensures)))
+    (k .0 .page .holds .half-most, found-most (k .0), apart-small k (c .parted-cuts .ensures)))
     -- returns-3
     (λ c.
     let other = c .before .before in

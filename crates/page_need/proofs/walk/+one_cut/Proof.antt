@@ -16,7 +16,7 @@ use Rattle.page_need.proofs.walk.+one_cut.{statement}
 use Rattle.page_need.proofs.walk.+one_cut.Tie.{close}
 
 abbrev μ-one-cut : Measures 1 one-cut-kinds.ps ℕ
-μ-one-cut κs a = a .1 .1 .0
+μ-one-cut κs a = a .1 .1 .1 .0
 
 pub +one-cut-spec : {M : Type 1} → statement M
 +one-cut-spec =
@@ -31,7 +31,7 @@ pub +one-cut-spec : {M : Type 1} → statement M
     -- returns
     (λ c.
     let args = c .before .before .before .args in
-    one-leaf 12 (args .t) (image-of 12 (args .img .now)) (args .level) (args .e) (c .before .if1 .taken) (c .leaf-need .ensures))
+    one-leaf _ (args .t) (image-of (args .half) (args .img .now)) (args .level) (args .e) (c .before .if1 .taken) (c .leaf-need .ensures))
     -- find-entry-requires
     (λ c κs. let start = c .before .before in fit-some (leads-on (start .args .e) (start .pre .1) (c .if1 .left)))
     -- sub-one-cut
@@ -46,7 +46,7 @@ pub +one-cut-spec : {M : Type 1} → statement M
     let found = c .before in
     let start = found .before .before .before in
     let k = found-below (start .args .e) (start .pre .1) (found .before .if1 .left) (found .find-entry .ensures) in
-    (found-most k, one-small k (c .one-cut .ensures)))
+    (k .page .holds .half-most, found-most k, one-small k (c .one-cut .ensures)))
     -- returns-2
     (λ c.
     let found = c .before .before in

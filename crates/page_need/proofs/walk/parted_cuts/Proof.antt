@@ -10,10 +10,10 @@ add-needs-requires : tie.Need-add-needs-requires
 add-needs-requires c κs =
     let start = c .before .before .before in
     let args = start .args in
-    let X = image-of 12 (args .img .now) in
-    let low = leads-low 12 (args .img .now) (args .s) (args .level) (args .x) (start .pre .0) in (
-      small-one 12 X (args .level) (args .x) low (args .s) (c .before .one-cut .ensures),
-      small-one 12 X (args .level) (args .y) low (args .t)
+    let X = image-of (args .half) (args .img .now) in
+    let low = leads-low (args .half) (args .img .now) (args .s) (args .level) (args .x) (start .pre .0) in (
+      small-one (args .half) X (args .level) (args .x) low (args .s) (c .before .one-cut .ensures),
+      small-one (args .half) X (args .level) (args .y) low (args .t)
           (c .one-cut2 .ensures),
     )
 
@@ -21,7 +21,8 @@ returns : tie.Need-returns
 returns c =
     let second = c .before in
     let args = second .before .before .before .args in
-    apart-is 12 (args .s) (args .t) (image-of 12 (args .img .now)) (args .level) (args .x) (args .y) (second .before .one-cut .ensures)
+    apart-is (args .half) (args .s) (args .t) (image-of (args .half) (args .img .now)) (args .level) (args .x) (args .y)
+    (second .before .one-cut .ensures)
     (second .one-cut2 .ensures)
     (c .add-needs .ensures)
 

@@ -29,5 +29,5 @@ returns-2 c =
 pub run-booking-spec : {M : Type 1} → statement M
 run-booking-spec =
     tie.close
-    (tie.spec (λ c. search needs) (λ c κs. search needs) (λ c. search needs) returns (λ c κs. search needs)
+    (tie.spec (λ c. search needs) (λ c κs. (omega arith, omega arith)) (λ c. search needs) returns (λ c κs. search needs)
     (λ c. search needs) (λ c. search needs) returns-2)

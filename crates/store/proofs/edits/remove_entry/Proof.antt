@@ -1,25 +1,40 @@
 -- `store::edits::remove_entry` meets its contract: the page that is lent comes back with one entry less. Assumes nothing.
-use mathlib.Core.Path.{refl}
 use native.Mathlib.Omega.{arith}
-use borrow.Author.Needs.{needs}
+use Rattle.access.specs.Access.{Page-in}
 use Rattle.store.proofs.Reading.{lent-within}
 use Rattle.store.proofs.Editing.{lent-sizes, back-removed}
 use Rattle.store.proofs.edits.remove_entry.Statement.{statement}
 use Rattle.store.proofs.edits.remove_entry.Tie as tie
 
+within : (c : tie.Start) → let args = c .args in Page-in (args .half) (args .img .now) (args .p)
+within c = lent-within (c .pre .holds) (c .pre .ready .1 .tree-page)
+
 returns : tie.Need-returns
 returns c X h l k =
     let edited = c .before .before in
-    let found = edited .before .before in
-    back-removed h (k .tree-page) (found .page-offset .ensures) refl (edited .remove-slot .kept .1 .0) (found .before .before .args .i) (k .inside)
+    let sized = edited .before .before in
+    let found = sized .before in
+    back-removed h (k .tree-page) (found .page-offset .ensures) (sized .page-size .ensures) (edited .remove-slot .kept .1 .0)
+    (found .before .before .args .i) (k .inside)
     (edited .remove-slot .ensures)
 
 pub remove-entry-spec : {M : Type 1} → statement M
 remove-entry-spec =
     tie.close
-    (tie.spec (λ c κs. search needs) (λ c. omega arith) (λ c. omega arith) (λ c. omega arith)
-    (λ c. let pre = c .before .before .pre in omega (arith, lent-within (pre .holds) (pre .ready .1 .tree-page)))
+    (tie.spec
+    (λ c κs. omega (arith, within (c .before)))
+    (λ c κs. omega (arith, c .before .before .pre .holds .half-most))
+    (λ c. omega (arith, within (c .before .before .before)))
+    (λ c. omega arith) (λ c. omega arith)
+    (λ c. omega (arith, within (c .before .before .before)))
     (λ c κs.
-    let pre = c .before .before .before .pre in
-    omega (arith, pre .ready .1 .inside, lent-sizes (pre .holds) (pre .ready .1 .tree-page) (c .before .page-offset .ensures) refl))
+    let sized = c .before in
+    let found = sized .before in
+    let pre = found .before .before .pre in
+    omega (
+      arith,
+      pre .ready .1 .inside,
+      lent-sizes (pre .holds) (pre .ready .1 .tree-page)
+          (found .page-offset .ensures) (sized .page-size .ensures),
+    ))
     (λ c. omega arith) returns)

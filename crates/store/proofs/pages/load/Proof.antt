@@ -4,18 +4,17 @@ use mathlib.Core.List.{List}
 use Prim.Native.Nat.{ℕ}
 use native.Mathlib.Omega.{arith}
 use Rattle.page.specs.Decoded.{Read}
-use Rattle.image.specs.Images.{page-at}
 use Rattle.store.proofs.Encoding.{some-long, some-size, holds-tree}
 use Rattle.store.proofs.pages.load.Statement.{statement}
 use Rattle.store.proofs.pages.load.Tie as tie
 
 returns : tie.Need-returns
-unfolding page-at
 returns c X h l t = holds-tree h t
-    (subst (λ (s : List ℕ). Read 12 (c .read-page .result) s) (c .before .page-at .ensures) (c .read-page .ensures))
+    (subst (λ (s : List ℕ). Read (c .before .before .before .args .half) (c .read-page .result) s) (c .before .page-at .ensures)
+    (c .read-page .ensures))
 
 pub load-spec : {M : Type 1} → statement M
 load-spec =
     tie.close
     (tie.spec (λ c κs. some-long (c .before .pre))
-    (λ c κs. (omega arith, some-size (c .before .before .pre) (c .page-at .ensures))) returns)
+    (λ c κs. let pre = c .before .before .pre in (omega (arith, pre .holds .half-most), some-size pre (c .page-at .ensures))) returns)

@@ -2,13 +2,11 @@
 use mathlib.Core.Path.{ap, _∙_}
 use native.Mathlib.Omega.{arith}
 use Rattle.page.specs.Layout.{next-of}
-use Rattle.image.specs.Images.{page-at}
 use Rattle.store.proofs.Encoding.{some-long, some-size, holds-next}
 use Rattle.store.proofs.pages.next_free.Statement.{statement}
 use Rattle.store.proofs.pages.next_free.Tie as tie
 
 returns : tie.Need-returns
-unfolding page-at
 returns c X h w next e = c .next-of .ensures ∙ ap next-of (c .before .page-at .ensures) ∙ holds-next h w e
 
 pub next-free-spec : {M : Type 1} → statement M

@@ -15,9 +15,11 @@ returns c X h w =
     let written = c .before .before in
     let start = written .before .before .before in
     let page = start .args .page in
+    let most = h .half-most in
     let n = length-shown page in
     holds-put h (tree (page .level) (entry-list page)) w
-    (canonical-tree 12 (page .level) (entry-list page) (omega arith) (omega arith) (omega arith) (shown-fits page _ (start .good .1 .1 .0)))
+    (canonical-tree _ (page .level) (entry-list page) (omega arith) (omega arith) (omega arith)
+    (shown-fits page _ (start .good .1 .1 .1 .0)))
     (written .write-page-at .ensures)
 
 pub save-spec : {M : Type 1} → statement M

@@ -11,7 +11,7 @@ unfolding cell-bytes
 returns c X h w =
     let written = c .before .before in
     let next = written .before .before .before .args .next in
-    holds-put h (free next) w (canonical-free 12 next (omega arith)) (written .write-free-at .ensures)
+    holds-put h (free next) w (canonical-free _ next (omega arith)) (written .write-free-at .ensures)
 
 pub set-free-spec : {M : Type 1} → statement M
 set-free-spec = tie.close (tie.spec (λ c κs. some-long (c .before .before .pre)) (λ c. omega arith) returns)

@@ -6,12 +6,13 @@ use native.Mathlib.Omega.{arith}
 use Rattle.steps.specs.Supply.{with-supply, given-back}
 use Rattle.store.specs.Encoding.{Encodes}
 use Rattle.store.specs.Preconditions.{Givable}
+use Rattle.store.proofs.Encoding.{holds-numbers}
 use Rattle.store.proofs.Supplying.{by-head, Headed, some-headed, given-back-is}
 use Rattle.store.proofs.supply.give_back.Statement.{statement}
 use Rattle.store.proofs.supply.give_back.Tie as tie
 
 headed : (c : tie.After-head-of)
-    → Headed 12 (c .before .before .before .args .img .now) (c .head-of .result) (Givable (c .before .before .before .args .p))
+    → let args = c .before .before .before .args in Headed (args .half) (args .img .now) (c .head-of .result) (Givable (args .p))
 headed c = some-headed (c .before .before .before .pre) (c .head-of .ensures)
 
 set-free-requires : tie.Need-set-free-requires
@@ -20,7 +21,7 @@ set-free-requires c κs =
     let k = headed (set .before .before .before) in
     record {
       image = _;
-      holds = set .set-head .ensures _ (k .holds) (record { pages = refl });
+      holds = set .set-head .ensures _ _ (k .holds) (record { pages = refl });
       ready = record { least = k .ready .within .least; below = k .ready .within .below };
     }
 
@@ -31,11 +32,12 @@ returns c X h r =
     let set = freed .before .before .before .before in
     let read = set .before .before .before in
     let args = read .before .before .before .args in
-    by-head (λ Y. Encodes 12 (args .img .now) Y → Givable (args .p) Y → Encodes 12 (freed .set-free .last .0) (given-back (args .p) Y))
+    by-head (λ Y. Encodes (args .half) (args .img .now) Y → Givable (args .p) Y
+    → Encodes (args .half) (freed .set-free .last .1 .0) (given-back (args .p) Y))
     (read .head-of .ensures X h tt)
     (λ k g.
-    subst (Encodes 12 _) (given-back-is (args .p) _)
-    (freed .set-free .ensures _ (set .set-head .ensures _ k (record { pages = refl }))
+    subst (Encodes _ _) (given-back-is (args .p) _)
+    (freed .set-free .ensures _ (set .set-head .ensures _ _ k (record { pages = refl }))
     (record { least = g .within .least; below = g .within .below })))
     h r
 
@@ -44,5 +46,5 @@ give-back-spec =
     tie.close
     (tie.spec (λ c κs. search needs)
     (λ c. omega (arith, headed (c .before) .ready .room))
-    (λ c κs. record { image = _; holds = headed (c .before .before) .holds; ready = record { pages = refl } })
+    (λ c κs. holds-numbers (headed (c .before .before) .holds))
     set-free-requires (λ c. omega arith) returns)

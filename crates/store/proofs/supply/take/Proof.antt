@@ -7,12 +7,14 @@ use native.Mathlib.Omega.{arith}
 use Rattle.steps.specs.Supply.{with-supply, spare, taken}
 use Rattle.store.specs.Encoding.{Encodes}
 use Rattle.store.specs.Preconditions.{Takable}
+use Rattle.store.proofs.Encoding.{holds-numbers}
 use Rattle.store.proofs.Supplying.{by-head, Headed, some-headed, spare-marked, taken-marked, spare-chained, taken-chained}
 use Rattle.store.proofs.Supplying.{marked-below, chained-within}
 use Rattle.store.proofs.supply.take.Statement.{statement}
 use Rattle.store.proofs.supply.take.Tie as tie
 
-headed : (c : tie.After-head-of) → Headed 12 (c .before .before .before .args .img .now) (c .head-of .result) Takable
+headed : (c : tie.After-head-of) → let args = c .before .before .before .args in Headed (args .half) (args .img .now)
+    (c .head-of .result) Takable
 headed c = some-headed (c .before .before .before .pre) (c .head-of .ensures)
 
 add-h : tie.Need-add-h
@@ -26,14 +28,15 @@ returns c X h r =
     let set = c .before .before in
     let then = set .before .before in
     let read = then .before .before in
+    let args = read .before .before .before .args in
     by-head
-    (λ Y. Encodes 12 (read .before .before .before .args .img .now) Y
-    → (read .head-of .result .mark ≡ spare Y) × Encodes 12 (set .set-head .last .0) (taken Y))
+    (λ Y. Encodes (args .half) (args .img .now) Y
+    → (read .head-of .result .mark ≡ spare Y) × Encodes (args .half) (set .set-head .last .0) (taken Y))
     (read .head-of .ensures X h tt)
     (λ k. (
       spare-marked _ (then .if1 .taken),
-      subst (Encodes 12 _) (taken-marked _ (then .if1 .taken))
-          (set .set-head .ensures _ k (record { pages = refl })),
+      subst (Encodes _ _) (taken-marked _ (then .if1 .taken))
+          (set .set-head .ensures _ _ k (record { pages = refl })),
     ))
     h
 
@@ -49,16 +52,17 @@ returns-2 c X h r =
     let next = set .before .before .before in
     let else = next .before .before in
     let read = else .before .before in
+    let args = read .before .before .before .args in
     by-head
-    (λ Y. Encodes 12 (read .before .before .before .args .img .now) Y → Takable Y
-    → (read .head-of .result .free ≡ spare Y) × Encodes 12 (set .set-head2 .last .0) (taken Y))
+    (λ Y. Encodes (args .half) (args .img .now) Y → Takable Y
+    → (read .head-of .result .free ≡ spare Y) × Encodes (args .half) (set .set-head2 .last .0) (taken Y))
     (read .head-of .ensures X h tt)
     (λ k t.
     let some : 1 ≤ read .head-of .result .chain = omega (arith, else .if1 .left) in (
       spare-chained _ (else .if1 .left),
-      subst (Encodes 12 _) (taken-chained _ (else .if1 .left) (t .front some)
+      subst (Encodes _ _) (taken-chained _ (else .if1 .left) (t .front some)
           (next .next-free .ensures _ k (chained-within (else .if1 .left) t) _ (t .front some .is)))
-          (set .set-head2 .ensures _ k (record { pages = refl })),
+          (set .set-head2 .ensures _ _ k (record { pages = refl })),
     ))
     h r
 
@@ -66,12 +70,7 @@ pub take-spec : {M : Type 1} → statement M
 take-spec =
     tie.close
     (tie.spec (λ c κs. search needs) add-h
-    (λ c κs. record { image = _; holds = headed (c .before .before .before) .holds; ready = record { pages = refl } })
+    (λ c κs. holds-numbers (headed (c .before .before .before) .holds))
     (λ c. omega arith) returns next-free-requires (λ c. omega arith)
-    (λ c κs. record {
-      image = _;
-      holds = headed
-          (c .before .before .before .before .before .before) .holds;
-      ready = record { pages = refl };
-    })
+    (λ c κs. let next = c .before .before .before in holds-numbers (headed (next .before .before .before) .holds))
     (λ c. omega arith) returns-2)
