@@ -25,7 +25,8 @@ ghost use Rattle.listing.specs.Walks.{count, Room, Does};
 fn walk_root(img: &[u8], out: &mut [u8], q: SpanQuery) -> WalkAnswer
     requires { ⌜ (1 ≤ q .half) × (q .half ≤ 12) × Open-image (q .half) (now img) (q .head) ⌝ }
     requires { ⌜ Room (q .writing) no-run (walk-over (q .half) (now img) (q .a) (q .b)) (now out) ⌝ }
-    ensures { λ r. ⌜ Does (q .writing) no-run (walk-over (q .half) (now (img .entry)) (q .a) (q .b)) (now (out .entry)) r (now (out .exit)) ⌝ }
+    ensures { λ r. ⌜ Does (q .writing) no-run (walk-over (q .half) (now (img .entry)) (q .a) (q .b)) (now (out .entry)) r
+        (now (out .exit)) ⌝ }
 {
     let none = Pair { sum: 0, count: 0 };
     let root = Cursor {
@@ -68,7 +69,8 @@ pub fn write_runs(half: usize, img: &[u8], h: Head, a: u32, b: u32, out: &mut [u
     requires { ⌜ (1 ≤ half) × (half ≤ 12) × Open-image half (now img) h ⌝ }
     requires { ⌜ walk-over half (now img) a b .fit ≡ true ⌝ }
     requires { ⌜ 16 * length (join (walk-over half (now img) a b .runs)) ≤ length (now out) ⌝ }
-    ensures { λ _. ⌜ now (out .exit) ≡ patch (now (out .entry)) 0 (concat-map run-bytes (join (walk-over half (now (img .entry)) a b .runs))) ⌝ }
+    ensures { λ _. ⌜ now (out .exit)
+        ≡ patch (now (out .entry)) 0 (concat-map run-bytes (join (walk-over half (now (img .entry)) a b .runs))) ⌝ }
 {
     let q = SpanQuery {
         half,

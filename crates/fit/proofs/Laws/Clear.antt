@@ -58,7 +58,8 @@ sum-within x b f g h = go (decLt x (2 ^ 63))
         let a : natAbs (toZ w64 x) ≡ 2 ^ 64 - x = abs-high w64 (omega arith) f (omega arith) in
         omega arith
 
-module _ {half : ℕ} {l : Limits} {s : List ℕ} {sums marks : ℕ} (small : Small l) (leaf : Leaf l) (a : sums ≤ 2 * l .sum) (b : marks ≤ l .below)
+module _ {half : ℕ} {l : Limits} {s : List ℕ} {sums marks : ℕ} (small : Small l) (leaf : Leaf l) (a : sums ≤ 2 * l .sum)
+    (b : marks ≤ l .below)
   where
     under-allowed : {i : ℕ} (u : Under half l s sums marks i) → allows l (u .bits) (u .mark % 2 ^ 32) (u .mark / 2 ^ 32) ≡ true
     unfolding allows

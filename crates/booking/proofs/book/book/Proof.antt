@@ -51,11 +51,13 @@ fill-requires c κs =
 
 -- a scratch that was filled is clean
 cleaned : (c : tie.After-fill)
-    → let args = began (c .before .before .before .before) .args in
+    → let input = c .before .before .before in
+    let args = began (input .before) .args in
     c .fill .last .0 ≡ cleared (pages-in (args .half) (args .img .now)) (args .scratch .now)
 unfolding cleared borrowed
 cleaned c =
-    let scratch = began (c .before .before .before .before) .args .scratch .now in
+    let input = c .before .before .before in
+    let scratch = began (input .before) .args .scratch .now in
     c .fill .ensures ∙ ap (λ n. cleared n scratch) (counted (c .before))
 
 -- where the scratch had been filled

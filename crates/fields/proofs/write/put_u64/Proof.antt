@@ -14,12 +14,14 @@ use Rattle.fields.proofs.write.put_u64.Tie as tie
 returns : tie.Need-returns
 unfolding u32-bytes
 returns c =
-    let args = c .before .before .before .before .before .before .before .before .before .args in
+    let second = c .before .before in
+    let first = second .before .before .before .before in
+    let args = first .before .before .before .args in
     let s = args .s .now in
     let o = args .o in
     let v = args .v in
-    c .before .before .put-u322 .ensures
-    ∙ ap (λ l. patch l (o + 4) (digits 4 (v / 4294967296))) (c .before .before .before .before .before .before .put-u32 .ensures)
+    second .put-u322 .ensures
+    ∙ ap (λ l. patch l (o + 4) (digits 4 (v / 4294967296))) (first .put-u32 .ensures)
     ∙ patch-patch-next s o (digits 4 (v % 4294967296)) (digits 4 (v / 4294967296)) (o + 4)
     (ap (λ k. o + k) (length-digits 4 (v % 4294967296))) (omega arith)
     ∙ ap (λ l. patch s o (l ++ digits 4 (v / 4294967296))) (digits-mod 4 v)

@@ -26,7 +26,8 @@ told c r tells =
     let s = a .s .now in
     tells (a .h) (a .at) (c .limits .ensures)
     ∙ ap (λ n. every n (entry-ok (a .half) (a .h) (a .at) s)) (start c .pre .len)
-    ∙ every-both (entry-count s) (λ i. child-ok (a .h .pages) (a .at .level) (child-at (a .half) s i)) (λ i. pair-ok (a .h) (a .at) (pair-at (a .half) s i))
+    ∙ every-both (entry-count s) (λ i. child-ok (a .h .pages) (a .at .level) (child-at (a .half) s i))
+    (λ i. pair-ok (a .h) (a .at) (pair-at (a .half) s i))
 
 leaf : (c : tie.Then1) → Leaf (limited (c .before) .limits .result)
 leaf c =

@@ -70,9 +70,13 @@ move-one-spec =
     tie.close
     (tie.spec
     (λ c κs. readied (c .before .before .before .pre) (λ X h s. (_, first-there (s .1) (c .before .if1 .taken))))
-    (λ c κs. let then = c .before .before .before in readied (then .before .before .pre) (λ X h s. (_, last-fits (s .1) (then .if1 .taken))))
+    (λ c κs.
+    let then = c .before .before .before in
+    readied (then .before .before .pre) (λ X h s. (_, last-fits (s .1) (then .if1 .taken))))
     remove-entry-requires (λ c. search needs) (λ c. search needs) returns
     sub-last
     (λ c κs. readied (c .before .before .before .pre) (λ X h s. (_, last-there (s .1) (c .before .if1 .left))))
-    (λ c κs. let else = c .before .before .before in readied (else .before .before .pre) (λ X h s. (_, last-there (s .1) (else .if1 .left))))
+    (λ c κs.
+    let else = c .before .before .before in
+    readied (else .before .before .pre) (λ X h s. (_, last-there (s .1) (else .if1 .left))))
     insert-entry-requires-2 (λ c. search needs) returns-2)

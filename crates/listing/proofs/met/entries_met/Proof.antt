@@ -22,4 +22,5 @@ returns c =
 pub entries-met-spec : {M : Type 1} → statement M
 entries-met-spec =
     tie.close
-    (tie.spec (λ c κs. page-within (c .before .pre .0)) (λ c κs. omega (arith, compared c)) (λ c κs. omega (arith, compared (c .before))) returns)
+    (tie.spec (λ c κs. page-within (c .before .pre .0)) (λ c κs. omega (arith, compared c))
+    (λ c κs. omega (arith, compared (c .before))) returns)

@@ -60,7 +60,8 @@ returns-4 c =
     let found = c .before .before in
     let look = found .before .before in
     c .accepted .ensures
-    ∙ ap instant-answer (instant-0 _ _ (passed (look .before .before)) (ap lookup-of (sym (found .pair .given .1)) ∙ look .look-up .ensures))
+    ∙ ap instant-answer
+    (instant-0 _ _ (passed (look .before .before)) (ap lookup-of (sym (found .pair .given .1)) ∙ look .look-up .ensures))
 
 returns-5 : tie.Need-returns-5
 unfolding lookup-of
@@ -68,7 +69,8 @@ returns-5 c =
     let found = c .before .before in
     let look = found .before .before in
     c .refused4 .ensures
-    ∙ ap instant-answer (instant-21 _ _ (passed (look .before .before)) (ap lookup-of (sym (found .pages .given .1)) ∙ look .look-up .ensures))
+    ∙ ap instant-answer
+    (instant-21 _ _ (passed (look .before .before)) (ap lookup-of (sym (found .pages .given .1)) ∙ look .look-up .ensures))
 
 pub luw-instant-spec : {M : Type 1} → statement M
 luw-instant-spec =

@@ -6,17 +6,26 @@ use Rattle.page.proofs.heads.read_head.Tie as tie
 
 returns : tie.Need-returns
 unfolding head-of
-returns c = λ j. record {
-  pages = c .before .before .before .before .before .before .before .before .get-u32 .ensures j;
-  height = c .before .before .before .before .before .before .before .get-u322 .ensures j;
-  root = c .before .before .before .before .before .before .get-u323 .ensures j;
-  free = c .before .before .before .before .before .get-u324 .ensures j;
-  chain = c .before .before .before .before .get-u325 .ensures j;
-  mark = c .before .before .before .get-u326 .ensures j;
-  kind = c .before .before .get-u327 .ensures j;
-  window = c .before .get-u328 .ensures j;
-  changes = c .get-u329 .ensures j;
-}
+returns c =
+    let window = c .before in
+    let kind = window .before in
+    let mark = kind .before in
+    let chain = mark .before in
+    let free = chain .before in
+    let root = free .before in
+    let height = root .before in
+    let pages = height .before in
+    λ j. record {
+      pages = pages .get-u32 .ensures j;
+      height = height .get-u322 .ensures j;
+      root = root .get-u323 .ensures j;
+      free = free .get-u324 .ensures j;
+      chain = chain .get-u325 .ensures j;
+      mark = mark .get-u326 .ensures j;
+      kind = kind .get-u327 .ensures j;
+      window = window .get-u328 .ensures j;
+      changes = c .get-u329 .ensures j;
+    }
 
 pub read-head-spec : {M : Type 1} → statement M
 read-head-spec =

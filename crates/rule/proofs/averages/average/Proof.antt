@@ -25,14 +25,17 @@ returns c = average-nothing _ _ (rw (toZ-ofZ (count-fits (c .before))) at (c .if
 magnitude-requires : tie.Need-magnitude-requires
 magnitude-requires c κs = search needs
 
+abbrev began : tie.Else1 → tie.Start
+began c = c .before .before .before
+
 -- what the first test and the absolute value say, in the parameters' own terms
-counts : (c : tie.Else1) → no-average (c .before .before .before .args .kind) (c .before .before .before .args .pair) ≡ false
+counts : (c : tie.Else1) → no-average (began c .args .kind) (began c .args .pair) ≡ false
 counts c = rw (toZ-ofZ (count-fits (c .before))) at (c .if1 .left)
 
-size : (c : tie.After-magnitude) → c .magnitude .result ≡ natAbs (c .before .before .before .before .args .pair .sum)
+size : (c : tie.After-magnitude) → c .magnitude .result ≡ natAbs (began (c .before) .args .pair .sum)
 size c = rw (toZ-ofZ (sum-fits (c .before .before))) at (c .magnitude .ensures .0)
 
-reached : (c : tie.Then2) → natAbs (c .before .before .before .before .before .args .pair .sum) ≤ most-sum
+reached : (c : tie.Then2) → natAbs (began (c .before .before) .args .pair .sum) ≤ most-sum
 reached c = omega (arith, size (c .before))
 
 wide : (c : tie.After-struct-told2) → SFits w64 (c .before .before .args .pair .count)

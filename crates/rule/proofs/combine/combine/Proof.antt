@@ -25,10 +25,11 @@ add-t6 c =
 returns : tie.Need-returns
 unfolding combine added
 returns c =
-    let s = c .before .before .before .before .before .before .before .before .before in
+    let totals = c .before .before .before .before .before .before .before .before in
+    let s = totals .before in
     let f = fitting (s .args .p) (s .args .q) (s .pre) in
     rw (toZ-ofZ (f .sum₁), toZ-ofZ (f .sum₂), toZ-ofZ (f .count₁), toZ-ofZ (f .count₂), toZ-ofZ (f .sums), toZ-ofZ (f .counts))
-    (sym (ap (λ k. combine k (s .args .p) (s .args .q)) (c .before .before .before .before .before .before .before .before .if1 .taken)))
+    (sym (ap (λ k. combine k (s .args .p) (s .args .q)) (totals .if1 .taken)))
 
 returns-2 : tie.Need-returns-2
 returns-2 c = combine-left _ _ _ (sym (c .before .is-none .ensures) ∙ c .if2 .taken)
@@ -38,15 +39,18 @@ returns-3 c = combine-right _ _ _ (sym (c .before .is-none2 .ensures) ∙ c .if3
 
 returns-4 : tie.Need-returns-4
 returns-4 c =
-    let s = c .before .before .before .before .before .before .before .before in
+    let third = c .before .before .before in
+    let second = third .before .before in
+    let first = second .before .before in
+    let s = first .before in
     let f = fitting (s .args .p) (s .args .q) (s .pre) in
     let r : SFits w64 (c .best .result) = search needs in
     let e = rw (toZ-ofZ (f .sum₁), toZ-ofZ (f .sum₂)) at (c .best .ensures) in
     rw (toZ-ofZ r, e)
     (combine-some (s .args .kind) (s .args .p) (s .args .q)
-    (ne-eqb (s .args .kind) 1 (c .before .before .before .before .before .before .before .if1 .left))
-    (sym (c .before .before .before .before .before .before .is-none .ensures) ∙ c .before .before .before .before .before .if2 .left)
-    (sym (c .before .before .before .before .is-none2 .ensures) ∙ c .before .before .before .if3 .left))
+    (ne-eqb (s .args .kind) 1 (first .if1 .left))
+    (sym (second .before .is-none .ensures) ∙ second .if2 .left)
+    (sym (third .before .is-none2 .ensures) ∙ third .if3 .left))
 
 pub combine-spec : {M : Type 1} → statement M
 combine-spec =
