@@ -50,26 +50,26 @@ module _ (half : ℕ) where
       ∙ append-assoc (root-bytes half) (unused (k * m)) (unused k)
       ∙ ap (λ l. root-bytes half ++ l) (sym (unused-add (k * m) k) ∙ ap unused (sym (mul-suc k m)))
 
-  module _ (kind window n : ℕ) where
+  module _ (kind window field n : ℕ) where
     abbrev fresh-head : List ℕ
-    fresh-head = head-bytes half (fresh n kind window .head)
+    fresh-head = head-bytes half (fresh n kind window field .head)
 
     fresh-bytes : (m : ℕ) → n - 1 ≡ suc m
-        → image-bytes half (fresh n kind window) ≡ fresh-head ++ (root-bytes half ++ unused (page-size half * m))
+        → image-bytes half (fresh n kind window field) ≡ fresh-head ++ (root-bytes half ++ unused (page-size half * m))
     unfolding image-bytes fresh
     fresh-bytes m e = ap (λ k. fresh-head ++ concat-map behind-head (listed k (λ p. p))) e ∙ ap (λ l. fresh-head ++ l) (pages-behind m)
 
     -- head, root and unused bytes, each step by what a call ensures: one behind another they are the whole image
     pub fresh-written : 0 < half → 2 ≤ n → (s : List ℕ) {t u v : List ℕ} → length s ≡ page-size half * n
         → t ≡ patch s 0 fresh-head → u ≡ patch t (page-size half) (root-bytes half)
-        → v ≡ patch u (2 * page-size half) (unused (length s - 2 * page-size half)) → v ≡ image-bytes half (fresh n kind window)
+        → v ≡ patch u (2 * page-size half) (unused (length s - 2 * page-size half)) → v ≡ image-bytes half (fresh n kind window field)
     fresh-written some least s {u = u} size head root rest =
         let k : ℕ = page-size half in
         let m : ℕ = n - 2 in
         let a : List ℕ = fresh-head in
         let b : List ℕ = root-bytes half in
         let r : List ℕ = unused (k * m) in
-        let la : length a ≡ k = length-head half (fresh n kind window .head) some in
+        let la : length a ≡ k = length-head half (fresh n kind window field .head) some in
         let lb : length b ≡ k = length-tree half 0 (entry 0 none 0 ∷ []) (omega arith) in
         let lr : length r ≡ k * m = length-unused (k * m) in
         let q : n ≡ suc (suc m) = omega arith in

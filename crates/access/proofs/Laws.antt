@@ -1,10 +1,13 @@
 -- What a fit length and a fit head give. Assumes nothing.
 use Prim.Native.Nat.{ℕ, _*_, _/_, _<_}
 use mathlib.Core.Path.{_≡_, refl, sym, ap, _∙_}
-use mathlib.Core.Bool.{Bool, true, false, cond}
+use mathlib.Core.Bool.{Bool, true, false, cond, _&&_}
 use mathlib.Core.List.{List}
+use native.Mathlib.Nat.{mul-div-cancel-left}
 use native.Mathlib.Omega.{arith}
 use lib.ListN.{length}
+use lib.Dec.{eqb}
+use borrow.Author.Tests.{eqb-true, eqb-false}
 use Rattle.fields.proofs.Laws.Parts.{length-part}
 use Rattle.page.specs.declared.Head.{Head}
 use Rattle.page.specs.Layout.{page-size, head-of}
@@ -36,6 +39,32 @@ module _ (half : ℕ) (img : List ℕ) where
   unfolding head-check
   opening-unfit e = rw e refl
 
+  -- a head that is fit for its own number of pages, which the length has: so it is fit for the length
+  pub own-pages : length-ok half img ≡ true
+      → (eqb (page-size half * head-of (page-at half img 0) .pages) (length img)
+      && head-fit half (head-of (page-at half img 0) .pages) (page-at half img 0))
+      ≡ head-fit half (pages-in half img) (page-at half img 0)
+  unfolding pages-in
+  own-pages ok = go (eqb (page-size half * m) (length img)) refl (head-fit half (pages-in half img) s) refl
+    where
+      s : List ℕ
+      s = page-at half img 0
+
+      m : ℕ
+      m = head-of s .pages
+
+      go : (b : Bool) → eqb (page-size half * m) (length img) ≡ b → (f : Bool) → head-fit half (pages-in half img) s ≡ f
+          → (b && head-fit half m s) ≡ f
+      go true e f g =
+          let size : 0 < page-size half = omega arith in
+          let same : pages-in half img ≡ m = ap (λ k. k / page-size half) (sym (eqb-true _ _ e)) ∙ mul-div-cancel-left m size in
+          ap (λ n. head-fit half n s) (sym same) ∙ g
+      go false e true g =
+          let z = sized half img ok in
+          let same = fit-ranges half (pages-in half img) s g .pages-is in
+          absurd (eqb-false _ _ e (ap (λ n. page-size half * n) same ∙ sym (z .size)))
+      go false e false g = refl
+
   fits : (b : Bool) {h : Head} → Fit h ≡ cond b (Fit (head-of (page-at half img 0))) Unfit → (b ≡ true) × (h ≡ head-of (page-at half img 0))
   fits true e = (refl, cc)
   fits false e =
@@ -61,7 +90,7 @@ module _ (half : ℕ) (img : List ℕ) where
 
 -- what is known of an image that was opened
 module _ {half : ℕ} {img : List ℕ} {h : Head} (o : Open-image half img h) where
-  pub opened-ranges : Ranges (pages-in half img) h
+  pub opened-ranges : Ranges half (pages-in half img) h
   opened-ranges = rw (o .shown) (fit-ranges half (pages-in half img) (page-at half img 0) (o .fit))
 
   pub opened-size : length img ≡ page-size half * h .pages

@@ -20,9 +20,9 @@ ghost use Rattle.page.specs.Layout.{page-size, head-bytes, tree-bytes};
 ghost use Rattle.image.specs.Images.{pages-in, length-ok, image-bytes, fresh};
 
 // Writes the head: "height 1, changes 0, high mark 2, no chain and root 1".
-fn write_fresh_head(half: usize, img: &mut [u8], pages: u32, kind: u32, window: u32)
+fn write_fresh_head(half: usize, img: &mut [u8], pages: u32, kind: u32, window: u32, field: u32)
     requires { ⌜ (1 ≤ half) × (page-size half ≤ length (now img)) ⌝ }
-    ensures { λ _. ⌜ now (img .exit) ≡ patch (now (img .entry)) 0 (head-bytes half (fresh pages kind window .head)) ⌝ }
+    ensures { λ _. ⌜ now (img .exit) ≡ patch (now (img .entry)) 0 (head-bytes half (fresh pages kind window field .head)) ⌝ }
 {
     let h = Head {
         pages,
@@ -34,6 +34,7 @@ fn write_fresh_head(half: usize, img: &mut [u8], pages: u32, kind: u32, window: 
         kind,
         window,
         changes: 0,
+        capacity: field,
     };
     write_head_at(half, img, h)
 }
@@ -58,14 +59,14 @@ fn write_fresh_root(half: usize, img: &mut [u8])
     write_page_at(half, img, 1, root)
 }
 
-// "Format leaves height 1, changes 0, high mark 2, no chain and root 1, a leaf with entry 0, (0, 0)."
-pub fn write_fresh(half: usize, img: &mut [u8], kind: u32, window: u32)
+// "Format leaves height 1, changes 0, high mark 2, no chain and root 1, a leaf with entry 0, (0, 0)." The field is the capacity's.
+pub fn write_fresh(half: usize, img: &mut [u8], kind: u32, window: u32, field: u32)
     requires { ⌜ (1 ≤ half) × (half ≤ 12) × (length-ok half (now img) ≡ true) ⌝ }
-    ensures { λ _. ⌜ now (img .exit) ≡ image-bytes half (fresh (pages-in half (now (img .entry))) kind window) ⌝ }
+    ensures { λ _. ⌜ now (img .exit) ≡ image-bytes half (fresh (pages-in half (now (img .entry))) kind window field) ⌝ }
 {
     let length = img.len();
     let size = page_size(half);
-    write_fresh_head(half, img, (length / size) as u32, kind, window);
+    write_fresh_head(half, img, (length / size) as u32, kind, window, field);
     write_fresh_root(half, img);
     fill(img, 2 * size, length - 2 * size, UNUSED_BYTE);
 }

@@ -10,15 +10,17 @@ ghost use Prim.Native.Nat.{_≤_};
 ghost use Rattle.image.specs.Images.{length-ok};
 ghost use Rattle.access.specs.Access.{head-check};
 
-// The head's numbers, if it is fit for an image of this length.
+// The head's numbers, if it is fit for an image of this length. Its own number of pages is held against the length, so that nothing has
+// to be divided.
 pub fn open_head(half: usize, img: &[u8]) -> HeadCheck
-    requires { ⌜ (1 ≤ half) × (half ≤ 12) × (length-ok half (now img) ≡ true) ⌝ }
+    requires { ⌜ (2 ≤ half) × (half ≤ 12) × (length-ok half (now img) ≡ true) ⌝ }
     ensures { λ r. ⌜ r ≡ head-check half (now (img .entry)) ⌝ }
 {
-    let n = (img.len() / page_size(half)) as u32;
     let s = page_at(half, img, 0);
-    if head_fit(half, s, n) {
-        return HeadCheck::Fit(read_head(s));
+    let h = read_head(s);
+    let whole = page_size(half) * h.pages as usize == img.len();
+    if whole & head_fit(half, s, h.pages) {
+        return HeadCheck::Fit(h);
     }
     HeadCheck::Unfit
 }

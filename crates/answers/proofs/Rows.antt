@@ -8,7 +8,7 @@ use native.Mathlib.Omega.{arith}
 use lib.Dec.{eqb}
 use borrow.Author.Tests.{ne-eqb}
 use Rattle.calls.specs.Refusals.{first}
-use Rattle.calls.specs.Demands.{keeps-scratch}
+use Rattle.calls.specs.Demands.{untouched-at}
 
 -- a refused call keeps what it had
 pub kept : {A : Type 0} (number : ℕ) (done had : A) → number ≢ 0 → cond (eqb number 0) done had ≡ had
@@ -32,9 +32,9 @@ asked true false true e = record { length-fits = refl; before-end = refl; pages-
 
 pub book-scratch : {A : Type 0} (b16 b17 b11 b13 b21 b22 b23 b24 : Bool) (had done : A)
     → cond (eqb (first ((16, b16) ∷ (17, b17) ∷ (11, b11) ∷ (13, b13) ∷ [])) 0) done had
-    ≡ cond (keeps-scratch
+    ≡ cond (untouched-at
     (first ((16, b16) ∷ (17, b17) ∷ (11, b11) ∷ (13, b13) ∷ (21, b21) ∷ (22, b22) ∷ (23, b23) ∷ (24, b24) ∷ []))) had done
-unfolding first keeps-scratch
+unfolding first untouched-at
 book-scratch true b17 b11 b13 b21 b22 b23 b24 had done = refl
 book-scratch false true b11 b13 b21 b22 b23 b24 had done = refl
 book-scratch false false true b13 b21 b22 b23 b24 had done = refl
@@ -47,8 +47,8 @@ book-scratch false false false false false false false false had done = refl
 
 pub audit-scratch : {A : Type 0} (b16 b17 b21 : Bool) (had done : A)
     → cond (eqb (first ((16, b16) ∷ (17, b17) ∷ [])) 0) done had
-    ≡ cond (keeps-scratch (first ((16, b16) ∷ (17, b17) ∷ (21, b21) ∷ []))) had done
-unfolding first keeps-scratch
+    ≡ cond (untouched-at (first ((16, b16) ∷ (17, b17) ∷ (21, b21) ∷ []))) had done
+unfolding first untouched-at
 audit-scratch true b17 b21 had done = refl
 audit-scratch false true b21 had done = refl
 audit-scratch false false true had done = refl

@@ -108,7 +108,7 @@ root-standing {half} {img} {h} least most o x =
       most = omega (arith, sized half img (o .whole) .most, r .pages-is);
       changes = r .changes-most;
       above = 0;
-      path = root-path (pages-in half img) h r;
+      path = root-path half (pages-in half img) h r;
       some = r .root-least;
       below = omega (arith, r .root-below, r .pages-is);
     })

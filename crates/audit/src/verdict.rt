@@ -24,7 +24,7 @@ fn adds_up(tree: u32, chain: u32, mark: u32) -> bool
 // the chain, the chain length is true, and free and never used pages read as above." A sound image's length is in range too, which
 // every call has tested (16) before this.
 pub fn sound(half: usize, img: &[u8]) -> bool
-    requires { ⌜ (1 ≤ half) × (half ≤ 12) × (length-ok half (now img) ≡ true) ⌝ }
+    requires { ⌜ (2 ≤ half) × (half ≤ 12) × (length-ok half (now img) ≡ true) ⌝ }
     ensures { λ r. ⌜ r ≡ sound half (now (img .entry)) ⌝ }
 {
     let HeadCheck::Fit(h) = open_head(half, img) else {

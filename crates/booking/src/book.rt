@@ -3,9 +3,9 @@ use crate::StateCheck;
 use crate::changes::make_change;
 use crate::input::check_input;
 use crate::state::check_state;
+use access::lengths::page_count;
 use calls::refusals::ACCEPTED;
 use fields::fill::fill;
-use page::layout::page_size;
 ghost use mathlib.Core.Path.{_≡_};
 ghost use Prim.Native.Nat.{_≤_};
 ghost use Rattle.calls.specs.Calls.{book};
@@ -30,7 +30,7 @@ pub fn book(
     if status != ACCEPTED {
         return status;
     }
-    fill(scratch, 0, img.len() / page_size(half), 0);
+    fill(scratch, 0, page_count(half, img), 0);
     match check_state(half, img, withdraws, s, e) {
         StateCheck::Refused(row) => row,
         StateCheck::Accepted(h) => {

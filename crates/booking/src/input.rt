@@ -1,11 +1,11 @@
 // The rows before a booking goes to work on its image: the scratch is untouched at each.
 use access::lengths::length_fits;
+use access::lengths::page_count;
 use calls::refusals::ACCEPTED;
 use calls::refusals::IMAGE_LENGTH;
 use calls::refusals::SCRATCH_SHORT;
 use calls::refusals::SPAN_EMPTY;
 use calls::refusals::VALUE_RANGE;
-use page::layout::page_size;
 use rule::time::value_ok;
 ghost use mathlib.Core.Path.{_≡_};
 ghost use Prim.Native.Nat.{_≤_};
@@ -18,7 +18,7 @@ pub(crate) fn check_input(half: usize, img: &[u8], scratch: &[u8], v: i64, s: u3
     ensures { λ r. ⌜ r ≡ first (book-input-rows half v s e (now (img .entry)) (now (scratch .entry))) ⌝ }
 {
     let whole = length_fits(half, img);
-    let room = img.len() / page_size(half) <= scratch.len();
+    let room = page_count(half, img) <= scratch.len();
     let span = s < e;
     let fits = value_ok(v);
     if !whole {

@@ -2,30 +2,30 @@
 use Prim.Native.Nat.{ℕ}
 use mathlib.Core.Path.{_≡_, sym}
 use mathlib.Core.Logic.{_≢_, _⊎_, inl, inr}
-use mathlib.Core.Bool.{Bool}
+use mathlib.Core.Bool.{Bool, cond}
 use mathlib.Core.List.{List, [], _∷_}
-use Rattle.calls.specs.Refusals.{Row, first}
 use Rattle.calls.specs.Tables.{Case, _when_, Returned, Exactly}
 use Rattle.calls.proofs.Reflects.{Reflects, passes, fails}
 
-pub record Tested (rows : List Row) (cases : List Case) : Type 0 where
-  pub exactly : Exactly cases (first rows)
+pub record Tested (number : ℕ) (cases : List Case) : Type 0 where
+  pub exactly : Exactly cases number
 
-pub no-row : Tested [] []
-unfolding Exactly Returned first
+pub no-row : Tested 0 []
+unfolding Exactly Returned
 no-row = record { exactly = λ r. (sym, sym) }
 
-pub next-row : (n : ℕ) {P : Type 0} {b : Bool} {rows : List Row} {cases : List Case} → Reflects P b → Tested rows cases
-    → Tested ((n, b) ∷ rows) ((n when P) ∷ cases)
-unfolding Exactly Returned first
-next-row n {P} {rows = rows} {cases = cases} (passes p) later = record { exactly = λ r. (λ e. inl (p, sym e), back r) }
+-- a row ahead of others, by its test
+pub next-row : (n : ℕ) {P : Type 0} {b : Bool} {m : ℕ} {cases : List Case} → Reflects P b → Tested m cases
+    → Tested (cond b n m) ((n when P) ∷ cases)
+unfolding Exactly Returned
+next-row n {P} {cases = cases} (passes p) later = record { exactly = λ r. (λ e. inl (p, sym e), back r) }
   where
     back : (r : ℕ) → (P × (r ≡ n)) ⊎ ((¬ P) × Returned cases r) → n ≡ r
     back r (inl k) = sym (k .1)
     back r (inr k) = absurd (k .0 p)
-next-row n {P} {rows = rows} {cases = cases} (fails q) later = record { exactly = λ r. (λ e. inr (q, later .exactly r .0 e), back r) }
+next-row n {P} {m = m} {cases = cases} (fails q) later = record { exactly = λ r. (λ e. inr (q, later .exactly r .0 e), back r) }
   where
-    back : (r : ℕ) → (P × (r ≡ n)) ⊎ ((¬ P) × Returned cases r) → first rows ≡ r
+    back : (r : ℕ) → (P × (r ≡ n)) ⊎ ((¬ P) × Returned cases r) → m ≡ r
     back r (inl k) = absurd (q (k .0))
     back r (inr k) = later .exactly r .1 (k .1)
 

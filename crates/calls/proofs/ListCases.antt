@@ -10,27 +10,28 @@ use lib.IntN.{pos}
 use Rattle.rule.specs.Time.{END}
 use Rattle.calls.specs.Refusals.{first, scratch-ok}
 use Rattle.calls.specs.Changes.{entering, withdrawing, Change}
-use Rattle.calls.specs.Calls.{Booked, head, book}
+use Rattle.calls.specs.Calls.{Booked, head}
+use Rattle.calls.specs.Index.{index-book}
 use Rattle.calls.specs.Book.{empty-book, entered, entered-all, book-of, items-pair, book-pair, runs-after, runs-of, listing-of}
-use Rattle.calls.specs.Trace.{Step, kept, accepted, Trace, formatted, extended, Throughout, change-made}
+use Rattle.calls.specs.Trace.{Step, kept, accepted, Trace, formatted, formatted-before, extended, Throughout, change-made}
 use Rattle.calls.specs.Demands.{fixed-status, Booking, couples, Reordered, same, next, swap, then, Same-changes}
 use Rattle.calls.specs.BookCases.{one, windowed}
 use Rattle.calls.specs.AggregateCases.{entry}
-use Rattle.calls.specs.ListCases.{fresh-image, after-one, after-two, after-three, three-changes, greatest-one, greatest-book, struck}
+use Rattle.calls.specs.ListCases.{fresh-image, before-image, after-one, after-two, after-three, three-changes, greatest-one, greatest-book, struck}
 use Rattle.calls.specs.ListCases.{struck-too, List-cases}
 use Rattle.calls.proofs.Opened.{every-call}
 use Rattle.calls.proofs.Steps.{stayed, steps}
 
 -- a day of calls: behind the first booking one that is refused, a format that is refused and a reading call
-refused-step : Step 2 after-one [] after-one
+refused-step : Step after-one [] after-one
 unfolding every-call fresh-image after-one change-made
-refused-step = steps 2 .of-booking entering (pos 3) 20 50 after-one (7 ∷ 7 ∷ []) 24 after-one (0 ∷ 0 ∷ []) refl
+refused-step = steps .of-booking entering (pos 3) 20 50 after-one (7 ∷ 7 ∷ []) 24 after-one (0 ∷ 0 ∷ []) refl
 
-refused-format : Step 2 after-one [] after-one
+refused-format : Step after-one [] after-one
 unfolding every-call fresh-image after-one
-refused-format = steps 2 .of-refused-format 4 0 after-one 14 after-one refl (λ e. omega arith)
+refused-format = steps .of-refused-format 4 0 4 after-one 14 after-one refl (λ e. omega arith)
 
-a-day : Trace 2 1 0 after-three three-changes
+a-day : Trace 1 0 4 after-three three-changes
 unfolding every-call fresh-image after-one after-two after-three three-changes
 a-day =
     extended
@@ -42,7 +43,7 @@ a-day =
     (accepted (7 ∷ 7 ∷ []) refl)
 
 -- whatever the scratch, 3 on [20, 50) is refused on what the first booking left
-refused-booking : (scratch : List ℕ) → book 2 entering (pos 3) 20 50 after-one scratch .status ≢ 0
+refused-booking : (scratch : List ℕ) → index-book entering (pos 3) 20 50 after-one scratch .status ≢ 0
 unfolding every-call fresh-image after-one
 refused-booking scratch = go (scratch-ok 2 scratch)
   where
@@ -50,7 +51,7 @@ refused-booking scratch = go (scratch-ok 2 scratch)
     go true e = omega arith
     go false e = omega arith
 
-made-up : {after : List ℕ} → ¬ Step 2 after-one (entry (pos 3) 20 50 ∷ []) after
+made-up : {after : List ℕ} → ¬ Step after-one (entry (pos 3) 20 50 ∷ []) after
 made-up (accepted scratch p) = refused-booking scratch (ap (λ (b : Booked). b .status) (sym p))
 
 -- a status other than 0 is fixed
@@ -83,13 +84,14 @@ differs S =
     )
 
 pub list-cases : List-cases
-unfolding every-call empty-book entered entered-all book-of book-pair items-pair runs-after runs-of listing-of one windowed fixed-status couples fresh-image after-one after-two after-three three-changes greatest-one greatest-book change-made Throughout a-day
+unfolding every-call empty-book entered entered-all book-of book-pair items-pair runs-after runs-of listing-of one windowed fixed-status couples fresh-image before-image after-one after-two after-three three-changes greatest-one greatest-book change-made Throughout a-day
 list-cases =
     record {
       fits-at-first = refl;
       fits-no-more = refl;
       fixed = (refl, refl, refl, refl);
       refused-statuses = (refl, refl, refl, refl, refl, refl, refl);
+      bad-capacity = refl;
       refused-leaves = (refl, refl);
       left-one = refl;
       left-twice = refl;
@@ -99,6 +101,8 @@ list-cases =
       averaged-greatest = (refl, refl);
       made-by-status = (refl, refl);
       day = a-day;
+      before-day = extended (formatted-before (replicate (512 * 2) 0) refl) (accepted (7 ∷ 7 ∷ []) refl);
+      two-capacities = λ D T U. D .demand-3-two T U (record { struck-x = []; struck-y = []; left = _; of-x = same; of-y = same });
       all-day = ((((((omega arith, omega arith), omega arith), omega arith), omega arith), omega arith), omega arith);
       last-of-day = λ h. omega (arith, h .1);
       first-of-day = λ h. omega (arith, h .0 .0 .0 .0 .0 .0);

@@ -1,5 +1,5 @@
 -- Every call is a step of a list. Assumes nothing.
-use Prim.Native.Nat.{ℕ}
+use Prim.Native.Nat.{ℕ, _/_}
 use mathlib.Core.Path.{_≡_, refl, sym, ap, _∙_, subst⁻¹}
 use mathlib.Core.Logic.{_≢_}
 use mathlib.Core.Bool.{cond}
@@ -8,54 +8,87 @@ use native.Mathlib.Decide.{ℕ-discrete}
 use lib.Dec.{eqb}
 use lib.IntN.{ℤ}
 use borrow.Author.Tests.{ne-eqb}
-use Rattle.image.specs.Images.{pages-in, image-bytes, fresh}
+use Rattle.lists.proofs.Choices.{cond-one}
+use Rattle.page.specs.Layout.{capacity-ok}
+use Rattle.image.specs.Images.{half-of, pages-in, image-bytes, fresh}
 use Rattle.calls.specs.Changes.{Side, Change}
 use Rattle.calls.specs.Calls.{Formatted, Booked, format, changed, book}
-use Rattle.calls.specs.Trace.{Step, kept, accepted, formatted, change-made, Steps}
+use Rattle.calls.specs.Index.{index-format, index-book}
+use Rattle.calls.specs.Trace.{Step, kept, accepted, formatted, formatted-before, change-made, Steps}
+use Rattle.calls.proofs.Judged.{by-judge}
 
 -- a call that left the image as it was
-pub stays : {half : ℕ} {img after : List ℕ} → after ≡ img → Step half img [] after
-stays {half} {img} e = subst⁻¹ (λ x. Step half img [] x) e kept
+pub stays : {img after : List ℕ} → after ≡ img → Step img [] after
+stays {img} e = subst⁻¹ (λ x. Step img [] x) e kept
 
 -- and a step without a change did
-pub stayed : {half : ℕ} {img after : List ℕ} → Step half img [] after → after ≡ img
+pub stayed : {img after : List ℕ} → Step img [] after → after ≡ img
 stayed kept = refl
 
-module _ (half : ℕ) where
-  module _ (side : Side) (v : ℤ) (s e : ℕ) (img scratch : List ℕ) (r : ℕ) (after left : List ℕ)
-      (p : record { status = r; image = after; scratch = left } ≡ book half side v s e img scratch) where
-    abbrev change : Change
-    change = record { side = side; v = v; s = s; e = e }
+-- ---- what is refused leaves the image
 
-    refused-booking : r ≢ 0 → after ≡ img
-    unfolding book
-    refused-booking n =
-        ap (λ (b : Booked). b .image) p
-        ∙ ap (λ x. cond x (changed half side v s e img) img)
-        (ap (λ (b : Booked). eqb (b .status) 0) (sym p) ∙ ne-eqb r 0 n)
+abbrev pub Keeps : List ℕ → ℕ → List ℕ → Type 0
+Keeps img number after = number ≢ 0 → after ≡ img
 
-    pub booking-step : Step half img (change-made r change) after
-    unfolding change-made
-    booking-step = go (ℕ-discrete r 0)
-      where
-        go : Dec (r ≡ 0) → Step half img (change-made r change) after
-        go (yes z) = subst⁻¹ (λ n. Step half img (change-made n change) after) z (accepted scratch (rw z at p))
-        go (no n) = subst⁻¹ (λ x. Step half img (cond x (change ∷ []) []) after) (ne-eqb r 0 n) (stays (refused-booking n))
+pub book-keeps : (half : ℕ) (side : Side) (v : ℤ) (s e : ℕ) (img scratch : List ℕ)
+    → Keeps img (book half side v s e img scratch .status) (book half side v s e img scratch .image)
+unfolding book
+book-keeps half side v s e img scratch n =
+    ap (λ x. cond x (changed half side v s e img) img) (ne-eqb (book half side v s e img scratch .status) 0 n)
 
-  refused-format : (kind window : ℕ) (img : List ℕ) (r : ℕ) (after : List ℕ)
-      → record { status = r; image = after } ≡ format half kind window img
-      → r ≢ 0
-      → after ≡ img
-  unfolding format
-  refused-format kind window img r after p n =
-      ap (λ (f : Formatted). f .image) p
-      ∙ ap (λ x. cond x (image-bytes half (fresh (pages-in half img) kind window)) img)
-      (ap (λ (f : Formatted). eqb (f .status) 0) (sym p) ∙ ne-eqb r 0 n)
+pub index-book-keeps : (side : Side) (v : ℤ) (s e : ℕ) (img scratch : List ℕ) → index-book side v s e img scratch .status ≢ 0
+    → index-book side v s e img scratch .image ≡ img
+unfolding index-book
+index-book-keeps side v s e img scratch =
+    by-judge _ (λ half. book half side v s e img scratch) img (λ (b : Booked). Keeps img (b .status) (b .image))
+    (λ g. book-keeps (half-of img) side v s e img scratch) (λ r n. refl)
 
-  pub steps : Steps half
-  steps =
-      record {
-        of-booking = booking-step;
-        of-format = λ kind window img after p. formatted img p;
-        of-refused-format = λ kind window img r after p n. stays (refused-format kind window img r after p n);
-      }
+format-keeps : (half kind window field : ℕ) (img : List ℕ)
+    → Keeps img (format half kind window field img .status) (format half kind window field img .image)
+unfolding format
+format-keeps half kind window field img n =
+    ap (λ x. cond x (image-bytes half (fresh (pages-in half img) kind window field)) img)
+    (ne-eqb (format half kind window field img .status) 0 n)
+
+pub index-format-keeps : (kind window k : ℕ) (img : List ℕ) → index-format kind window k img .status ≢ 0
+    → index-format kind window k img .image ≡ img
+unfolding index-format
+index-format-keeps kind window k img =
+    cond-one (λ (f : Formatted). Keeps img (f .status) (f .image)) (capacity-ok k) (λ g. format-keeps (k / 2) kind window k img) (λ r n. refl)
+
+-- ---- the steps
+
+module _ (side : Side) (v : ℤ) (s e : ℕ) (img scratch : List ℕ) (r : ℕ) (after left : List ℕ)
+    (p : record { status = r; image = after; scratch = left } ≡ index-book side v s e img scratch) where
+  abbrev change : Change
+  change = record { side = side; v = v; s = s; e = e }
+
+  refused-booking : r ≢ 0 → after ≡ img
+  refused-booking n =
+      ap (λ (b : Booked). b .image) p
+      ∙ index-book-keeps side v s e img scratch (λ z. n (ap (λ (b : Booked). b .status) p ∙ z))
+
+  pub booking-step : Step img (change-made r change) after
+  unfolding change-made
+  booking-step = go (ℕ-discrete r 0)
+    where
+      go : Dec (r ≡ 0) → Step img (change-made r change) after
+      go (yes z) = subst⁻¹ (λ n. Step img (change-made n change) after) z (accepted scratch (rw z at p))
+      go (no n) = subst⁻¹ (λ x. Step img (cond x (change ∷ []) []) after) (ne-eqb r 0 n) (stays (refused-booking n))
+
+refused-format : (kind window k : ℕ) (img : List ℕ) (r : ℕ) (after : List ℕ)
+    → record { status = r; image = after } ≡ index-format kind window k img
+    → r ≢ 0
+    → after ≡ img
+refused-format kind window k img r after p n =
+    ap (λ (f : Formatted). f .image) p
+    ∙ index-format-keeps kind window k img (λ z. n (ap (λ (f : Formatted). f .status) p ∙ z))
+
+pub steps : Steps
+steps =
+    record {
+      of-booking = booking-step;
+      of-format = λ kind window k img after p. formatted img p;
+      of-format-before = λ kind window img after p. formatted-before img p;
+      of-refused-format = λ kind window k img r after p n. stays (refused-format kind window k img r after p n);
+    }

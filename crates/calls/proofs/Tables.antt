@@ -1,36 +1,57 @@
 -- Every call returns the status that document 01's tables have for it, and an instant tells the pages that it looked at. Assumes nothing.
-use Prim.Native.Nat.{ℕ, _*_, _<_, _≤_, _/_}
-use mathlib.Core.Path.{_≡_, refl, sym, ap, _∙_}
+use Prim.Native.Nat.{ℕ, _*_, _<_, _≤_, _/_, _%_}
+use mathlib.Core.Path.{_≡_, refl, sym, ap, _∙_, subst⁻¹}
 use mathlib.Core.Logic.{_⊎_, inl, inr}
-use mathlib.Core.Bool.{Bool, true, false, not, _&&_, false≢true}
+use mathlib.Core.Bool.{Bool, true, false, cond, not, _&&_, false≢true}
 use mathlib.Core.List.{List, List·Memᴰ}
-use native.Mathlib.Nat.{mul-div-cancel-left}
+use native.Mathlib.Nat.{mul-div-cancel-left, mul-le-mul-left}
 use native.Mathlib.Omega.{arith}
 use lib.ListN.{length}
 use lib.IntN.{ℤ, natAbs}
-use lib.Dec.{leb, ltb}
+use lib.Dec.{eqb, leb, ltb}
+use borrow.Author.Tests.{eqb-true, eqb-false, le-ltb, ltb-false}
 use Rattle.rule.specs.Time.{END, span-ok, value-ok, kind-ok, window-ok, effect-end}
 use Rattle.page.specs.declared.Head.{Head}
-use Rattle.page.specs.Layout.{page-size, head-of}
+use Rattle.page.specs.Layout.{capacity-ok, no-field, capacity-named, page-size, head-of}
 use Rattle.page.specs.Fit.{head-fit}
-use Rattle.image.specs.Images.{Image, page-at, pages-in, length-ok, image-of}
+use Rattle.image.specs.Images.{Image, capacity-field, half-of, page-at, pages-in, length-ok, image-of}
 use Rattle.image.specs.Sound.{sound}
 use Rattle.image.specs.Instant.{look-up}
 use Rattle.image.specs.Listing.{walk-over}
 use Rattle.image.specs.Trail.{Visit, finds-fit, all-fit, instant-trail, listing-trail}
+use Rattle.image.proofs.Capacity.{fit-half}
 use Rattle.image.proofs.Trails.{each-fits, one-unfit, look-up-fit, look-up-looks, instant-ends, walk-over-fit}
 use Rattle.steps.specs.Change.{lacks-pages}
-use Rattle.calls.specs.Refusals.{scratch-ok, borrowed}
+use Rattle.calls.specs.Refusals.{first, scratch-ok, borrowed}
 use Rattle.calls.specs.Changes.{Side, entering, withdrawing, withdraws}
+use Rattle.calls.specs.Calls.{Booked, Instant, Averaged, Listed, Audited}
 use Rattle.calls.specs.Calls.{head, head-ok, format, format-status, book, book-input-rows, book-status, instant, instant-status}
 use Rattle.calls.specs.Calls.{average-at, listing, listing-status, runs-over, too-short, audit, audit-input-rows}
-use Rattle.calls.specs.Tables.{Exactly, Whole-pages, Fit-head, No-span, No-kind-or-window, Meets-unfit, Too-few-pages, format-cases}
-use Rattle.calls.specs.Tables.{book-cases, instant-cases, listing-cases, audit-cases, Pages-told, Turned-back}
-use Rattle.calls.proofs.Reflects.{Reflects, passes, fails, restated, is-less, is-most, is-equal, is-true, is-false, is-not, is-above}
+use Rattle.calls.specs.Index.{names-capacity, judge, judged, index-format, format-before, index-book, index-instant, index-average}
+use Rattle.calls.specs.Index.{index-listing, index-audit}
+use Rattle.calls.specs.Tables.{Case, Exactly, No-capacity, Bad-field, Whole-pages, Fit-head, No-span, No-kind-or-window, Meets-unfit, Too-few-pages}
+use Rattle.calls.specs.Tables.{format-cases-before, format-cases}
+use Rattle.calls.specs.Tables.{judge-cases, book-cases, instant-cases, listing-cases, audit-cases, Pages-told, Turned-back}
+use Rattle.calls.proofs.Reflects.{Reflects, passes, fails, fails-by, restated, is-less, is-most, is-equal, is-true, is-false, is-not, is-above}
 use Rattle.calls.proofs.Reflects.{is-least, both, either-fails, chosen, other}
-use Rattle.calls.proofs.Cases.{no-row, next-row, third-case}
+use Rattle.calls.proofs.Cases.{Tested, no-row, next-row, third-case}
+use Rattle.calls.proofs.Judged.{by-judge, judged-own, judged-part, judge-then, goes-on, judge-passes}
 
 -- ---- each row's test
+
+no-capacity : (k : ℕ) → Reflects (No-capacity k) (not (capacity-ok k))
+unfolding No-capacity capacity-ok
+no-capacity k =
+    either-fails (eqb (k % 2) 0) (leb 4 k && leb k 24) (is-not (is-equal (k % 2) 0))
+    (either-fails (leb 4 k) (leb k 24) (is-above 4 k) (is-above k 24))
+
+bad-field : (img : List ℕ) → Reflects (Bad-field img) (not (names-capacity img))
+unfolding Bad-field names-capacity capacity-named capacity-field
+bad-field img = go (eqb (capacity-field img) no-field) refl
+  where
+    go : (b : Bool) → eqb (capacity-field img) no-field ≡ b → Reflects (Bad-field img) (not (capacity-ok (cond b 24 (capacity-field img))))
+    go true e = unfold capacity-ok in fails (λ k. k .0 (eqb-true (capacity-field img) no-field e))
+    go false e = restated (λ n. (eqb-false (capacity-field img) no-field e, n)) (λ k. k .1) (no-capacity (capacity-field img))
 
 module _ (half : ℕ) (img : List ℕ) where
   whole-pages : Reflects (Whole-pages half img) (length-ok half img)
@@ -93,17 +114,17 @@ too-few : (half s e : ℕ) (X : Image) → Reflects (Too-few-pages half s e X) (
 unfolding Too-few-pages lacks-pages
 too-few half s e X = is-less _ _
 
+-- a fit head names a capacity
+named-by-head : (half : ℕ) (img : List ℕ) → Fit-head half img → names-capacity img ≡ true
+unfolding Fit-head names-capacity
+named-by-head half img f = fit-half half (pages-in half img) img f .named
+
 -- ---- each call's rows
 
 module _ (half : ℕ) where
-  format-tested : (kind window : ℕ) (img : List ℕ) → Exactly (format-cases half kind window img) (format half kind window img .status)
-  unfolding format-cases format format-status
-  format-tested kind window img =
-      (next-row 16 (is-not (whole-pages half img)) (next-row 14 (no-kind-or-window kind window) no-row)) .exactly
-
   book-tested : (side : Side) (v : ℤ) (s e : ℕ) (img scratch : List ℕ)
       → Exactly (book-cases half side v s e img scratch) (book half side v s e img scratch .status)
-  unfolding book-cases book book-status book-input-rows head
+  unfolding book-cases book book-status book-input-rows head first
   book-tested side v s e img scratch =
       (next-row 16 (is-not (whole-pages half img))
       (next-row 17 (scratch-short half img scratch)
@@ -115,14 +136,14 @@ module _ (half : ℕ) where
       (next-row 24 (too-few half s (effect-end e (head-of (page-at half img 0) .window)) (image-of half img)) no-row)))))))) .exactly
 
   instant-tested : (t : ℕ) (img : List ℕ) → Exactly (instant-cases half t img) (instant half t img .status)
-  unfolding instant-cases instant instant-status
+  unfolding instant-cases instant instant-status first
   instant-tested t img =
       (next-row 16 (is-not (whole-pages half img))
       (next-row 12 (is-most END t)
       (next-row 21 (meets-unfit half img (instant-trail half t img) (look-up half img t .fit) (look-up-fit half img t)) no-row))) .exactly
 
   listing-tested : (a b : ℕ) (img out : List ℕ) → Exactly (listing-cases half a b img out) (listing half a b img out .status)
-  unfolding listing-cases listing listing-status too-short runs-over
+  unfolding listing-cases listing listing-status too-short runs-over first
   listing-tested a b img out =
       (next-row 16 (is-not (whole-pages half img))
       (next-row 11 (no-span a b)
@@ -130,7 +151,7 @@ module _ (half : ℕ) where
       (next-row 15 (is-less _ _) no-row)))) .exactly
 
   audit-tested : (img scratch : List ℕ) → Exactly (audit-cases half img scratch) (audit half img scratch .status)
-  unfolding audit-cases audit audit-input-rows
+  unfolding audit-cases audit audit-input-rows first
   audit-tested img scratch =
       (next-row 16 (is-not (whole-pages half img))
       (next-row 17 (scratch-short half img scratch) (next-row 21 (is-false (sound half img)) no-row))) .exactly
@@ -158,6 +179,7 @@ module _ (half : ℕ) where
       record {
         looks = λ w l f. chosen pages 0 goes (w, (l, f)) ∙ look-up-looks half img t;
         no-looks = λ k. other pages 0 goes (stays k);
+        bad-field = λ bad. other pages 0 goes (λ k. unfit-by-field (k .1 .1) bad);
         up-to-it = λ e f. instant-ends half img t (unfit-look t img e f);
       }
     where
@@ -172,17 +194,86 @@ module _ (half : ℕ) where
       stays (inr (inl l)) k = omega (arith, k .1 .0)
       stays (inr (inr n)) k = n (k .1 .1)
 
+      unfit-by-field : Fit-head half img → ¬ Bad-field img
+      unfit-by-field f = fails-by (bad-field img) (ap not (named-by-head half img f))
+
+-- ---- behind the rows ahead
+
+format-tested-before : (half kind window field : ℕ) (img : List ℕ)
+    → Exactly (format-cases-before half kind window img) (format half kind window field img .status)
+unfolding format-cases-before format format-status first
+format-tested-before half kind window field img =
+    (next-row 16 (is-not (whole-pages half img)) (next-row 14 (no-kind-or-window kind window) no-row)) .exactly
+
+format-tested : (kind window k : ℕ) (img : List ℕ) → Exactly (format-cases kind window k img) (index-format kind window k img .status)
+unfolding format-cases index-format format
+format-tested kind window k img =
+    let behind : Tested (format-status (k / 2) kind window img) (format-cases-before (k / 2) kind window img) =
+    record { exactly = format-tested-before (k / 2) kind window k img } in
+    subst⁻¹ (Exactly (format-cases kind window k img)) (numbered (capacity-ok k)) ((next-row 14 (no-capacity k) behind) .exactly)
+  where
+    numbered : (b : Bool) → cond b (format (k / 2) kind window k img) (record { status = 14; image = img }) .status
+        ≡ cond (not b) 14 (format-status (k / 2) kind window img)
+    numbered true = refl
+    numbered false = refl
+
+module _ {A : Type 0} (refused call : ℕ → A) (number : A → ℕ) (img : List ℕ) where
+  judged-tested : number (refused (judge img)) ≡ judge img → (cases : List Case) → Exactly cases (number (call (half-of img)))
+      → Exactly (judge-cases img cases) (number (judged refused call img))
+  unfolding judge-cases
+  judged-tested same cases later =
+      let n : ℕ = number (call (half-of img)) in
+      let behind : Tested n cases = record { exactly = later } in
+      subst⁻¹ (Exactly (judge-cases img cases))
+      (judged-part refused call img number ∙ ap (λ m. cond (eqb (judge img) 0) n m) same ∙ judge-then img n)
+      ((next-row 16 (is-less (length img) 40) (next-row 21 (bad-field img) behind)) .exactly)
+
+-- so the rows ahead let an image of whole pages pass that has a fit head
+judged-by-head : (img : List ℕ) → Fit-head (half-of img) img → 40 ≤ length img → judge img ≡ 0
+judged-by-head img f l = judge-passes img (record { long = le-ltb (length img) 40 l; named = named-by-head (half-of img) img f })
+
+long-enough : (half : ℕ) (img : List ℕ) → Whole-pages half img → 40 ≤ length img
+long-enough half img w = omega (arith, w .long, mul-le-mul-left (page-size half) (w .least))
+
+-- at K's 21 the image is long enough to have the field
+long-at-21 : (img : List ℕ) → judge img ≡ 21 → 40 ≤ length img
+unfolding judge first
+long-at-21 img e = go (ltb (length img) 40) refl e
+  where
+    go : (x : Bool) → ltb (length img) 40 ≡ x → _≡_ {A = ℕ} (cond x 16 (cond (not (names-capacity img)) 21 0)) 21 → 40 ≤ length img
+    go true d e = absurd (omega (arith, e))
+    go false d e = ltb-false (length img) 40 d
+
+index-pages-told : (t : ℕ) (img : List ℕ) → Pages-told (half-of img) t img (index-instant t img .status) (index-instant t img .pages)
+unfolding index-instant
+index-pages-told t img =
+    by-judge _ (λ half. instant half t img) img (λ (r : Instant). Pages-told (half-of img) t img (r .status) (r .pages))
+    (λ g. pages-told (half-of img) t img)
+    (λ n. record {
+      looks = λ w l f. absurd (n (judged-by-head img f (long-enough (half-of img) img w)));
+      no-looks = λ k. refl;
+      bad-field = λ bad. refl;
+      up-to-it = λ e f. absurd (n (judged-by-head img f (long-at-21 img e)));
+    })
+
 -- ---- all of them
 
-pub turned-back : (half : ℕ) → Turned-back half
-unfolding average-at
-turned-back half =
+pub turned-back : Turned-back
+unfolding format-before index-book index-instant index-average index-listing index-audit average-at
+turned-back =
     record {
-      of-format = format-tested half;
-      of-booking = book-tested half;
-      of-instant = instant-tested half;
-      of-pages = pages-told half;
-      of-average = instant-tested half;
-      of-listing = listing-tested half;
-      of-audit = audit-tested half;
+      of-format = format-tested;
+      of-format-before = λ kind window img. format-tested-before 12 kind window no-field img;
+      of-booking = λ side v s e img scratch.
+          judged-tested _ (λ half. book half side v s e img scratch) (λ (b : Booked). b .status) img refl _
+          (book-tested (half-of img) side v s e img scratch);
+      of-instant = λ t img.
+          judged-tested _ (λ half. instant half t img) (λ (r : Instant). r .status) img refl _ (instant-tested (half-of img) t img);
+      of-pages = index-pages-told;
+      of-average = λ t img.
+          judged-tested _ (λ half. average-at half t img) (λ (r : Averaged). r .status) img refl _ (instant-tested (half-of img) t img);
+      of-listing = λ a b img out.
+          judged-tested _ (λ half. listing half a b img out) (λ (r : Listed). r .status) img refl _ (listing-tested (half-of img) a b img out);
+      of-audit = λ img scratch.
+          judged-tested _ (λ half. audit half img scratch) (λ (r : Audited). r .status) img refl _ (audit-tested (half-of img) img scratch);
     }

@@ -11,11 +11,12 @@ use lib.ListN.{length}
 use Rattle.rule.specs.Time.{END, effect-end}
 use Rattle.rule.specs.Pairs.{combine}
 use Rattle.fields.specs.Bytes.{Bytes}
-use Rattle.image.specs.Images.{page-at, image-of}
+use Rattle.image.specs.Images.{capacity-field, half-of, page-at, image-of}
 use Rattle.image.specs.Sound.{sound}
 use Rattle.steps.specs.Change.{change-names}
 use Rattle.calls.specs.Changes.{Side, effect}
-use Rattle.calls.specs.Calls.{head, book, instant}
+use Rattle.calls.specs.Calls.{head}
+use Rattle.calls.specs.Index.{index-book, index-instant}
 
 -- the pages that the five steps of a change name, in the image as it finds it
 unfoldable pub named : ℕ → Side → ℤ → ℕ → ℕ → List ℕ → List ℕ
@@ -23,8 +24,8 @@ named half side v s e img =
     let h = head half img in
     change-names half (combine (h .kind)) s (effect-end e (h .window)) (effect side v) (image-of half img)
 
--- A change by v on [s, e) that took the image img to img′. Its effect covers [s, e′), e′ being `lengthened e w` of the image's own
--- window w.
+-- A change by v on [s, e) that took the image img, of pages of capacity 2 × half, to img′. Its effect covers [s, e′), e′ being
+-- `effect-end e w` of the image's own window w.
 pub record Accepted-change (half : ℕ) (side : Side) (v : ℤ) (s e : ℕ) (img img′ : List ℕ) : Type 0 where
   -- "every image that a change leaves is sound by document 01's page rules"; in the header: "An accepted one leaves a sound image whose
   -- count of changes is one higher."
@@ -35,26 +36,28 @@ pub record Accepted-change (half : ℕ) (side : Side) (v : ℤ) (s e : ℕ) (img
   pub kind : head half img′ .kind ≡ head half img .kind
   pub window : head half img′ .window ≡ head half img .window
   pub size : length img′ ≡ length img
+  -- "a change keeps the field's bytes"
+  pub capacity : capacity-field img′ ≡ capacity-field img
   -- so that it may be changed again
   pub bytes : Bytes img′
   -- every instant is answered, and what was turned back (END, and what lies past it) still is
-  pub answered : (t : ℕ) → t < END → instant half t img′ .status ≡ 0
-  pub statuses : (t : ℕ) → instant half t img′ .status ≡ instant half t img .status
+  pub answered : (t : ℕ) → t < END → index-instant t img′ .status ≡ 0
+  pub statuses : (t : ℕ) → index-instant t img′ .status ≡ index-instant t img .status
   -- "one more accepted change alters no instant's pair outside its span (lengthened by the window)"
   pub outside :
       (t : ℕ) → (t < s) ⊎ (effect-end e (head half img .window) ≤ t)
-      → instant half t img′ .pair ≡ instant half t img .pair
+      → index-instant t img′ .pair ≡ index-instant t img .pair
   -- "C. Combine the effect into [s, e′)."
   pub inside :
       (t : ℕ) → s ≤ t → t < effect-end e (head half img .window)
-      → instant half t img′ .pair ≡ combine (head half img .kind) (instant half t img .pair) (effect side v)
+      → index-instant t img′ .pair ≡ combine (head half img .kind) (index-instant t img .pair) (effect side v)
   -- "and no byte of a page that its five steps in document 01 don't name"
   pub unnamed : (p : ℕ) → ¬ List·Memᴰ p (named half side v s e img) → page-at half img′ p ≡ page-at half img p
 
 -- Of every image of bytes, which any image lent as bytes is, and of every side, value, span and scratch.
-unfoldable pub Every-change : ℕ → Type 0
-Every-change half =
+unfoldable pub Every-change : Type 0
+Every-change =
     (side : Side) (v : ℤ) (s e : ℕ) (img scratch : List ℕ)
     → Bytes img
-    → book half side v s e img scratch .status ≡ 0
-    → Accepted-change half side v s e img (book half side v s e img scratch .image)
+    → index-book side v s e img scratch .status ≡ 0
+    → Accepted-change (half-of img) side v s e img (index-book side v s e img scratch .image)

@@ -1,5 +1,6 @@
 -- Every call of document 01 as a function of its inputs: the status returned (document 01's number), the answer, and every byte of image,
--- output and scratch afterwards, on every image and argument. Over half the capacity of a page, which is 12. Assumes nothing.
+-- output and scratch afterwards, on every image and argument. Over half the capacity of a page; where a call has that from is Index.antt.
+-- Assumes nothing.
 use Prim.Native.Nat.{ℕ, _*_}
 use mathlib.Core.Bool.{Bool, cond, not, _&&_}
 use mathlib.Core.List.{List, [], _∷_, _++_}
@@ -43,10 +44,11 @@ unfoldable pub format-status : ℕ → ℕ → ℕ → List ℕ → ℕ
 format-status half kind window img =
     first ((16, not (length-ok half img)) ∷ (14, not (kind-ok kind && window-ok window)) ∷ [])
 
-unfoldable pub format : ℕ → ℕ → ℕ → List ℕ → Formatted
-format half kind window img =
+-- the last number is written into the head as the capacity's field
+unfoldable pub format : ℕ → ℕ → ℕ → ℕ → List ℕ → Formatted
+format half kind window field img =
     let number = format-status half kind window img in
-    let done = image-bytes half (fresh (pages-in half img) kind window) in
+    let done = image-bytes half (fresh (pages-in half img) kind window field) in
     record { status = number; image = cond (eqb number 0) done img }
 
 -- Enter and withdraw

@@ -1,4 +1,4 @@
--- The three demands, over the calls of document 01 as Calls.antt defines them and the lists that Trace.antt makes of them: what each
+-- The three demands, over the calls as Index.antt defines them, at every capacity, and the lists that Trace.antt makes of them: what each
 -- function of the index promises is that it does what its definition there does, so what holds of the definitions holds of the index.
 -- Assumes nothing.
 use Prim.Native.Nat.{ℕ, _≤_, _<_}
@@ -15,11 +15,12 @@ use Rattle.rule.specs.Pairs.{none}
 use Rattle.rule.specs.Averages.{average}
 use Rattle.fields.specs.Bytes.{Bytes}
 use Rattle.page.specs.Fit.{most-changes}
-use Rattle.image.specs.Images.{pages-in}
+use Rattle.image.specs.Images.{capacity-field, half-of, pages-in}
 use Rattle.image.specs.Sound.{sound}
 use Rattle.calls.specs.Refusals.{first, scratch-ok, cleared}
 use Rattle.calls.specs.Changes.{Side, entering, withdrawing, withdraws, Change}
-use Rattle.calls.specs.Calls.{head, format, book, instant, average-at, listing, audit}
+use Rattle.calls.specs.Calls.{head}
+use Rattle.calls.specs.Index.{names-capacity, index-format, index-book, index-instant, index-average, index-listing, index-audit}
 use Rattle.calls.specs.Tables.{Turned-back}
 use Rattle.calls.specs.Book.{Book, entered, book-of, book-pair, listing-of}
 use Rattle.calls.specs.Trace.{Trace, Throughout, change-made, Steps}
@@ -27,53 +28,58 @@ use Rattle.calls.specs.Aggregate.{aggregate, Matched, live-from}
 use Rattle.calls.specs.Accepted.{Every-change}
 
 -- "scratch is untouched at 16 and 17, also at 11 and 13"
-unfoldable pub keeps-scratch : ℕ → Bool
-keeps-scratch number = eqb number 16 || (eqb number 17 || (eqb number 11 || eqb number 13))
+unfoldable pub untouched-at : ℕ → Bool
+untouched-at number = eqb number 16 || (eqb number 17 || (eqb number 11 || eqb number 13))
+
+-- and, document 02, (xi), at "a bad K 21 ahead of 16, scratch untouched"
+unfoldable pub keeps-scratch : List ℕ → ℕ → Bool
+keeps-scratch img number = not (names-capacity img) || untouched-at number
 
 -- Demand 1. "A caller may hand any public call any image, span, value or output buffer, unchecked; the call returns, and what
 -- document 01 turns back is refused by its number there, with image and output as before." That a call returns is part of every
 -- function's proof; that its status is that of the first row that turns it back is `Turned-back` (Tables.antt). What is left to say:
 -- "A refusal returns its number and zeros (instant: the pages read too). Image and output keep their bytes".
-pub record Demand-1 (half : ℕ) : Type 0 where
-  pub of-format : (kind window : ℕ) (img : List ℕ) → format half kind window img .status ≢ 0 → format half kind window img .image ≡ img
+pub record Demand-1 : Type 0 where
+  pub of-format :
+      (kind window k : ℕ) (img : List ℕ) → index-format kind window k img .status ≢ 0 → index-format kind window k img .image ≡ img
   pub of-booking :
       (side : Side) (v : ℤ) (s e : ℕ) (img scratch : List ℕ)
-      → book half side v s e img scratch .status ≢ 0
-      → book half side v s e img scratch .image ≡ img
-  pub of-instant : (t : ℕ) (img : List ℕ) → instant half t img .status ≢ 0 → instant half t img .pair ≡ none
-  pub of-average : (t : ℕ) (img : List ℕ) → average-at half t img .status ≢ 0 → average-at half t img .average ≡ Nothing
+      → index-book side v s e img scratch .status ≢ 0
+      → index-book side v s e img scratch .image ≡ img
+  pub of-instant : (t : ℕ) (img : List ℕ) → index-instant t img .status ≢ 0 → index-instant t img .pair ≡ none
+  pub of-average : (t : ℕ) (img : List ℕ) → index-average t img .status ≢ 0 → index-average t img .average ≡ Nothing
   pub of-listing :
       (a b : ℕ) (img out : List ℕ)
-      → listing half a b img out .status ≢ 0
-      → (listing half a b img out .output ≡ out) × (listing half a b img out .runs ≡ 0)
+      → index-listing a b img out .status ≢ 0
+      → (index-listing a b img out .output ≡ out) × (index-listing a b img out .runs ≡ 0)
   -- "else its n bytes are 0"
   pub of-scratch :
       (side : Side) (v : ℤ) (s e : ℕ) (img scratch : List ℕ)
-      → (book half side v s e img scratch .scratch
-      ≡ cond (keeps-scratch (book half side v s e img scratch .status)) scratch (cleared (pages-in half img) scratch))
-      × (audit half img scratch .scratch
-      ≡ cond (keeps-scratch (audit half img scratch .status)) scratch (cleared (pages-in half img) scratch))
+      → (index-book side v s e img scratch .scratch
+      ≡ cond (keeps-scratch img (index-book side v s e img scratch .status)) scratch (cleared (pages-in (half-of img) img) scratch))
+      × (index-audit img scratch .scratch
+      ≡ cond (keeps-scratch img (index-audit img scratch .status)) scratch (cleared (pages-in (half-of img) img) scratch))
   -- "It reports the tree pages read: the height if answered, or if a page is unfit, the pages up to and including it (0 for the
   -- head and at other refusals)."
   pub of-pages :
       (t : ℕ) (img : List ℕ)
-      → (instant half t img .status ≡ 0 → instant half t img .pages ≡ head half img .height)
-      × (instant half t img .status ≢ 0 → instant half t img .status ≢ 21 → instant half t img .pages ≡ 0)
+      → (index-instant t img .status ≡ 0 → index-instant t img .pages ≡ head (half-of img) img .height)
+      × (index-instant t img .status ≢ 0 → index-instant t img .status ≢ 21 → index-instant t img .pages ≡ 0)
   -- no call on an image answers the average of a sum that no fit page can show
-  pub of-beyond : (t : ℕ) (img : List ℕ) → average-at half t img .average ≢ Beyond
+  pub of-beyond : (t : ℕ) (img : List ℕ) → index-average t img .average ≢ Beyond
 
 -- Demand 2. "On an image changed by these calls alone since format, every instant, span and fixed-window answer (sum, count,
 -- average, greatest, least) is the aggregate that Yang and Widom define over the accepted bookings, a withdrawal counting as a
 -- negative entry and averages rounded as document 01 says; every image that a change leaves is sound by document 01's page rules."
-pub record Demand-2 (half kind window : ℕ) (img : List ℕ) (cs : List Change) : Type 0 where
+pub record Demand-2 (kind window : ℕ) (img : List ℕ) (cs : List Change) : Type 0 where
   pub instants :
       (t : ℕ) → t < END
-      → (instant half t img .status ≡ 0) × (instant half t img .pair ≡ aggregate kind window cs t)
+      → (index-instant t img .status ≡ 0) × (index-instant t img .pair ≡ aggregate kind window cs t)
   pub averages :
       (t : ℕ) → t < END
-      → average-at half t img ≡ record { status = 0; average = average kind (aggregate kind window cs t) }
-  pub spans : (a b : ℕ) (out : List ℕ) → listing half a b img out ≡ listing-of (aggregate kind window cs) a b out
-  pub sound-after : sound half img ≡ true
+      → index-average t img ≡ record { status = 0; average = average kind (aggregate kind window cs t) }
+  pub spans : (a b : ℕ) (out : List ℕ) → index-listing a b img out ≡ listing-of (aggregate kind window cs) a b out
+  pub sound-after : sound (half-of img) img ≡ true
   -- "If every withdrawal matches an earlier entry not yet withdrawn, this is the aggregate over live bookings."
   pub live : Matched [] cs → (t : ℕ) → aggregate kind window cs t ≡ aggregate kind window (live-from [] cs) t
 
@@ -90,31 +96,31 @@ fixed-status pages side v s e scratch B =
 
 -- What demand 3 claims of an image, B being the book as it then is: whichever call is made on it, with any arguments, returns what the
 -- book says.
-pub record As-the-book (half : ℕ) (img : List ℕ) (B : Book) : Type 0 where
+pub record As-the-book (img : List ℕ) (B : Book) : Type 0 where
   -- "an instant call returns 12 at END, else 0 and the pair at t that the book then has"
-  pub instant-end : (t : ℕ) → END ≤ t → instant half t img .status ≡ 12
-  pub instants : (t : ℕ) → t < END → (instant half t img .status ≡ 0) × (instant half t img .pair ≡ book-pair B t)
+  pub instant-end : (t : ℕ) → END ≤ t → index-instant t img .status ≡ 12
+  pub instants : (t : ℕ) → t < END → (index-instant t img .status ≡ 0) × (index-instant t img .pair ≡ book-pair B t)
   -- "The average's pair is taken by an instant call": the same numbers, at END with no average, else with that of the book's kind and pair
-  pub average-end : (t : ℕ) → END ≤ t → average-at half t img ≡ record { status = 12; average = Nothing }
+  pub average-end : (t : ℕ) → END ≤ t → index-average t img ≡ record { status = 12; average = Nothing }
   pub averages :
-      (t : ℕ) → t < END → average-at half t img ≡ record { status = 0; average = average (B .kind) (book-pair B t) }
+      (t : ℕ) → t < END → index-average t img ≡ record { status = 0; average = average (B .kind) (book-pair B t) }
   -- "a listing 11 if a ≥ b, else 15 if the output is shorter than the book's runs, else 0, their number, and an output that begins with
   -- them and keeps the rest"; and so the full one: "The full listing is that over [0, END)."
-  pub listings : (a b : ℕ) (out : List ℕ) → listing half a b img out ≡ listing-of (book-pair B) a b out
+  pub listings : (a b : ℕ) (out : List ℕ) → index-listing a b img out ≡ listing-of (book-pair B) a b out
   -- "an audit 17 if its scratch is too short, else 0"
-  pub audits : (scratch : List ℕ) → audit half img scratch .status ≡ first ((17, not (scratch-ok (pages-in half img) scratch)) ∷ [])
+  pub audits : (scratch : List ℕ) → index-audit img scratch .status ≡ first ((17, not (scratch-ok (pages-in (half-of img) img) scratch)) ∷ [])
   -- a booking the status that is fixed, but where the pages may be too few
   pub bookings :
       (side : Side) (v : ℤ) (s e : ℕ) (scratch : List ℕ)
-      → let number = book half side v s e img scratch .status in
-      let fixed = fixed-status (pages-in half img) side v s e scratch B in
+      → let number = index-book side v s e img scratch .status in
+      let fixed = fixed-status (pages-in (half-of img) img) side v s e scratch B in
       (number ≡ fixed) ⊎ ((fixed ≡ 0) × (number ≡ 24))
 
 -- Demand 3, the claim about the list. "For every list of calls on one image .. from a freshly formatted one, each instant's pair and
 -- each listing on the way, and after it the full listing, are exactly those of the plain book in document 01, which keeps only the
 -- accepted changes."
-unfoldable pub Demand-3-list : {half kind window : ℕ} {img : List ℕ} {cs : List Change} → Trace half kind window img cs → Type 0
-Demand-3-list {half} {kind} {window} T = Throughout (λ img cs. As-the-book half img (book-of kind window cs)) T
+unfoldable pub Demand-3-list : {kind window field : ℕ} {img : List ℕ} {cs : List Change} → Trace kind window field img cs → Type 0
+Demand-3-list {kind} {window} T = Throughout (λ img cs. As-the-book img (book-of kind window cs)) T
 
 -- One list in the order of another.
 pub data Reordered : List Change → List Change → Type 0 where
@@ -149,30 +155,34 @@ pub record Same-changes (xs ys : List Change) : Type 0 where
 -- Demand 3, the claim on one more change: "After every such list, one more accepted change alters no instant's pair outside its span
 -- (lengthened by the window), and no byte of a page that its five steps in document 01 don't name." `Every-change` (Accepted.antt) says so
 -- of every image of bytes, the window being the one in its head; after a list the image is one, and kind and window are the format's.
-pub record Headed (half kind window : ℕ) (img : List ℕ) (cs : List Change) : Type 0 where
+pub record Headed (kind window field : ℕ) (img : List ℕ) (cs : List Change) : Type 0 where
   pub bytes : Bytes img
-  pub kind-is : head half img .kind ≡ kind
-  pub window-is : head half img .window ≡ window
-  pub changes-are : head half img .changes ≡ length cs
+  pub kind-is : head (half-of img) img .kind ≡ kind
+  pub window-is : head (half-of img) img .window ≡ window
+  pub changes-are : head (half-of img) img .changes ≡ length cs
+  -- "a change keeps the field's bytes": a capacity stays as format wrote it, and FF stays FF
+  pub field-is : capacity-field img ≡ field
 
--- The demands. The lists are those of Trace.antt, and every call is a step there.
-pub record The-demands (half : ℕ) : Type 0 where
-  pub demand-1 : Demand-1 half
-  pub demand-1-statuses : Turned-back half
-  pub steps : Steps half
+-- The demands. The lists are those of Trace.antt, and every call is a step there: lists from a format of any capacity, and lists from document
+-- 01's own format, on images that have FF in the field.
+pub record The-demands : Type 0 where
+  pub demand-1 : Demand-1
+  pub demand-1-statuses : Turned-back
+  pub steps : Steps
   -- "The book is fed .. each call's arguments and, of enter and withdraw, the number returned; never the image."
   pub fed :
       (kind window : ℕ) (cs : List Change) (r : ℕ) (c : Change)
       → book-of kind window (cs ++ change-made r c) ≡ entered r (c .side) (c .v) (c .s) (c .e) (book-of kind window cs)
-  pub demand-2 : {kind window : ℕ} {img : List ℕ} {cs : List Change} → Trace half kind window img cs → Demand-2 half kind window img cs
-  pub demand-3-list : {kind window : ℕ} {img : List ℕ} {cs : List Change} (T : Trace half kind window img cs) → Demand-3-list T
+  pub demand-2 : {kind window field : ℕ} {img : List ℕ} {cs : List Change} → Trace kind window field img cs → Demand-2 kind window img cs
+  pub demand-3-list : {kind window field : ℕ} {img : List ℕ} {cs : List Change} (T : Trace kind window field img cs) → Demand-3-list T
   -- "Any two images of the same kind and window, of whatever sizes and after whatever two such lists, have the same full listing if the
-  -- changes they accepted are the same"
+  -- changes they accepted are the same": whatever their capacities, too
   pub demand-3-two :
-      {kind window : ℕ} {img other : List ℕ} {cs ds : List Change}
-      → Trace half kind window img cs
-      → Trace half kind window other ds
+      {kind window field other-field : ℕ} {img other : List ℕ} {cs ds : List Change}
+      → Trace kind window field img cs
+      → Trace kind window other-field other ds
       → Same-changes cs ds
-      → (out : List ℕ) → listing half 0 END img out ≡ listing half 0 END other out
-  pub demand-3-one : Every-change half
-  pub headed : {kind window : ℕ} {img : List ℕ} {cs : List Change} → Trace half kind window img cs → Headed half kind window img cs
+      → (out : List ℕ) → index-listing 0 END img out ≡ index-listing 0 END other out
+  pub demand-3-one : Every-change
+  pub headed :
+      {kind window field : ℕ} {img : List ℕ} {cs : List Change} → Trace kind window field img cs → Headed kind window field img cs

@@ -1,6 +1,7 @@
 pub mod Changes
 pub mod Refusals
 pub mod Calls
+pub mod Index
 pub mod Tables
 pub mod Book
 pub mod Trace

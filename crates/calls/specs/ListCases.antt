@@ -2,30 +2,36 @@
 -- Assumes nothing.
 use Prim.Native.Nat.{ℕ, _*_, _<_}
 use mathlib.Core.Path.{_≡_}
-use mathlib.Core.List.{List, [], _∷_, map}
+use mathlib.Core.List.{List, [], _∷_, _++_, map}
 use lib.ListN.{length, replicate}
 use lib.IntN.{ℤ, pos, negsuc}
 use Rattle.rule.specs.declared.Average.the-variants.{Hundredths, Nothing}
 use Rattle.rule.specs.Time.{END}
 use Rattle.rule.specs.Pairs.{pair, none}
+use Rattle.fields.specs.Bytes.{patch}
 use Rattle.calls.specs.Changes.{entering, withdrawing, Change}
-use Rattle.calls.specs.Calls.{Booked, format, book, instant, average-at, listing, audit}
+use Rattle.calls.specs.Calls.{Booked}
+use Rattle.calls.specs.Index.{index-format, format-before, index-book, index-instant, index-average, index-listing, index-audit}
 use Rattle.calls.specs.Book.{Book, empty-book, entered, book-of}
 use Rattle.calls.specs.Trace.{Step, Trace, Throughout, change-made}
-use Rattle.calls.specs.Demands.{fixed-status, As-the-book, Booking, couples, Same-changes}
+use Rattle.calls.specs.Demands.{fixed-status, As-the-book, Booking, couples, Same-changes, The-demands}
 use Rattle.calls.specs.BookCases.{one, windowed, listed-30-41}
 use Rattle.calls.specs.AggregateCases.{entry, withdrawal}
 
 -- freshly formatted: kind 1, no window
 unfoldable pub fresh-image : List ℕ
-fresh-image = format 2 1 0 (replicate (112 * 2) 0) .image
+fresh-image = index-format 1 0 4 (replicate (112 * 2) 0) .image
+
+-- document 01's own fresh image, of two pages of 512 bytes
+unfoldable pub before-image : List ℕ
+before-image = format-before 1 0 (replicate (512 * 2) 0) .image
 
 -- bookings with scratch enough
 abbrev pub enters : ℤ → ℕ → ℕ → List ℕ → Booked
-enters v s e img = book 2 entering v s e img (7 ∷ 7 ∷ [])
+enters v s e img = index-book entering v s e img (7 ∷ 7 ∷ [])
 
 abbrev pub withdraws : ℤ → ℕ → ℕ → List ℕ → Booked
-withdraws v s e img = book 2 withdrawing v s e img (7 ∷ 7 ∷ [])
+withdraws v s e img = index-book withdrawing v s e img (7 ∷ 7 ∷ [])
 
 -- 6 on [10, 40), which leaves three leaf entries; the same withdrawn; and 3 on [20, 50), which fits only now
 unfoldable pub after-one : List ℕ
@@ -39,7 +45,7 @@ after-three = enters (pos 3) 20 50 after-two .image
 
 -- the first on an image of kind 2
 unfoldable pub greatest-one : List ℕ
-greatest-one = enters (pos 6) 10 40 (format 2 2 0 (replicate (112 * 2) 0) .image) .image
+greatest-one = enters (pos 6) 10 40 (index-format 2 0 4 (replicate (112 * 2) 0) .image) .image
 
 -- its book
 unfoldable pub greatest-book : Book
@@ -69,34 +75,44 @@ pub record List-cases : Type 0 where
   -- Each call that is refused there, by its status.
   pub refused-statuses :
       (enters (pos 1) 5 5 after-one .status ≡ 11)
-      × (instant 2 END after-one .status ≡ 12)
+      × (index-instant END after-one .status ≡ 12)
       × (enters (pos 1000001) 5 6 after-one .status ≡ 13)
-      × (format 2 4 0 after-one .status ≡ 14)
-      × (listing 2 0 50 after-one [] .status ≡ 15)
-      × (audit 2 (255 ∷ after-one) [] .status ≡ 16)
-      × (audit 2 after-one [] .status ≡ 17)
+      × (index-format 4 0 4 after-one .status ≡ 14)
+      × (index-listing 0 50 after-one [] .status ≡ 15)
+      × (index-audit (after-one ++ (255 ∷ [])) [] .status ≡ 16)
+      × (index-audit after-one [] .status ≡ 17)
+  -- A bad capacity turns a booking back with its scratch untouched.
+  pub bad-capacity :
+      let img = patch fresh-image 36 (5 ∷ []) in
+      enters (pos 6) 10 40 img ≡ record { status = 21; image = img; scratch = 7 ∷ 7 ∷ [] }
   -- What a refused booking and a refused format leave is what they found.
-  pub refused-leaves : (enters (pos 3) 20 50 after-one .image ≡ after-one) × (format 2 4 0 after-one .image ≡ after-one)
+  pub refused-leaves : (enters (pos 3) 20 50 after-one .image ≡ after-one) × (index-format 4 0 4 after-one .image ≡ after-one)
   -- What a booking leaves is what the next call finds.
-  pub left-one : instant 2 20 after-one ≡ record { status = 0; pair = pair (pos 6) (pos 1); pages = 1 }
-  pub left-twice : instant 2 20 (enters (pos 6) 10 40 after-one .image) .pair ≡ pair (pos 12) (pos 2)
-  pub left-two : instant 2 20 after-two .pair ≡ none
+  pub left-one : index-instant 20 after-one ≡ record { status = 0; pair = pair (pos 6) (pos 1); pages = 1 }
+  pub left-twice : index-instant 20 (enters (pos 6) 10 40 after-one .image) .pair ≡ pair (pos 12) (pos 2)
+  pub left-two : index-instant 20 after-two .pair ≡ none
   pub left-three :
-      map (λ t. instant 2 t after-three .pair) (19 ∷ 20 ∷ 49 ∷ 50 ∷ [])
+      map (λ t. index-instant t after-three .pair) (19 ∷ 20 ∷ 49 ∷ 50 ∷ [])
       ≡ none ∷ pair (pos 3) (pos 1) ∷ pair (pos 3) (pos 1) ∷ none ∷ []
   -- An average, at an instant, where nothing counts, and at END; and for kind 2, where there is none.
   pub averaged :
-      (average-at 2 20 after-one ≡ record { status = 0; average = Hundredths (pos 600) })
-      × (average-at 2 40 after-one ≡ record { status = 0; average = Nothing })
-      × (average-at 2 END after-one ≡ record { status = 12; average = Nothing })
+      (index-average 20 after-one ≡ record { status = 0; average = Hundredths (pos 600) })
+      × (index-average 40 after-one ≡ record { status = 0; average = Nothing })
+      × (index-average END after-one ≡ record { status = 12; average = Nothing })
   pub averaged-greatest :
-      (instant 2 20 greatest-one ≡ record { status = 0; pair = pair (pos 6) (pos 1); pages = 1 })
-      × (average-at 2 20 greatest-one ≡ record { status = 0; average = Nothing })
+      (index-instant 20 greatest-one ≡ record { status = 0; pair = pair (pos 6) (pos 1); pages = 1 })
+      × (index-average 20 greatest-one ≡ record { status = 0; average = Nothing })
   -- A booking that returned 0 made its change, and one that was refused made none.
   pub made-by-status : (change-made 0 (entry (pos 3) 20 50) ≡ entry (pos 3) 20 50 ∷ []) × (change-made 24 (entry (pos 3) 20 50) ≡ [])
   -- A list of calls: the three bookings, in this order, and behind the first one 3 on [20, 50) refused by 24, a format refused by 14,
   -- both as the steps that every call is, and a call that only reads.
-  pub day : Trace 2 1 0 after-three three-changes
+  pub day : Trace 1 0 4 after-three three-changes
+  -- A list from document 01's own format, on an image that has FF in the capacity's field.
+  pub before-day : Trace 1 0 4294967295 (enters (pos 6) 10 40 before-image .image) (entry (pos 6) 10 40 ∷ [])
+  -- What is claimed of two images of different capacities.
+  pub two-capacities :
+      The-demands → {img other : List ℕ} {cs : List Change} → Trace 1 0 4 img cs → Trace 1 0 4294967295 other cs
+      → (out : List ℕ) → index-listing 0 END img out ≡ index-listing 0 END other out
   -- Each image on the way is looked at, the first and the last too.
   pub all-day : (Throughout (λ img cs. length cs < 4) day)
   pub last-of-day : ¬ Throughout (λ img cs. length cs < 3) day
@@ -111,23 +127,23 @@ pub record List-cases : Type 0 where
   -- What is claimed of an image whose book has one booking; of a listing there; of one of kind 2; of an audit; and of a withdrawal, which
   -- kind 2 turns back.
   pub claimed :
-      {img : List ℕ} → As-the-book 2 img one
-      → (instant 2 END img .status ≡ 12)
-      × (instant 2 39 img .pair ≡ pair (pos 6) (pos 1))
-      × (average-at 2 END img ≡ record { status = 12; average = Nothing })
-      × (average-at 2 39 img ≡ record { status = 0; average = Hundredths (pos 600) })
+      {img : List ℕ} → As-the-book img one
+      → (index-instant END img .status ≡ 12)
+      × (index-instant 39 img .pair ≡ pair (pos 6) (pos 1))
+      × (index-average END img ≡ record { status = 12; average = Nothing })
+      × (index-average 39 img ≡ record { status = 0; average = Hundredths (pos 600) })
   pub claimed-listing :
-      {img : List ℕ} → As-the-book 2 img one
-      → listing 2 30 41 img (replicate 34 9) ≡ listed-30-41
-  pub claimed-greatest : {img : List ℕ} → As-the-book 2 img (windowed 2) → average-at 2 40 img ≡ record { status = 0; average = Nothing }
+      {img : List ℕ} → As-the-book img one
+      → index-listing 30 41 img (replicate 34 9) ≡ listed-30-41
+  pub claimed-greatest : {img : List ℕ} → As-the-book img (windowed 2) → index-average 40 img ≡ record { status = 0; average = Nothing }
   pub claimed-audit :
-      As-the-book 2 after-one one → (audit 2 after-one [] .status ≡ 17) × (audit 2 after-one (7 ∷ 7 ∷ []) .status ≡ 0)
-  pub claimed-booking : As-the-book 2 greatest-one greatest-book → withdraws (pos 6) 10 40 greatest-one .status ≡ 22
+      As-the-book after-one one → (index-audit after-one [] .status ≡ 17) × (index-audit after-one (7 ∷ 7 ∷ []) .status ≡ 0)
+  pub claimed-booking : As-the-book greatest-one greatest-book → withdraws (pos 6) 10 40 greatest-one .status ≡ 22
   -- No list has a format that was accepted and changed the image, nor a booking that changed it and is not among the changes.
-  pub accepted-format : ¬ Step 2 after-one [] (format 2 1 0 after-one .image)
-  pub change-left-out : ¬ Step 2 after-one [] after-two
+  pub accepted-format : ¬ Step after-one [] (index-format 1 0 4 after-one .image)
+  pub change-left-out : ¬ Step after-one [] after-two
   -- nor a change that the image doesn't have
-  pub change-made-up : ¬ Step 2 after-one (entry (pos 3) 20 50 ∷ []) after-one
+  pub change-made-up : ¬ Step after-one (entry (pos 3) 20 50 ∷ []) after-one
   -- "A withdrawal matches an entry of the same v, s and e, whichever came first." "the same in whatever order, or become so when entries
   -- are struck out with their matching withdrawals".
   pub couple : couples (struck ∷ []) ≡ entry (pos 6) 10 40 ∷ withdrawal (pos 6) 10 40 ∷ []

@@ -10,7 +10,7 @@ use Rattle.rule.specs.declared.Average.{Average}
 use Rattle.rule.specs.declared.Average.the-variants.{Hundredths, Nothing, Beyond}
 use Rattle.rule.specs.Time.{END}
 use Rattle.rule.specs.Averages.{average}
-use Rattle.page.specs.Layout.{page-size}
+use Rattle.page.specs.Layout.{capacity, page-size}
 use Rattle.image.specs.Listing.{Run}
 use Rattle.calls.specs.Changes.{Side, entering, withdrawing}
 use Rattle.calls.specs.Calls.{format, book, runs-over}
@@ -151,7 +151,7 @@ ran-lines half pages k (l ∷ ls) img =
 -- "(64 pages, kind 1, w = 0)", "then `runs` with their number, and each run"
 unfoldable pub program : ℕ → ℕ → List ℕ → List ℕ
 program half pages text =
-    let fresh = format half 1 0 (replicate (page-size half * pages) 0) .image in
+    let fresh = format half 1 0 (capacity half) (replicate (page-size half * pages) 0) .image in
     let r = ran-lines half pages 1 (lines-of text) fresh in
     let runs = runs-over half 0 END (r .image) in
     r .written ++ ((114 ∷ 117 ∷ 110 ∷ 115 ∷ 32 ∷ []) ++ (decimal (length runs) ++ (10 ∷ runs-text runs)))

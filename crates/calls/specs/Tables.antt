@@ -1,7 +1,7 @@
 -- Document 01, "Turned back by the input" and "Turned back by the state", as propositions: when each row turns a call back, said of
 -- what the call is handed and apart from the rows by which the calls are defined; and that every call goes by them. What a sound image and
 -- a fit page are, which runs a walk finds and which pages the cuts take are the definitions' own. Assumes nothing.
-use Prim.Native.Nat.{ℕ, _+_, _*_, _-_, _<_, _≤_}
+use Prim.Native.Nat.{ℕ, _+_, _*_, _-_, _/_, _%_, _<_, _≤_}
 use mathlib.Core.Path.{_≡_}
 use mathlib.Core.Logic.{_≢_, _⊎_, _↔_}
 use mathlib.Core.Bool.{true, false}
@@ -9,17 +9,18 @@ use mathlib.Core.List.{List, [], _∷_, List·Memᴰ}
 use lib.ListN.{length}
 use lib.IntN.{ℤ, natAbs}
 use Rattle.rule.specs.Time.{END, effect-end}
+use Rattle.fields.specs.Numbers.{u32-at}
 use Rattle.page.specs.declared.Head.{Head}
 use Rattle.page.specs.Layout.{page-size, head-of}
 use Rattle.page.specs.Fit.{head-fit}
-use Rattle.image.specs.Images.{Image, page-at, pages-in, image-of}
+use Rattle.image.specs.Images.{Image, half-of, page-at, pages-in, image-of}
 use Rattle.image.specs.Sound.{sound}
 use Rattle.image.specs.Listing.{walk-over, join}
 use Rattle.image.specs.Trail.{Visit, finds-fit, Ends-unfit, instant-trail, listing-trail}
 use Rattle.steps.specs.Supply.{pages-taken}
 use Rattle.steps.specs.Change.{cuts}
 use Rattle.calls.specs.Changes.{Side, withdrawing}
-use Rattle.calls.specs.Calls.{format, book, instant, average-at, listing, audit}
+use Rattle.calls.specs.Index.{index-format, format-before, index-book, index-instant, index-average, index-listing, index-audit}
 
 infix 1 _when_
 -- A row as it stands for a call: its status, and when it turns the call back.
@@ -39,7 +40,15 @@ Returned (c ∷ cs) r = (c .holds × (r ≡ c .status)) ⊎ ((¬ c .holds) × Re
 unfoldable pub Exactly : List Case → ℕ → Type 0
 Exactly cs number = (r : ℕ) → (number ≡ r) ↔ Returned cs r
 
--- 16: "image length not 512 × n for an n in range"; "n from 2 to 1,024"
+-- Document 02, (xi): "An odd K or one outside its range"; "an even number from 4 to 24"
+unfoldable pub No-capacity : ℕ → Type 0
+No-capacity k = (k % 2 ≢ 0) ⊎ ((k < 4) ⊎ (24 < k))
+
+-- "a bad K": the field, "stored in the head after changes", is such a number and not FF FF FF FF
+unfoldable pub Bad-field : List ℕ → Type 0
+Bad-field img = (u32-at img 36 ≢ 4294967295) × No-capacity (u32-at img 36)
+
+-- 16: "image length not 512 × n for an n in range"; "n from 2 to 1,024"; "a page has 32 + 20 × K bytes"
 pub record Whole-pages (half : ℕ) (img : List ℕ) : Type 0 where
   pub n : ℕ
   pub long : length img ≡ page-size half * n
@@ -68,11 +77,21 @@ Meets-unfit half img looks =
 unfoldable pub Too-few-pages : ℕ → ℕ → ℕ → Image → Type 0
 Too-few-pages half s e X = X .head .chain + (X .head .pages - X .head .mark) < pages-taken X (cuts half s e X)
 
--- Each call's cases. "The order is 16, 17, 11 or 12, 13, 14, 21, 22, 23, 24, and 15 last."
-module _ (half : ℕ) where
-  unfoldable pub format-cases : ℕ → ℕ → List ℕ → List Case
-  format-cases kind window img = (16 when ¬ Whole-pages half img) ∷ (14 when No-kind-or-window kind window) ∷ []
+-- Document 01's own format: "The order is 16, 17, 11 or 12, 13, 14, .."
+unfoldable pub format-cases-before : ℕ → ℕ → ℕ → List ℕ → List Case
+format-cases-before half kind window img = (16 when ¬ Whole-pages half img) ∷ (14 when No-kind-or-window kind window) ∷ []
 
+-- "An odd K or one outside its range gives 14 at format, ahead of 16."
+unfoldable pub format-cases : ℕ → ℕ → ℕ → List ℕ → List Case
+format-cases kind window k img = (14 when No-capacity k) ∷ format-cases-before (k / 2) kind window img
+
+-- "In an image K is read before the length is judged: under 40 bytes gives 16, a bad K 21 ahead of 16": ahead of the cases of every other
+-- call
+unfoldable pub judge-cases : List ℕ → List Case → List Case
+judge-cases img cases = (16 when length img < 40) ∷ (21 when Bad-field img) ∷ cases
+
+-- Each call's cases behind these, by half the capacity. "The order is 16, 17, 11 or 12, 13, 14, 21, 22, 23, 24, and 15 last."
+module _ (half : ℕ) where
   -- 17: "scratch shorter than n bytes". 13: "value outside its range"; "A value is −1,000,000 to 1,000,000." 21: "audit, change: image not
   -- sound". 22: "withdrawal, kind 2 or 3": a sound image has no other kind but 1. 23: "changes is 1,000,000,000".
   unfoldable pub book-cases : Side → ℤ → ℕ → ℕ → List ℕ → List ℕ → List Case
@@ -117,16 +136,25 @@ module _ (half : ℕ) where
   pub record Pages-told (t : ℕ) (img : List ℕ) (number pages : ℕ) : Type 0 where
     pub looks : Whole-pages half img → t < END → Fit-head half img → pages ≡ length (instant-trail half t img)
     pub no-looks : (¬ Whole-pages half img) ⊎ (END ≤ t) ⊎ (¬ Fit-head half img) → pages ≡ 0
+    -- document 02, (xi): a bad capacity is found before any page is read
+    pub bad-field : Bad-field img → pages ≡ 0
     pub up-to-it : number ≡ 21 → Fit-head half img → Ends-unfit half (head-of (page-at half img 0)) img (instant-trail half t img)
 
 -- "what document 01 turns back is refused by its number there", and nothing else is refused: of every call on every input
-pub record Turned-back (half : ℕ) : Type 0 where
-  pub of-format : (kind window : ℕ) (img : List ℕ) → Exactly (format-cases half kind window img) (format half kind window img .status)
+pub record Turned-back : Type 0 where
+  pub of-format :
+      (kind window k : ℕ) (img : List ℕ) → Exactly (format-cases kind window k img) (index-format kind window k img .status)
+  -- an image of before there was the capacity's field: "pages of 512 bytes"
+  pub of-format-before :
+      (kind window : ℕ) (img : List ℕ) → Exactly (format-cases-before 12 kind window img) (format-before kind window img .status)
   pub of-booking :
       (side : Side) (v : ℤ) (s e : ℕ) (img scratch : List ℕ)
-      → Exactly (book-cases half side v s e img scratch) (book half side v s e img scratch .status)
-  pub of-instant : (t : ℕ) (img : List ℕ) → Exactly (instant-cases half t img) (instant half t img .status)
-  pub of-pages : (t : ℕ) (img : List ℕ) → Pages-told half t img (instant half t img .status) (instant half t img .pages)
-  pub of-average : (t : ℕ) (img : List ℕ) → Exactly (instant-cases half t img) (average-at half t img .status)
-  pub of-listing : (a b : ℕ) (img out : List ℕ) → Exactly (listing-cases half a b img out) (listing half a b img out .status)
-  pub of-audit : (img scratch : List ℕ) → Exactly (audit-cases half img scratch) (audit half img scratch .status)
+      → Exactly (judge-cases img (book-cases (half-of img) side v s e img scratch)) (index-book side v s e img scratch .status)
+  pub of-instant : (t : ℕ) (img : List ℕ) → Exactly (judge-cases img (instant-cases (half-of img) t img)) (index-instant t img .status)
+  pub of-pages : (t : ℕ) (img : List ℕ) → Pages-told (half-of img) t img (index-instant t img .status) (index-instant t img .pages)
+  pub of-average : (t : ℕ) (img : List ℕ) → Exactly (judge-cases img (instant-cases (half-of img) t img)) (index-average t img .status)
+  pub of-listing :
+      (a b : ℕ) (img out : List ℕ)
+      → Exactly (judge-cases img (listing-cases (half-of img) a b img out)) (index-listing a b img out .status)
+  pub of-audit :
+      (img scratch : List ℕ) → Exactly (judge-cases img (audit-cases (half-of img) img scratch)) (index-audit img scratch .status)

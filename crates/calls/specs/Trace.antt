@@ -10,37 +10,44 @@ use mathlib.Core.List.{List, [], _∷_, _++_}
 use lib.Dec.{eqb}
 use lib.IntN.{ℤ}
 use Rattle.calls.specs.Changes.{Side, Change}
-use Rattle.calls.specs.Calls.{format, book}
+use Rattle.page.specs.Layout.{no-field}
+use Rattle.calls.specs.Index.{index-format, format-before, index-book}
 
 -- One call on an image: the image before it, the changes that it made, the image that it left. A call that only reads keeps the image,
 -- and so does one that is refused; a booking that returned 0 made its change. (The five steps of a change are steps within one such call.)
-pub data Step (half : ℕ) : List ℕ → List Change → List ℕ → Type 0 where
-  kept : {img : List ℕ} → Step half img [] img
+pub data Step : List ℕ → List Change → List ℕ → Type 0 where
+  kept : {img : List ℕ} → Step img [] img
   accepted :
       {img after left : List ℕ} {side : Side} {v : ℤ} {s e : ℕ} (scratch : List ℕ)
-      → record { status = 0; image = after; scratch = left } ≡ book half side v s e img scratch
-      → Step half img (record { side = side; v = v; s = s; e = e } ∷ []) after
+      → record { status = 0; image = after; scratch = left } ≡ index-book side v s e img scratch
+      → Step img (record { side = side; v = v; s = s; e = e } ∷ []) after
 
--- A list of calls on one image, from a format of that kind and window that returned 0, whatever bytes were there before: the image that
--- it leads to, and the changes accepted on the way, the first first.
-pub data Trace (half kind window : ℕ) : List ℕ → List Change → Type 0 where
+-- A list of calls on one image, from a format of that kind and window that returned 0, whatever bytes were there before: the number in the
+-- capacity's field, the image that the list leads to, and the changes accepted on the way, the first first. A list may begin with the
+-- format that writes a capacity, or with document 01's own, which knew no such field and left FF there.
+pub data Trace (kind window : ℕ) : ℕ → List ℕ → List Change → Type 0 where
   formatted :
+      {k : ℕ} {img : List ℕ} (before : List ℕ)
+      → record { status = 0; image = img } ≡ index-format kind window k before
+      → Trace kind window k img []
+  formatted-before :
       {img : List ℕ} (before : List ℕ)
-      → record { status = 0; image = img } ≡ format half kind window before
-      → Trace half kind window img []
+      → record { status = 0; image = img } ≡ format-before kind window before
+      → Trace kind window no-field img []
   extended :
-      {img after : List ℕ} {cs ds : List Change}
-      → Trace half kind window img cs
-      → Step half img ds after
-      → Trace half kind window after (cs ++ ds)
+      {field : ℕ} {img after : List ℕ} {cs ds : List Change}
+      → Trace kind window field img cs
+      → Step img ds after
+      → Trace kind window field after (cs ++ ds)
 
 -- "Demand 3 is a single claim about the list, not one for each call": P of each image on the way, the first and the last among them, and
 -- of the changes accepted until then
 unfoldable pub Throughout :
-    {half kind window : ℕ} (P : List ℕ → List Change → Type 0) {img : List ℕ} {cs : List Change}
-    → Trace half kind window img cs → Type 0
+    {kind window field : ℕ} (P : List ℕ → List Change → Type 0) {img : List ℕ} {cs : List Change}
+    → Trace kind window field img cs → Type 0
 Throughout P {img} {cs} (formatted before f) = P img []
-Throughout P (extended {img} {after} {cs} {ds} T step) = Throughout P T × P after (cs ++ ds)
+Throughout P {img} {cs} (formatted-before before f) = P img []
+Throughout P (extended {field} {img} {after} {cs} {ds} T step) = Throughout P T × P after (cs ++ ds)
 
 -- The change that a booking made by the status that it returned: "Enter or withdraw .. that returned 0 adds an item .. Any other number
 -- adds nothing".
@@ -48,18 +55,23 @@ unfoldable pub change-made : ℕ → Change → List Change
 change-made number c = cond (eqb number 0) (c ∷ []) []
 
 -- Every booking and every format is such a step. Instant, average, listing and audit leave no image: the caller's stays, which is `kept`.
-pub record Steps (half : ℕ) : Type 0 where
+pub record Steps : Type 0 where
   pub of-booking :
       (side : Side) (v : ℤ) (s e : ℕ) (img scratch : List ℕ) (r : ℕ) (after left : List ℕ)
-      → record { status = r; image = after; scratch = left } ≡ book half side v s e img scratch
-      → Step half img (change-made r (record { side = side; v = v; s = s; e = e })) after
+      → record { status = r; image = after; scratch = left } ≡ index-book side v s e img scratch
+      → Step img (change-made r (record { side = side; v = v; s = s; e = e })) after
   -- an accepted format begins a list
   pub of-format :
+      (kind window k : ℕ) (img : List ℕ) (after : List ℕ)
+      → record { status = 0; image = after } ≡ index-format kind window k img
+      → Trace kind window k after []
+  -- and so did one of document 01's own
+  pub of-format-before :
       (kind window : ℕ) (img : List ℕ) (after : List ℕ)
-      → record { status = 0; image = after } ≡ format half kind window img
-      → Trace half kind window after []
+      → record { status = 0; image = after } ≡ format-before kind window img
+      → Trace kind window no-field after []
   pub of-refused-format :
-      (kind window : ℕ) (img : List ℕ) (r : ℕ) (after : List ℕ)
-      → record { status = r; image = after } ≡ format half kind window img
+      (kind window k : ℕ) (img : List ℕ) (r : ℕ) (after : List ℕ)
+      → record { status = r; image = after } ≡ index-format kind window k img
       → r ≢ 0
-      → Step half img [] after
+      → Step img [] after

@@ -1,5 +1,5 @@
 // The numbers that a call returns. Document 01, "Turned back by the input" and "Turned back by the state".
-// "The order is 16, 17, 11 or 12, 13, 14, 21, 22, 23, 24, and 15 last."
+// "The order is 16, 17, 11 or 12, 13, 14, 21, 22, 23, 24, and 15 last." Document 02, (xi): a bad capacity ahead of all, 14 at format, else 21.
 pub const ACCEPTED: u32 = 0;
 
 // By the input.
@@ -9,7 +9,7 @@ pub const INSTANT_END: u32 = 12;
 
 pub const VALUE_RANGE: u32 = 13;
 
-pub const KIND_OR_WINDOW: u32 = 14;
+pub const FORMAT_RANGE: u32 = 14;
 
 pub const OUTPUT_SHORT: u32 = 15;
 

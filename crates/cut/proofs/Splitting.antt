@@ -63,7 +63,7 @@ module _ (half : ℕ) (e : Entry) (level : ℕ) (es : List Entry) (X : Image) {a
   saved-as few h = cut-as (ap (decided half e level es X) (sym (le-leb (length es) (capacity half) few)))
       (record { becomes = refl; holds = h })
 
-  -- "the page keeps 12, a taken page gets 13, the parent gains an entry with the same pair"
+  -- "a split keeps K/2 and moves K/2 + 1", "the parent gains an entry with the same pair"
   pub split-as : {q start : ℕ} {left right : Page} → Has-entries level (take half es) left → Has-entries level (drop half es) right
       → q ≡ spare X → start ≡ at (entry-list right) 0 .start
       → Encodes half after (put q (tree (right .level) (entry-list right))

@@ -16,7 +16,7 @@ pub record Has-place (l p i : ℕ) (X : Image) : Type 0 where
   pub tree-page : Tree-page l p X
   pub inside : i ≤ length (entries X p)
 
--- and is full, and another can be taken: "25 entries split"
+-- and is full, and another can be taken: one entry more than the capacity splits it
 pub record Splittable (half l p i : ℕ) (X : Image) : Type 0 where
   pub place : Has-place l p i X
   pub low : l < 255

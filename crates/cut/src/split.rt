@@ -29,7 +29,7 @@ fn page_with(half: usize, img: &[u8], p: u32, i: usize, e: Entry) -> Page
     insert(load(half, img, p), i, e)
 }
 
-// "25 entries split: the page keeps 12, a taken page gets 13". The page under e is full, and new is the i-th of one more than it holds.
+// "a split keeps K/2 and moves K/2 + 1". The page under e is full, and new is the i-th of one more than it holds.
 fn split(half: usize, img: &mut [u8], e: Entry, i: usize, new: Entry) -> SplitOutcome
     requires { ⌜ Pre-level half (now img) (λ l. Splittable half l (e .child) i) ⌝ }
     ensures { λ r. ⌜ Post-level half (now (img .entry)) (λ l. Splittable half l (e .child) i)

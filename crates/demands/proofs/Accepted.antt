@@ -14,12 +14,16 @@ use Rattle.rule.proofs.Window.{covers-is}
 use Rattle.image.specs.Sound.{sound}
 use Rattle.image.specs.Instant.{look-up}
 use Rattle.calls.specs.Changes.{Side, effect}
-use Rattle.calls.specs.Calls.{head, instant}
+use Rattle.image.specs.Images.{half-of}
+use Rattle.calls.specs.Calls.{Booked, Instant, head, book, instant}
+use Rattle.calls.specs.Index.{index-book, index-instant}
 use Rattle.calls.specs.Accepted.{Accepted-change, Every-change}
+use Rattle.calls.proofs.Judged.{by-judge}
 use Rattle.answers.proofs.Sound.{sound-status, sound-pair}
+use Rattle.answers.proofs.Own.{Own, sound-own, judged-half, own-instant}
 use Rattle.demands.proofs.Book.Spans.{covers-not}
 use Rattle.demands.proofs.Book.Accepted.{passed}
-use Rattle.demands.proofs.Booked.{Wide, Left-by-change, booked}
+use Rattle.demands.proofs.Booked.{Left-by-change, booked}
 use Rattle.demands.proofs.Agree.{instant-end}
 
 module _ {half : ℕ} (side : Side) (v : ℤ) (s e : ℕ) {img img′ : List ℕ} (before : sound half img ≡ true)
@@ -48,6 +52,25 @@ module _ {half : ℕ} (side : Side) (v : ℤ) (s e : ℕ) {img img′ : List ℕ
       go (yes l) = instant-end half img′ (c .sound) t l .1 ∙ sym (instant-end half img before t l .1)
       go (no l) = pair-by t false (omega arith) (covers-not s (effect-end e (head half img .window)) t o)
 
+  -- by the capacity that the images name
+  abbrev before-own : Own half img
+  before-own = sound-own half img before
+
+  abbrev after-own : Own half img′
+  after-own = sound-own half img′ (c .sound)
+
+  status-before : (t : ℕ) → index-instant t img .status ≡ instant half t img .status
+  status-before t = ap (λ (a : Instant). a .status) (own-instant before-own t)
+
+  status-after : (t : ℕ) → index-instant t img′ .status ≡ instant half t img′ .status
+  status-after t = ap (λ (a : Instant). a .status) (own-instant after-own t)
+
+  pair-before : (t : ℕ) → index-instant t img .pair ≡ instant half t img .pair
+  pair-before t = ap (λ (a : Instant). a .pair) (own-instant before-own t)
+
+  pair-after : (t : ℕ) → index-instant t img′ .pair ≡ instant half t img′ .pair
+  pair-after t = ap (λ (a : Instant). a .pair) (own-instant after-own t)
+
   change-accepted : Accepted-change half side v s e img img′
   unfolding effect-end
   change-accepted =
@@ -57,15 +80,25 @@ module _ {half : ℕ} (side : Side) (v : ℤ) (s e : ℕ) {img img′ : List ℕ
         kind = c .kind;
         window = c .window;
         size = c .size;
+        capacity = c .capacity;
         bytes = c .bytes;
-        answered = sound-status half img′ (c .sound);
-        statuses = same-number;
-        outside = other-pair;
-        inside = λ t l h. pair-by t true (omega arith) (covers-is s (effect-end e (head half img .window)) t .1 (l, h));
+        answered = λ t l. status-after t ∙ sound-status half img′ (c .sound) t l;
+        statuses = λ t. status-after t ∙ same-number t ∙ sym (status-before t);
+        outside = λ t away. pair-after t ∙ other-pair t away ∙ sym (pair-before t);
+        inside = λ t l h.
+            pair-after t
+            ∙ pair-by t true (omega arith) (covers-is s (effect-end e (head half img .window)) t .1 (l, h))
+            ∙ ap (λ p. combine (head half img .kind) p (effect side v)) (sym (pair-before t));
         unnamed = c .frame;
       }
 
-pub every-change : {half : ℕ} → Wide half → Every-change half
-unfolding Every-change
-every-change {half} wide side v s e img scratch b n =
-    change-accepted side v s e (passed half side v s e img scratch n .whole) (booked wide side v s e img scratch b n)
+-- a change that was accepted is one by the capacity that its image names
+pub every-change : Every-change
+unfolding Every-change index-book
+every-change side v s e img scratch b =
+    by-judge _ (λ half. book half side v s e img scratch) img
+    (λ (r : Booked). r .status ≡ 0 → Accepted-change (half-of img) side v s e img (r .image))
+    (λ g n.
+    let two = judged-half img g .named .least in
+    change-accepted side v s e (passed (half-of img) side v s e img scratch n .whole) (booked two side v s e img scratch b n))
+    (λ r n. absurd (r n))

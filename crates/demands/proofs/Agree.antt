@@ -13,18 +13,20 @@ use Rattle.rule.specs.Time.{END, span-ok, value-ok, effect-end}
 use Rattle.rule.specs.Pairs.{none}
 use Rattle.rule.specs.Averages.{average}
 use Rattle.page.specs.Fit.{most-changes}
-use Rattle.image.specs.Images.{pages-in, length-ok, image-of}
+use Rattle.image.specs.Images.{half-of, pages-in, length-ok, image-of}
 use Rattle.image.specs.Sound.{sound}
 use Rattle.image.specs.Instant.{look-up}
 use Rattle.steps.specs.Change.{lacks-pages}
 use Rattle.calls.specs.Changes.{Side, withdraws}
 use Rattle.calls.specs.Refusals.{first, scratch-ok}
 use Rattle.calls.specs.Calls.{head, book-input-rows, book-status, book, instant-status, instant, average-at, audit-input-rows, audit}
-use Rattle.calls.specs.Calls.{listing}
+use Rattle.calls.specs.Calls.{Instant, listing}
+use Rattle.calls.specs.Index.{index-book, index-instant, index-average, index-listing, index-audit}
 use Rattle.calls.specs.Book.{Book, book-pair, listing-of}
 use Rattle.calls.specs.Demands.{fixed-status, As-the-book}
 use Rattle.soundness.proofs.Sound.{sound-whole}
 use Rattle.answers.proofs.Sound.{sound-status, sound-pair, sound-listing}
+use Rattle.answers.proofs.Own.{Own, sound-own, own-book, own-instant, own-average, own-listing, own-audit}
 use Rattle.demands.proofs.Book.Runs.{listing-same}
 use Rattle.demands.proofs.Rows.{first-off, first-on}
 use Rattle.demands.proofs.Invariant.{Trace-invariant}
@@ -82,7 +84,7 @@ module _ {half : ℕ} {img : List ℕ} {B : Book} (K : Trace-invariant half img 
 
   -- ---- an instant, and an average
 
-  pub instant-is : (t : ℕ) → t < END → (instant half t img .status ≡ 0) × (instant half t img .pair ≡ book-pair B t)
+  instant-is : (t : ℕ) → t < END → (instant half t img .status ≡ 0) × (instant half t img .pair ≡ book-pair B t)
   instant-is t l = (sound-status half img (K .sound) t l, sound-pair half img (K .sound) t l ∙ K .pairs t l)
 
   average-end : (t : ℕ) → END ≤ t → average-at half t img ≡ record { status = 12; average = Nothing }
@@ -95,7 +97,7 @@ module _ {half : ℕ} {img : List ℕ} {B : Book} (K : Trace-invariant half img 
         average = cond (eqb (n i) 0) (average (head half img .kind) (instant half t img .pair)) Nothing;
       }
 
-  pub average-is : (t : ℕ) → t < END → average-at half t img ≡ record { status = 0; average = average (B .kind) (book-pair B t) }
+  average-is : (t : ℕ) → t < END → average-at half t img ≡ record { status = 0; average = average (B .kind) (book-pair B t) }
   unfolding average-at
   average-is t l =
       let r = instant-is t l in
@@ -117,21 +119,46 @@ module _ {half : ℕ} {img : List ℕ} {B : Book} (K : Trace-invariant half img 
 
   -- ---- a listing
 
-  pub listing-is : (a b : ℕ) (out : List ℕ) → listing half a b img out ≡ listing-of (book-pair B) a b out
+  listing-is : (a b : ℕ) (out : List ℕ) → listing half a b img out ≡ listing-of (book-pair B) a b out
   listing-is a b out =
       sound-listing half img (K .sound) a b out
       ∙ listing-same (λ t. instant half t img .pair) (book-pair B) a b out (λ t l h below. instant-is t below .1)
 
-  -- ---- all of them
+  -- ---- all of them, by the capacity that the image names
 
-  pub as-the-book : As-the-book half img B
+  abbrev o : Own half img
+  o = sound-own half img (K .sound)
+
+  pub instant-told : (t : ℕ) → t < END → (index-instant t img .status ≡ 0) × (index-instant t img .pair ≡ book-pair B t)
+  instant-told t l =
+      let r = instant-is t l in
+      (ap (λ (a : Instant). a .status) (own-instant o t) ∙ r .0, ap (λ (a : Instant). a .pair) (own-instant o t) ∙ r .1)
+
+  pub average-told : (t : ℕ) → t < END → index-average t img ≡ record { status = 0; average = average (B .kind) (book-pair B t) }
+  average-told t l = own-average o t ∙ average-is t l
+
+  pub listing-told : (a b : ℕ) (out : List ℕ) → index-listing a b img out ≡ listing-of (book-pair B) a b out
+  listing-told a b out = own-listing o a b out ∙ listing-is a b out
+
+  booking-told : (side : Side) (v : ℤ) (s e : ℕ) (scratch : List ℕ)
+      → let number = index-book side v s e img scratch .status in
+      let fixed = fixed-status (pages-in (half-of img) img) side v s e scratch B in
+      (number ≡ fixed) ⊎ ((fixed ≡ 0) × (number ≡ 24))
+  booking-told side v s e scratch =
+      rw (own-book o side v s e scratch, o .named .is) (booking-is side v s e scratch)
+
+  audit-told : (scratch : List ℕ)
+      → index-audit img scratch .status ≡ first ((17, not (scratch-ok (pages-in (half-of img) img) scratch)) ∷ [])
+  audit-told scratch = rw (own-audit o scratch, o .named .is) (audit-is scratch)
+
+  pub as-the-book : As-the-book img B
   as-the-book =
       record {
-        instant-end = λ t l. instant-end half img (K .sound) t l .0;
-        instants = instant-is;
-        average-end = average-end;
-        averages = average-is;
-        listings = listing-is;
-        audits = audit-is;
-        bookings = booking-is;
+        instant-end = λ t l. ap (λ (a : Instant). a .status) (own-instant o t) ∙ instant-end half img (K .sound) t l .0;
+        instants = instant-told;
+        average-end = λ t l. own-average o t ∙ average-end t l;
+        averages = average-told;
+        listings = listing-told;
+        audits = audit-told;
+        bookings = booking-told;
       }

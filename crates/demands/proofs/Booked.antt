@@ -20,7 +20,7 @@ use Rattle.fields.specs.Bytes.{Bytes, part}
 use Rattle.page.specs.declared.Head.{Head}
 use Rattle.page.specs.Layout.{page-size}
 use Rattle.page.specs.Fit.{most-changes, most-height}
-use Rattle.image.specs.Images.{Image, page-at, cell-bytes, image-of, image-bytes}
+use Rattle.image.specs.Images.{Image, capacity-field, page-at, cell-bytes, image-of, image-bytes}
 use Rattle.image.specs.Sound.{sound}
 use Rattle.image.specs.Instant.{Lookup, look-up}
 use Rattle.soundness.proofs.Sound.{the-head, sound-facts}
@@ -31,20 +31,17 @@ use Rattle.calls.specs.Accepted.{named}
 use Rattle.calls.proofs.Changes.{effective}
 use Rattle.tree.specs.Tree.{pair-at}
 use Rattle.tree.specs.Cut.{State}
-use Rattle.invariant.specs.Invariant.{Structure, Invariant}
+use Rattle.invariant.specs.Invariant.{Invariant}
 use Rattle.invariant.proofs.From.Load.{state-in}
 use Rattle.invariant.proofs.From.Invariant.{sound-invariant}
 use Rattle.invariant.proofs.From.Canonical.{canonical}
 use Rattle.invariant.proofs.From.Look.{look-invariant}
+use Rattle.image.proofs.Capacity.{field-read}
 use Rattle.image.proofs.Written.{bytes-written}
 use Rattle.invariant.proofs.Change.{next, next-pairs, Changed, change-is, invariant-change}
+use Rattle.invariant.proofs.To.Height.{height-most}
 use Rattle.invariant.proofs.To.Sound.{length-written, page-written, head-read-back, invariant-sound, look-written}
 use Rattle.demands.proofs.Book.Accepted.{Passed, passed}
-
--- What is asked of half the capacity of a page: 12 has it.
-pub record Wide (half : ℕ) : Type 0 where
-  pub two : 2 ≤ half
-  pub low : {kind changes : ℕ} (X : Image) (Y : State) → Structure half kind changes X Y → X .head .height ≤ most-height
 
 -- ---- the image that it leaves
 
@@ -72,16 +69,17 @@ pub record Left-by-change (half : ℕ) (side : Side) (v : ℤ) (s e : ℕ) (img 
   pub kind : head half img′ .kind ≡ head half img .kind
   pub window : head half img′ .window ≡ head half img .window
   pub changes : head half img′ .changes ≡ suc (head half img .changes)
+  pub capacity : capacity-field img′ ≡ capacity-field img
   pub pairs : (t : ℕ) → t < END
       → look-up half img′ t .pair
       ≡ cond (covers s (effect-end e (head half img .window)) t)
       (combine (head half img .kind) (look-up half img t .pair) (effect side v)) (look-up half img t .pair)
   pub frame : (p : ℕ) → ¬ List·Memᴰ p (named half side v s e img) → page-at half img′ p ≡ page-at half img p
 
-module _ {half : ℕ} (wide : Wide half) (side : Side) (v : ℤ) (s e : ℕ) (img : List ℕ) {scratch : List ℕ} (b : Bytes img)
+module _ {half : ℕ} (two : 2 ≤ half) (side : Side) (v : ℤ) (s e : ℕ) (img : List ℕ) {scratch : List ℕ} (b : Bytes img)
     (a : Passed half side v s e img scratch) where
   some : 1 ≤ half
-  some = omega (arith, wide .two)
+  some = omega (arith, two)
 
   abbrev X : Image
   X = image-of half img
@@ -103,7 +101,7 @@ module _ {half : ℕ} (wide : Wide half) (side : Side) (v : ℤ) (s e : ℕ) (im
 
   -- the tree that it shows
   abbrev U : State
-  U = next (wide .two) s end added g
+  U = next two s end added g
 
   f : Effective (X .head .kind) added
   unfolding head image-of
@@ -115,21 +113,21 @@ module _ {half : ℕ} (wide : Wide half) (side : Side) (v : ℤ) (s e : ℕ) (im
 
   g′ : Invariant half Z U
   unfolding head image-of
-  g′ = invariant-change (wide .two) s end added g f few (a .pages)
+  g′ = invariant-change two s end added g f few (a .pages)
 
   c : Changed half s end added X Y
   unfolding head image-of
-  c = change-is (wide .two) s end added g f few (a .pages)
+  c = change-is two s end added g f few (a .pages)
 
   -- the bytes that it had before are those of its cells
   was : image-bytes half X ≡ img
   was = canonical half img some b (a .whole)
 
   tall : X .head .height ≤ most-height
-  tall = wide .low X Y (g .structure)
+  tall = height-most X Y (g .structure) two
 
   tall′ : Z .head .height ≤ most-height
-  tall′ = wide .low Z U (g′ .structure)
+  tall′ = height-most Z U (g′ .structure) two
 
   kept-page : (p : ℕ) → 1 ≤ p → p < X .head .pages → Z .page p ≡ X .page p → page-at half (image-bytes half Z) p ≡ page-at half img p
   kept-page p l r same =
@@ -169,7 +167,7 @@ module _ {half : ℕ} (wide : Wide half) (side : Side) (v : ℤ) (s e : ℕ) (im
       ap (λ (r : Lookup). r .pair) (look-invariant half img some (sound-facts half img (a .whole)) Y (g .structure .shown) t .looked) in
       ap (λ (r : Lookup). r .pair) (look-written half Z U some (g′ .structure) tall′ t .looked)
       ∙ ap (λ n. pair-at (combine n) (U .tree) t) k
-      ∙ next-pairs (wide .two) s end added g t below
+      ∙ next-pairs two s end added g t below
       ∙ ap (λ q. cond (covers s end t) (combine (X .head .kind) q (effect side v)) q) (sym before)
 
   change-leaves : Left-by-change half side v s e img (changed half side v s e img)
@@ -183,14 +181,15 @@ module _ {half : ℕ} (wide : Wide half) (side : Side) (v : ℤ) (s e : ℕ) (im
         kind = ap (λ (k : Head). k .kind) h ∙ c .kind;
         window = ap (λ (k : Head). k .window) h ∙ c .window;
         changes = ap (λ (k : Head). k .changes) h ∙ c .changes;
+        capacity = sym (field-read half (image-bytes half Z) some) ∙ ap (λ (k : Head). k .capacity) h ∙ c .capacity ∙ field-read half img some;
         pairs = paired;
         frame = framed;
       }
 
 -- by the status that it returned
-pub booked : {half : ℕ} → Wide half → (side : Side) (v : ℤ) (s e : ℕ) (img scratch : List ℕ) → Bytes img
+pub booked : {half : ℕ} → 2 ≤ half → (side : Side) (v : ℤ) (s e : ℕ) (img scratch : List ℕ) → Bytes img
     → book half side v s e img scratch .status ≡ 0
     → Left-by-change half side v s e img (book half side v s e img scratch .image)
-booked {half} wide side v s e img scratch b n =
+booked {half} two side v s e img scratch b n =
     rw (image-accepted half side v s e img scratch n)
-    (change-leaves wide side v s e img b (passed half side v s e img scratch n))
+    (change-leaves two side v s e img b (passed half side v s e img scratch n))

@@ -1,6 +1,6 @@
 -- A format that returned 0 leaves an image that agrees with the empty book. Assumes nothing.
 use Prim.Native.Nat.{ℕ, zero, suc, _≤_}
-use mathlib.Core.Path.{_≡_, refl, ap, _∙_}
+use mathlib.Core.Path.{_≡_, refl, sym, ap, _∙_}
 use mathlib.Core.Bool.{true, _&&_, and-eq-true-iff}
 use mathlib.Core.Logic.{inl}
 use mathlib.Core.List.{List}
@@ -14,8 +14,8 @@ use Rattle.rule.specs.Pairs.{none}
 use Rattle.rule.proofs.Laws.{value-or-none-is}
 use Rattle.page.specs.declared.Head.{Head}
 use Rattle.page.specs.Entries.{entry, last-from, index-of}
-use Rattle.page.specs.Fit.{most-height}
-use Rattle.image.specs.Images.{Image, pages-in, length-ok, image-of, image-bytes, fresh}
+use Rattle.page.specs.Fit.{most-height, field-ok}
+use Rattle.image.specs.Images.{Image, capacity-field, pages-in, length-ok, image-of, image-bytes, fresh}
 use Rattle.lists.specs.Lists.{times}
 use Rattle.image.specs.Sound.{sound}
 use Rattle.image.specs.Instant.{Lookup}
@@ -27,15 +27,16 @@ use Rattle.tree.specs.Conserved.{Path-bounded, times-below, times-spare, held}
 use Rattle.refinement.proofs.Fresh.{fresh-state, fresh-represented}
 use Rattle.invariant.specs.Invariant.{Bounds, Structure, Invariant}
 use Rattle.invariant.proofs.From.Invariant.{pages-range}
+use Rattle.image.proofs.Capacity.{field-read}
 use Rattle.image.proofs.Written.{bytes-written}
 use Rattle.invariant.proofs.To.Sound.{head-read-back, invariant-sound, look-written}
 use Rattle.demands.proofs.Rows.{first-none}
 use Rattle.demands.proofs.Invariant.{Trace-invariant}
 
-module _ (half pages kind window : ℕ) (some : 1 ≤ half) (least : 2 ≤ pages) (most : pages ≤ 1024) (k : kind-ok kind ≡ true)
-    (w : window-ok window ≡ true) where
+module _ (half pages kind window field : ℕ) (some : 1 ≤ half) (least : 2 ≤ pages) (most : pages ≤ 1024) (k : kind-ok kind ≡ true)
+    (w : window-ok window ≡ true) (c : field-ok half field ≡ true) where
   abbrev X : Image
-  X = fresh pages kind window
+  X = fresh pages kind window field
 
   fresh-formed : Formed half Leaf (fresh-state .tree)
   unfolding Shaped root-least
@@ -65,14 +66,22 @@ module _ (half pages kind window : ℕ) (some : 1 ≤ half) (least : 2 ≤ pages
   unfolding fresh
   fresh-structure =
       record {
-        shown = fresh-represented pages kind window;
+        shown = fresh-represented pages kind window field;
         formed = fresh-formed;
         once = fresh-held;
         head-apart = head-held;
         kind-is = refl;
         bounds = fresh-bounds;
         changes-most = omega arith;
-        ranges = record { pages-least = least; pages-most = most; mark-most = least; kind-fits = k; window-fits = w };
+        ranges =
+            record {
+              pages-least = least;
+              pages-most = most;
+              mark-most = least;
+              kind-fits = k;
+              window-fits = w;
+              field-fits = c;
+            };
       }
 
   fresh-invariant : Invariant half X fresh-state
@@ -85,6 +94,13 @@ module _ (half pages kind window : ℕ) (some : 1 ≤ half) (least : 2 ≤ pages
   fresh-pair : (rule : Pair → Pair → Pair) (t : ℕ) → pair-in rule 0 t (fresh-state .tree .nodes) ≡ none
   unfolding pair-in pair-under node-of index-of last-from
   fresh-pair rule t = rw (leb·zero t)
+
+  pub field-fresh : capacity-field (image-bytes half X) ≡ field
+  unfolding head image-of
+  field-fresh =
+      sym (field-read half (image-bytes half X) some)
+      ∙ ap (λ (g : Head). g .capacity) (head-read-back half X fresh-state some fresh-structure tall)
+      ∙ unfold fresh in refl
 
   pub kept-fresh : Trace-invariant half (image-bytes half X) (empty-book kind window)
   unfolding head image-of empty-book book-pair items-pair
@@ -103,7 +119,7 @@ module _ (half pages kind window : ℕ) (some : 1 ≤ half) (least : 2 ≤ pages
 
 -- ---- format
 
-module _ (half kind window : ℕ) (img : List ℕ) (n : format half kind window img .status ≡ 0) where
+module _ (half kind window field : ℕ) (img : List ℕ) (n : format half kind window field img .status ≡ 0) where
   record Formatted : Type 0 where
     length-fits : length-ok half img ≡ true
     kind-fits : kind-ok kind ≡ true
@@ -117,9 +133,17 @@ module _ (half kind window : ℕ) (img : List ℕ) (n : format half kind window 
       let c = simp and-eq-true-iff at (not-false (kind-ok kind && window-ok window) (b .0)) in
       record { length-fits = not-false _ (a .0); kind-fits = c .0; window-fits = c .1 }
 
-  pub kept-format : 1 ≤ half → Trace-invariant half (format half kind window img .image) (empty-book kind window)
-  unfolding format
-  kept-format some =
-      let f = formatted in
-      let r = pages-range half img (f .length-fits) in
-      rw n (kept-fresh half (pages-in half img) kind window some (r .0) (r .1) (f .kind-fits) (f .window-fits))
+  module _ (some : 1 ≤ half) (c : field-ok half field ≡ true) where
+    pub kept-format : Trace-invariant half (format half kind window field img .image) (empty-book kind window)
+    unfolding format
+    kept-format =
+        let f = formatted in
+        let r = pages-range half img (f .length-fits) in
+        rw n (kept-fresh half (pages-in half img) kind window field some (r .0) (r .1) (f .kind-fits) (f .window-fits) c)
+
+    pub field-format : capacity-field (format half kind window field img .image) ≡ field
+    unfolding format
+    field-format =
+        let f = formatted in
+        let r = pages-range half img (f .length-fits) in
+        rw n (field-fresh half (pages-in half img) kind window field some (r .0) (r .1) (f .kind-fits) (f .window-fits) c)

@@ -1,6 +1,6 @@
 -- What holds of an image and of its book after every list of calls, and that an accepted change keeps it: the image is sound, and each
 -- instant's pair is the book's. Assumes nothing.
-use Prim.Native.Nat.{ℕ, suc, _<_}
+use Prim.Native.Nat.{ℕ, suc, _≤_, _<_}
 use mathlib.Core.Path.{_≡_, sym, ap, _∙_}
 use mathlib.Core.Bool.{true, cond}
 use mathlib.Core.List.{List}
@@ -15,7 +15,7 @@ use Rattle.calls.specs.Changes.{Side, effect}
 use Rattle.calls.specs.Calls.{head, book}
 use Rattle.calls.specs.Book.{Book, entered, book-pair}
 use Rattle.demands.proofs.Book.Books.{entered-onto}
-use Rattle.demands.proofs.Booked.{Wide, booked}
+use Rattle.demands.proofs.Booked.{booked}
 
 pub record Trace-invariant (half : ℕ) (img : List ℕ) (B : Book) : Type 0 where
   pub bytes : Bytes img
@@ -27,13 +27,13 @@ pub record Trace-invariant (half : ℕ) (img : List ℕ) (B : Book) : Type 0 whe
 
 -- ---- one more change
 
-module _ {half : ℕ} (wide : Wide half) where
+module _ {half : ℕ} (two : 2 ≤ half) where
   module _ (side : Side) (v : ℤ) (s e : ℕ) {img : List ℕ} (scratch : List ℕ) {B : Book} (K : Trace-invariant half img B) where
     pub kept-accepted : book half side v s e img scratch .status ≡ 0
         → Trace-invariant half (book half side v s e img scratch .image) (entered 0 side v s e B)
     unfolding entered
     kept-accepted n =
-        let c = booked wide side v s e img scratch (K .bytes) n in
+        let c = booked two side v s e img scratch (K .bytes) n in
         record {
           bytes = c .bytes;
           sound = c .sound;

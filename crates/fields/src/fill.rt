@@ -24,6 +24,24 @@ pub fn eights_ff(s: &[u8], a: usize, k: usize) -> bool
     all == u64::MAX
 }
 
+// Words in a block: 512 bytes.
+const BLOCK: usize = 64;
+
+// The same of many words: by blocks, whose loop the compiler writes out in full since their length is known, then what is left.
+pub fn blocks_ff(s: &[u8], a: usize, k: usize) -> bool
+    requires { ⌜ a + 8 * k ≤ length (now s) ⌝ }
+    ensures { λ r. ⌜ r ≡ all-are 255 (part (now (s .entry)) a (8 * k)) ⌝ }
+{
+    let blocks = k / BLOCK;
+    let mut ok = true;
+    let mut i = 0;
+    while i < blocks {
+        ok = ok & eights_ff(s, a + 8 * BLOCK * i, BLOCK);
+        i += 1;
+    }
+    ok & eights_ff(s, a + 8 * BLOCK * blocks, k % BLOCK)
+}
+
 // The same of words of four bytes.
 fn fours_ff(s: &[u8], a: usize, k: usize) -> bool
     requires { ⌜ a + 4 * k ≤ length (now s) ⌝ }

@@ -1,4 +1,4 @@
-// "it has 12 to 24 entries (root leaf 1 to 24, inner root 2 to 24)"
+// "it has 12 to 24 entries (root leaf 1 to 24, inner root 2 to 24)", which is K/2 to K at K = 24.
 use page::PageContext;
 use page::at::entry_count;
 use page::layout::capacity;

@@ -18,7 +18,7 @@ pub record Entry-read (e : Entry) (level p i : ℕ) (X : Image) : Type 0 where
   pub has : Has-entry level p i X
   pub read : e ≡ at (entries X p) i
 
--- "A page other than the root left with 11 turns to its left neighbour under the same parent, else the right": the page under the i-th
+-- "A page other than the root left with" K/2 − 1 "turns to its left neighbour under the same parent, else the right": the page under the i-th
 -- entry of page p can. Its sibling gives, or the right one of the two is given back.
 pub record Rebalanceable (half level p i : ℕ) (X : Image) : Type 0 where
   pub siblings : Siblings level p (left-of i) X

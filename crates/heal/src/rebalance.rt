@@ -1,4 +1,4 @@
-// "A page other than the root left with 11 turns to its left neighbour under the same parent, else the right."
+// "A page other than the root left with" K/2 − 1 "turns to its left neighbour under the same parent, else the right."
 use crate::merge::merge;
 use crate::redistribute::redistribute;
 use store::entries::entry_count_in;

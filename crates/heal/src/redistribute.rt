@@ -1,4 +1,4 @@
-// "A neighbour with 13 or more gives its nearest entry, and the right page's parent start follows."
+// "a neighbour gives from K/2 + 1 up": "its nearest entry, and the right page's parent start follows."
 use crate::push::emptied;
 use crate::push::empty_pair;
 use crate::push::push_siblings;

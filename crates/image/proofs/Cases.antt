@@ -5,11 +5,11 @@ use Rattle.rule.specs.Pairs.{same-number, same-pair}
 use Rattle.fields.specs.Bytes.{part, patch, unused, all-are, every}
 use Rattle.fields.specs.Numbers.{num, digits, u32-at, i32-at, i64-at, u32-bytes, i32-bytes, i64-bytes}
 use Rattle.page.specs.Entries.{last-from, index-of}
-use Rattle.page.specs.Layout.{level-of, entry-count, start-at, pair-at, child-at, entry-at, entries-of, unused-ok, entry-bytes, tree-bytes}
+use Rattle.page.specs.Layout.{capacity-ok, capacity-named, level-of, entry-count, start-at, pair-at, child-at, entry-at, entries-of, unused-ok, entry-bytes, tree-bytes}
 use Rattle.page.specs.Layout.{next-of, free-bytes, free-ok, never-used-ok, head-of, head-bytes}
 use Rattle.lists.specs.Lists.{listed, concat-map}
 use Rattle.page.specs.Fit.{root-context, end-at, context-below, fewest, entry-count-ok, starts-ok, child-ok, children-ok, pair-ok, pairs-ok}
-use Rattle.page.specs.Fit.{page-fit, ranges-ok, head-fit}
+use Rattle.page.specs.Fit.{page-fit, ranges-ok, field-ok, head-fit}
 use Rattle.image.specs.Images.{page-at, pages-in, length-ok, cell-bytes, image-bytes}
 use Rattle.image.specs.Sound.{tree-fit, tree-pages, chain-pages, each-once, sound}
 use Rattle.lists.specs.Lists.{times, all-of}
@@ -19,7 +19,7 @@ use Rattle.image.specs.Looks.{pages-of, found-fit, chain-looks, audit-lo
 use Rattle.image.specs.Cases.{cell, pages, both, whole, hurt, Cases}
 
 pub cases : Cases
-unfolding value-ok kind-ok window-ok same-number same-pair part patch unused all-are every num digits u32-at i32-at i64-at u32-bytes i32-bytes i64-bytes last-from index-of level-of entry-count listed start-at pair-at child-at entry-at entries-of unused-ok concat-map entry-bytes tree-bytes next-of free-bytes free-ok never-used-ok head-of head-bytes root-context end-at context-below fewest entry-count-ok starts-ok child-ok children-ok pair-ok pairs-ok page-fit ranges-ok head-fit page-at pages-in length-ok cell-bytes image-bytes tree-fit tree-pages chain-pages times all-of each-once sound overlaps each-in-turn finds-fit all-fit up-to-unfit visits trail entry-of entries-over every-entry instant-trail listing-trail audit-trail pages-of found-fit chain-looks audit-looks cell pages both whole hurt
+unfolding value-ok kind-ok window-ok same-number same-pair part patch unused all-are every num digits u32-at i32-at i64-at u32-bytes i32-bytes i64-bytes last-from index-of level-of entry-count listed start-at pair-at child-at entry-at entries-of unused-ok concat-map entry-bytes tree-bytes next-of free-bytes free-ok never-used-ok head-of head-bytes root-context end-at context-below fewest entry-count-ok starts-ok child-ok children-ok pair-ok pairs-ok page-fit capacity-ok capacity-named ranges-ok field-ok head-fit page-at pages-in length-ok cell-bytes image-bytes tree-fit tree-pages chain-pages times all-of each-once sound overlaps each-in-turn finds-fit all-fit up-to-unfit visits trail entry-of entries-over every-entry instant-trail listing-trail audit-trail pages-of found-fit chain-looks audit-looks cell pages both whole hurt
 cases =
     record {
       whole-sound = refl;

@@ -1,8 +1,9 @@
--- `Sizes` has what a length in range says, `Cells` what a page's bytes are as a cell and which cells are kept, `Rows` pieces of one size
--- one behind another, `Written` the bytes of an image whose pages are kept, and `Puts` those of an image in which one page or the head
+-- `Sizes` has what a length in range says, `Capacity` which capacity an image names, `Cells` what a page's bytes are as a cell and which
+-- cells are kept, `Rows` pieces of one size one behind another, `Written` the bytes of an image whose pages are kept, and `Puts` those of an image in which one page or the head
 -- changed. `Found` has that an instant's entry is one of its page's, `Trails` what an instant and a listing find, by the pages that they
 -- look at. `Runs` has how many runs walks in turn find. `Cases` has the computed cases of the looks of a walk.
 pub mod Sizes
+pub mod Capacity
 pub mod Cells
 pub mod Rows
 pub mod Written

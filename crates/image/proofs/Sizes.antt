@@ -11,7 +11,7 @@ use Rattle.fields.proofs.Laws.Parts.{length-part}
 use Rattle.page.specs.Layout.{page-size}
 use Rattle.image.specs.Images.{page-at, pages-in, length-ok}
 
--- "The image is n pages of 512 bytes, n from 2 to 1,024."
+-- n pages of the bytes that the capacity asks, "n from 2 to 1,024"
 pub record Sized (half : ℕ) (img : List ℕ) : Type 0 where
   pub size : length img ≡ page-size half * pages-in half img
   pub least : 2 ≤ pages-in half img

@@ -42,6 +42,7 @@ pages n first chain mark root =
             kind = 1;
             window = 0;
             changes = 0;
+            capacity = 4;
           };
       page = cell root;
     })

@@ -1,5 +1,5 @@
 -- Document 01, "The page": "The image is n pages of 512 bytes, n from 2 to 1,024." The image as bytes, and as the pages that
--- the steps of a change work on. Assumes nothing.
+-- the steps of a change work on. Its pages have the bytes that its capacity asks: document 02, (xi). Assumes nothing.
 use Prim.Native.Nat.{ℕ, suc, _+_, _*_, _-_, _/_}
 use mathlib.Core.Path.{_≡_}
 use mathlib.Core.Bool.{Bool, cond, _&&_}
@@ -8,11 +8,19 @@ use lib.ListN.{length}
 use lib.Dec.{eqb, leb}
 use Rattle.rule.specs.Pairs.{none}
 use Rattle.fields.specs.Bytes.{part, unused}
+use Rattle.fields.specs.Numbers.{u32-at}
 use Rattle.page.specs.declared.Entry.{Entry}
 use Rattle.page.specs.declared.Head.{Head}
 use Rattle.page.specs.Entries.{entry}
-use Rattle.page.specs.Layout.{page-size, level-of, entries-of, next-of, free-level, head-of, tree-bytes, free-bytes, head-bytes}
+use Rattle.page.specs.Layout.{half-named, page-size, level-of, entries-of, next-of, free-level, head-of, tree-bytes, free-bytes, head-bytes}
 use Rattle.lists.specs.Lists.{listed, concat-map}
+
+-- "In an image K is read before the length is judged": the head's field for it, and half of the capacity that it names
+unfoldable pub capacity-field : List ℕ → ℕ
+capacity-field img = u32-at img 36
+
+unfoldable pub half-of : List ℕ → ℕ
+half-of img = half-named (capacity-field img)
 
 -- the bytes of page p
 unfoldable pub page-at : ℕ → List ℕ → ℕ → List ℕ
@@ -78,12 +86,13 @@ pub record Canonical (half : ℕ) (c : Cell) : Type 0 where
   pub sized : length (cell-bytes half c) ≡ page-size half
   pub again : cell-of half (cell-bytes half c) ≡ c
 
--- "Format leaves height 1, changes 0, high mark 2, no chain and root 1, a leaf with entry 0, (0, 0)."
+-- "Format leaves height 1, changes 0, high mark 2, no chain and root 1, a leaf with entry 0, (0, 0)." The last number is the capacity's
+-- field.
 unfoldable pub fresh-page : ℕ → Cell
 fresh-page p = cond (eqb p 1) (tree 0 (entry 0 none 0 ∷ [])) never-used
 
-unfoldable pub fresh : ℕ → ℕ → ℕ → Image
-fresh pages kind window =
+unfoldable pub fresh : ℕ → ℕ → ℕ → ℕ → Image
+fresh pages kind window field =
     record {
       head =
           record {
@@ -96,6 +105,7 @@ fresh pages kind window =
             kind = kind;
             window = window;
             changes = 0;
+            capacity = field;
           };
       page = fresh-page;
     }

@@ -37,9 +37,9 @@ chain-pages half img (suc most) p = cond (eqb p 0) [] (p ∷ chain-pages half im
 unfoldable pub each-once : ℕ → List ℕ → List ℕ → Bool
 each-once mark tree chain = every (mark - 1) (λ i. eqb (times (suc i) tree + times (suc i) chain) 1)
 
--- "The image is n pages of 512 bytes, n from 2 to 1,024.": bytes of another length are no sound image, whatever they show. "An image
--- is sound if head and all tree pages are fit, each page below the high mark except 0 is once in the tree or once in the chain, the
--- chain length is true, and free and never used pages read as above."
+-- "The image is n pages of 512 bytes, n from 2 to 1,024", at other capacities of 32 + 20 × K: bytes of another length are no sound image,
+-- whatever they show. "An image is sound if head and all tree pages are fit, each page below the high mark except 0 is once in the tree or
+-- once in the chain, the chain length is true, and free and never used pages read as above."
 unfoldable pub sound : ℕ → List ℕ → Bool
 sound half img =
     let n = pages-in half img in

@@ -41,6 +41,7 @@ pub record Changed (half s e : ℕ) (p : Pair) (X : Image) (Y : State) : Type 0 
   pub kind : change-x half (combine (X .head .kind)) s e p X .head .kind ≡ X .head .kind
   pub window : change-x half (combine (X .head .kind)) s e p X .head .window ≡ X .head .window
   pub changes : change-x half (combine (X .head .kind)) s e p X .head .changes ≡ suc (X .head .changes)
+  pub capacity : change-x half (combine (X .head .kind)) s e p X .head .capacity ≡ X .head .capacity
 
 module _ {half : ℕ} (two : 2 ≤ half) (s e : ℕ) (p : Pair) {X : Image} {Y : State} (g : Invariant half X Y) where
   abbrev kind : ℕ
@@ -138,6 +139,7 @@ module _ {half : ℕ} (two : 2 ≤ half) (s e : ℕ) (p : Pair) {X : Image} {Y :
           kind = h .kind;
           window = h .window;
           changes = ap suc (h .changes);
+          capacity = h .capacity;
         }
 
     pub invariant-change : Invariant half (change-x half rule s e p X) next

@@ -13,7 +13,7 @@ use Rattle.rule.specs.Time.{most-value, kind-ok, window-ok}
 use Rattle.rule.specs.Pairs.{combine}
 use Rattle.rule.specs.Bounds.{Effective}
 use Rattle.rule.proofs.Laws.{lawful}
-use Rattle.page.specs.Fit.{most-changes}
+use Rattle.page.specs.Fit.{most-changes, field-ok}
 use Rattle.page.specs.declared.Head.{Head}
 use Rattle.image.specs.Images.{Image}
 use Rattle.steps.specs.Supply.{count-change, pages-taken}
@@ -78,16 +78,19 @@ combine-bounds kind n s e p Y f b =
       values = λ k. combine-within (values-bounded kind k) 0 s e p (f .value k) Y (b .values k);
     }
 
--- ---- the head's ranges: they go by its pages, high mark, kind and window
+-- ---- the head's ranges: they go by its pages, high mark, kind, window and capacity
 
-ranged : {h g : Head} → Ranges h → g .pages ≡ h .pages → g .mark ≤ g .pages → g .kind ≡ h .kind → g .window ≡ h .window → Ranges g
-ranged r pages mark kind window =
+ranged : {half : ℕ} {h g : Head} → Ranges half h → g .pages ≡ h .pages → g .mark ≤ g .pages → g .kind ≡ h .kind → g .window ≡ h .window
+    → g .capacity ≡ h .capacity
+    → Ranges half g
+ranged {half} r pages mark kind window capacity =
     record {
       pages-least = omega (arith, r .pages-least);
       pages-most = omega (arith, r .pages-most);
       mark-most = mark;
       kind-fits = ap kind-ok kind ∙ r .kind-fits;
       window-fits = ap window-ok window ∙ r .window-fits;
+      field-fits = ap (field-ok half) capacity ∙ r .field-fits;
     }
 
 -- ---- what a step leaves, if its tree is formed and bounded and its high mark lies in the image
@@ -108,7 +111,8 @@ kept g d formed bounds few mark =
       kind-is = h .kind ∙ g .kind-is;
       bounds = bounds;
       changes-most = few;
-      ranges = ranged (g .ranges) (h .pages) (omega (arith, h .pages, d .shown .supplied .mark, mark)) (h .kind) (h .window);
+      ranges =
+          ranged (g .ranges) (h .pages) (omega (arith, h .pages, d .shown .supplied .mark, mark)) (h .kind) (h .window) (h .capacity);
     }
 
 -- counting the change sets nothing that the structure speaks of
@@ -123,7 +127,7 @@ counted-keeps g =
       kind-is = g .kind-is;
       bounds = g .bounds;
       changes-most = g .changes-most;
-      ranges = ranged (g .ranges) refl (g .ranges .mark-most) refl refl;
+      ranges = ranged (g .ranges) refl (g .ranges .mark-most) refl refl refl;
     }
 
 -- ---- the steps

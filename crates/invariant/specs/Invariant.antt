@@ -10,7 +10,7 @@ use Rattle.rule.specs.declared.Pair.{Pair}
 use Rattle.rule.specs.Time.{most-value, kind-ok, window-ok}
 use Rattle.rule.specs.Bounds.{value-or-none}
 use Rattle.page.specs.declared.Head.{Head}
-use Rattle.page.specs.Fit.{most-changes}
+use Rattle.page.specs.Fit.{most-changes, field-ok}
 use Rattle.image.specs.Images.{Image}
 use Rattle.tree.specs.Tree.{Tree}
 use Rattle.tree.specs.Cut.{State}
@@ -33,12 +33,13 @@ pub record Bounds (kind changes : ℕ) (T : Tree) : Type 0 where
   pub values : eqb kind 1 ≡ false → All (Path-bounded (λ p. 0) Value-or-none 0 (T .level) 0) (T .nodes)
 
 -- the head's numbers, but for those that tree and supply show and for the changes
-pub record Ranges (h : Head) : Type 0 where
+pub record Ranges (half : ℕ) (h : Head) : Type 0 where
   pub pages-least : 2 ≤ h .pages
   pub pages-most : h .pages ≤ 1024
   pub mark-most : h .mark ≤ h .pages
   pub kind-fits : kind-ok (h .kind) ≡ true
   pub window-fits : window-ok (h .window) ≡ true
+  pub field-fits : field-ok half (h .capacity) ≡ true
 
 -- The structure of an image of this kind, whose pairs are bounded for so many changes: "each page below the high mark except 0 is once in
 -- the tree or once in the chain". Between the steps the effect may stand in the pairs while the head doesn't count the change yet, so the
@@ -51,7 +52,7 @@ pub record Structure (half kind changes : ℕ) (X : Image) (Y : State) : Type 0 
   pub kind-is : X .head .kind ≡ kind
   pub bounds : Bounds kind changes (Y .tree)
   pub changes-most : changes ≤ most-changes
-  pub ranges : Ranges (X .head)
+  pub ranges : Ranges half (X .head)
 
 -- Tree and supply as a sound image has them: the structure, for the changes that the head counts. What a cut undoes and a change restores
 -- is a field of its own here, beside the structure.

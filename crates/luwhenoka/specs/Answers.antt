@@ -1,14 +1,24 @@
 -- The answers as C gets them, in the words of the calls' definitions. Assumes nothing.
 use Prim.Native.Nat.{ℕ}
+use mathlib.Core.Bool.{cond}
 use mathlib.Core.List.{List}
+use lib.Dec.{eqb}
 use lib.IntN.{pos}
 use Rattle.rule.specs.declared.Pair.{Pair}
 use Rattle.rule.specs.declared.Average.{Average}
 use Rattle.rule.specs.declared.Average.the-variants.{Hundredths, Nothing, Beyond}
+use Rattle.image.specs.Images.{half-of}
 use Rattle.calls.specs.Calls.{Instant, Averaged, Listed}
+use Rattle.calls.specs.Index.{judge}
+use Rattle.luwhenoka.specs.declared.Judged.{Judged}
+use Rattle.luwhenoka.specs.declared.Judged.the-variants.{Half, Refused}
 use Rattle.luwhenoka.specs.declared.InstantAnswer.{InstantAnswer}
 use Rattle.luwhenoka.specs.declared.AverageAnswer.{AverageAnswer}
 use Rattle.luwhenoka.specs.declared.ListingAnswer.{ListingAnswer}
+
+-- half the capacity that an image names, or the status of the first of the rows ahead that turns a call back
+unfoldable pub judgement : List ℕ → Judged
+judgement img = cond (eqb (judge img) 0) (Half (half-of img)) (Refused (judge img))
 
 -- the numbers of an instant call's answer
 unfoldable pub instant-answer : Instant → InstantAnswer

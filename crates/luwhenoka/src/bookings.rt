@@ -1,6 +1,7 @@
 // A booking entered or withdrawn.
+use crate::Judged;
+use crate::judge::judge;
 use booking::book::book;
-use page::layout::HALF;
 ghost use Rattle.calls.specs.Changes.{entering, withdrawing};
 ghost use Rattle.luwhenoka.specs.Promises.{Books};
 
@@ -9,7 +10,10 @@ ghost use Rattle.luwhenoka.specs.Promises.{Books};
 pub extern "C" fn luw_enter(img: &mut [u8], scratch: &mut [u8], v: i64, s: u32, e: u32) -> u32
     ensures { λ r. ⌜ Books entering v s e (now (img .entry)) (now (scratch .entry)) r (now (img .exit)) (now (scratch .exit)) ⌝ }
 {
-    book(HALF, img, scratch, false, v, s, e)
+    match judge(img) {
+        Judged::Half(half) => book(half, img, scratch, false, v, s, e),
+        Judged::Refused(status) => status,
+    }
 }
 
 // "a withdrawal (−v, −1), whether or not such a booking is live".
@@ -17,5 +21,8 @@ pub extern "C" fn luw_enter(img: &mut [u8], scratch: &mut [u8], v: i64, s: u32, 
 pub extern "C" fn luw_withdraw(img: &mut [u8], scratch: &mut [u8], v: i64, s: u32, e: u32) -> u32
     ensures { λ r. ⌜ Books withdrawing v s e (now (img .entry)) (now (scratch .entry)) r (now (img .exit)) (now (scratch .exit)) ⌝ }
 {
-    book(HALF, img, scratch, true, v, s, e)
+    match judge(img) {
+        Judged::Half(half) => book(half, img, scratch, true, v, s, e),
+        Judged::Refused(status) => status,
+    }
 }

@@ -1,5 +1,7 @@
 // "An instant's answer combines the pairs on its way from root to leaf."
 use crate::InstantAnswer;
+use crate::Judged;
+use crate::judge::judge;
 use access::HeadCheck;
 use access::heads::open_head;
 use access::lengths::length_fits;
@@ -9,11 +11,12 @@ use calls::refusals::INSTANT_END;
 use calls::refusals::UNSOUND;
 use lookup::LookupAnswer;
 use lookup::look_up::look_up;
-use page::layout::HALF;
 use rule::Pair;
 use rule::limits::END;
 ghost use mathlib.Core.Path.{_≡_};
+ghost use Prim.Native.Nat.{_≤_};
 ghost use Rattle.rule.specs.Pairs.{none};
+ghost use Rattle.calls.specs.Calls.{instant};
 ghost use Rattle.luwhenoka.specs.Answers.{instant-answer};
 ghost use Rattle.luwhenoka.specs.Promises.{Answers};
 
@@ -40,22 +43,33 @@ fn accepted(pair: Pair, pages: u32) -> InstantAnswer
     }
 }
 
-// The pair at t, and how many tree pages were read. The order is 16, 12, 21.
-#[no_mangle]
-pub extern "C" fn luw_instant(img: &[u8], t: u32) -> InstantAnswer
-    ensures { λ r. ⌜ Answers t (now (img .entry)) r ⌝ }
+// The pair at t, and how many tree pages were read, by half the capacity. The order is 16, 12, 21.
+pub(crate) fn instant(half: usize, img: &[u8], t: u32) -> InstantAnswer
+    requires { ⌜ (2 ≤ half) × (half ≤ 12) ⌝ }
+    ensures { λ r. ⌜ r ≡ instant-answer (instant half t (now (img .entry))) ⌝ }
 {
-    if !length_fits(HALF, img) {
+    if !length_fits(half, img) {
         return refused(IMAGE_LENGTH, 0);
     }
     if t == END {
         return refused(INSTANT_END, 0);
     }
-    let HeadCheck::Fit(h) = open_head(HALF, img) else {
+    let HeadCheck::Fit(h) = open_head(half, img) else {
         return refused(UNSOUND, 0);
     };
-    match look_up(HALF, img, h, t) {
+    match look_up(half, img, h, t) {
         LookupAnswer::Answered(pair, pages) => accepted(pair, pages),
         LookupAnswer::Unfit(pages) => refused(UNSOUND, pages),
+    }
+}
+
+// The same by the capacity that the image names.
+#[no_mangle]
+pub extern "C" fn luw_instant(img: &[u8], t: u32) -> InstantAnswer
+    ensures { λ r. ⌜ Answers t (now (img .entry)) r ⌝ }
+{
+    match judge(img) {
+        Judged::Half(half) => instant(half, img, t),
+        Judged::Refused(status) => refused(status, 0),
     }
 }

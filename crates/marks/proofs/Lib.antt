@@ -2,3 +2,4 @@ pub mod Opened
 pub mod Marks
 pub mod Cases
 pub mod Looks
+pub mod Capacities

@@ -16,7 +16,8 @@ use Rattle.image.specs.Images.{page-at, image-bytes, fresh}
 use Rattle.image.specs.Sound.{sound}
 use Rattle.image.specs.Listing.{run}
 use Rattle.calls.specs.Changes.{Side, entering, withdrawing}
-use Rattle.calls.specs.Calls.{head, format, book, instant, listing, audit, runs-over}
+use Rattle.calls.specs.Calls.{head, runs-over}
+use Rattle.calls.specs.Index.{index-format, index-book, index-instant, index-listing, index-audit}
 use Rattle.calls.specs.Program.{program}
 use Rattle.marks.specs.Marks.{half, formatted, status, after, pair-of, full-listing, one-booking}
 
@@ -26,11 +27,11 @@ with-byte o b s = patch s o (b ∷ [])
 
 -- one change on pages of four entries, with scratch enough for six pages
 unfoldable pub step : Side → ℤ → ℕ → ℕ → List ℕ → List ℕ
-step side v s e img = book 2 side v s e img (replicate 6 7) .image
+step side v s e img = index-book side v s e img (replicate 6 7) .image
 
 -- n pages of four entries, freshly formatted
 unfoldable pub small : ℕ → List ℕ
-small n = format 2 1 0 (replicate (112 * n) 0) .image
+small n = index-format 1 0 4 (replicate (112 * n) 0) .image
 
 -- two bookings that split the root leaf; the second withdrawn; and entered once more
 unfoldable pub grown-root : List ℕ
@@ -88,19 +89,19 @@ pub record Cases : Type 0 where
   pub clip : runs-over half 20 30 one-booking ≡ run 20 (pair (pos 6) (pos 1)) ∷ []
   pub clip-3 : runs-over half 20 41 one-booking ≡ run 20 (pair (pos 6) (pos 1)) ∷ run 40 none ∷ []
   -- At height 2 two pages are read, a leaf that is hurt counts, and after a hurt root no page.
-  pub pages-2 : instant 2 10 grown-root ≡ record { status = 0; pair = pair (pos 1) (pos 1); pages = 2 }
+  pub pages-2 : index-instant 10 grown-root ≡ record { status = 0; pair = pair (pos 1) (pos 1); pages = 2 }
   pub height-2 : runs-over 2 0 END grown-root ≡ run 0 none ∷ run 10 (pair (pos 1) (pos 1)) ∷ run 15 none
       ∷ run 20 (pair (pos 1) (pos 1)) ∷ run 25 none ∷ []
-  pub pages-hurt-leaf : instant 2 21 hurt-leaf ≡ record { status = 21; pair = none; pages = 2 }
-  pub left-leaf-unhurt : instant 2 11 hurt-leaf ≡ record { status = 0; pair = pair (pos 1) (pos 1); pages = 2 }
-  pub pages-hurt-root : instant 2 11 hurt-root ≡ record { status = 21; pair = none; pages = 1 }
-  pub pages-end : instant 2 END hurt-root ≡ record { status = 12; pair = none; pages = 0 }
+  pub pages-hurt-leaf : index-instant 21 hurt-leaf ≡ record { status = 21; pair = none; pages = 2 }
+  pub left-leaf-unhurt : index-instant 11 hurt-leaf ≡ record { status = 0; pair = pair (pos 1) (pos 1); pages = 2 }
+  pub pages-hurt-root : index-instant 11 hurt-root ≡ record { status = 21; pair = none; pages = 1 }
+  pub pages-end : index-instant END hurt-root ≡ record { status = 12; pair = none; pages = 0 }
   -- A page that starts at b is not met.
-  pub b-starts-hurt : listing 2 0 15 hurt-leaf [] .status ≡ 15
-  pub b-past-hurt : listing 2 0 16 hurt-leaf [] .status ≡ 21
+  pub b-starts-hurt : index-listing 0 15 hurt-leaf [] .status ≡ 15
+  pub b-past-hurt : index-listing 0 16 hurt-leaf [] .status ≡ 21
   -- 15 goes by bytes, and bytes past the last run keep what they held.
-  pub out-31 : listing half 0 40 one-booking (replicate 31 9) ≡ record { status = 15; runs = 0; output = replicate 31 9 }
-  pub out-33 : listing half 0 40 one-booking (replicate 33 9) ≡
+  pub out-31 : index-listing 0 40 one-booking (replicate 31 9) ≡ record { status = 15; runs = 0; output = replicate 31 9 }
+  pub out-33 : index-listing 0 40 one-booking (replicate 33 9) ≡
       record {
         status = 0;
         runs = 2;
@@ -108,13 +109,13 @@ pub record Cases : Type 0 where
             ∷ 0 ∷ 0 ∷ 6 ∷ 0 ∷ 0 ∷ 0 ∷ 0 ∷ 0 ∷ 0 ∷ 0 ∷ 9 ∷ [];
       }
   -- Scratch is untouched at 13 and 17; at 22 and 0 its n bytes are 0 and those beyond keep theirs.
-  pub scratch-13 : book half entering (pos 1000001) 10 40 (formatted 2 1 0) (7 ∷ 7 ∷ 7 ∷ []) .scratch ≡ 7 ∷ 7 ∷ 7 ∷ []
-  pub scratch-22 : book half withdrawing (pos 1) 10 40 (formatted 2 2 0) (7 ∷ 7 ∷ 7 ∷ []) .scratch ≡ 0 ∷ 0 ∷ 7 ∷ []
-  pub scratch-0 : book half entering (pos 1) 10 40 (formatted 2 1 0) (7 ∷ 7 ∷ 7 ∷ []) .scratch ≡ 0 ∷ 0 ∷ 7 ∷ []
-  pub scratch-17 : book half entering (pos 1) 10 10 (formatted 2 1 0) (7 ∷ []) ≡
+  pub scratch-13 : index-book entering (pos 1000001) 10 40 (formatted 2 1 0) (7 ∷ 7 ∷ 7 ∷ []) .scratch ≡ 7 ∷ 7 ∷ 7 ∷ []
+  pub scratch-22 : index-book withdrawing (pos 1) 10 40 (formatted 2 2 0) (7 ∷ 7 ∷ 7 ∷ []) .scratch ≡ 0 ∷ 0 ∷ 7 ∷ []
+  pub scratch-0 : index-book entering (pos 1) 10 40 (formatted 2 1 0) (7 ∷ 7 ∷ 7 ∷ []) .scratch ≡ 0 ∷ 0 ∷ 7 ∷ []
+  pub scratch-17 : index-book entering (pos 1) 10 10 (formatted 2 1 0) (7 ∷ []) ≡
       record { status = 17; image = formatted 2 1 0; scratch = 7 ∷ [] }
   -- 21 stands ahead of 22, and 22 ahead of 23.
-  pub order-21-22 : status withdrawing (pos 1) 10 40 (with-byte 40 0 (formatted 2 2 0)) ≡ 21
+  pub order-21-22 : status withdrawing (pos 1) 10 40 (with-byte 44 0 (formatted 2 2 0)) ≡ 21
   pub order-22-23 : status withdrawing (pos 1) 10 40 (patch (formatted 2 2 0) 32 (u32-bytes 1000000000)) ≡ 22
   pub order-23 : status entering (pos 1) 10 40 (patch (formatted 2 2 0) 32 (u32-bytes 1000000000)) ≡ 23
   -- An effect past END ends there.
@@ -135,21 +136,21 @@ pub record Cases : Type 0 where
   pub length-exact : sound half (formatted 2 1 0) ≡ true
   pub length-over : sound half (formatted 2 1 0 ++ (255 ∷ [])) ≡ false
   pub length-under : sound half (part (formatted 2 1 0) 0 1023) ≡ false
-  pub length-1025 : sound 2 (image-bytes 2 (fresh 1025 1 0)) ≡ false
+  pub length-1025 : sound 2 (image-bytes 2 (fresh 1025 1 0 4)) ≡ false
   -- An image that has no history is changed like any other: its leaf's entries stay, and what is left is sound.
   pub unhealed-sound : sound 2 unhealed ≡ true
   pub unhealed-left : entries-of 2 (page-at 2 (step entering (pos 1) 20 25 unhealed) 1) ≡
       entry 0 none 0 ∷ entry 10 none 0 ∷ entry 20 (pair (pos 1) (pos 1)) 0 ∷ entry 25 none 0 ∷ []
   pub unhealed-after : sound 2 (step entering (pos 1) 20 25 unhealed) ≡ true
   -- The chain length is true.
-  pub chain-length : audit half (with-byte 16 1 (formatted 2 1 0)) (0 ∷ 0 ∷ []) .status ≡ 21
+  pub chain-length : index-audit (with-byte 16 1 (formatted 2 1 0)) (0 ∷ 0 ∷ []) .status ≡ 21
   -- A split root: the leaf takes first, the root after it, and the old page keeps its half.
   pub grown-head : head 2 grown-root ≡
-      record { pages = 4; height = 2; root = 3; free = 0; chain = 0; mark = 4; kind = 1; window = 0; changes = 2 }
+      record { pages = 4; height = 2; root = 3; free = 0; chain = 0; mark = 4; kind = 1; window = 0; changes = 2; capacity = 4 }
   pub grown-entries : entries-of 2 (page-at 2 grown-root 3) ≡ entry 0 none 1 ∷ entry 15 none 2 ∷ []
   -- The bytes of a head, of a leaf, of its entries.
-  pub head-bytes : part (formatted 3 2 20) 0 40 ≡ 3 ∷ 0 ∷ 0 ∷ 0 ∷ 1 ∷ 0 ∷ 0 ∷ 0 ∷ 1 ∷ 0 ∷ 0 ∷ 0 ∷ 0 ∷ 0 ∷ 0 ∷ 0 ∷ 0 ∷ 0 ∷ 0 ∷ 0 ∷ 2
-      ∷ 0 ∷ 0 ∷ 0 ∷ 2 ∷ 0 ∷ 0 ∷ 0 ∷ 20 ∷ 0 ∷ 0 ∷ 0 ∷ 0 ∷ 0 ∷ 0 ∷ 0 ∷ 255 ∷ 255 ∷ 255 ∷ 255 ∷ []
+  pub head-bytes : part (formatted 3 2 20) 0 44 ≡ 3 ∷ 0 ∷ 0 ∷ 0 ∷ 1 ∷ 0 ∷ 0 ∷ 0 ∷ 1 ∷ 0 ∷ 0 ∷ 0 ∷ 0 ∷ 0 ∷ 0 ∷ 0 ∷ 0 ∷ 0 ∷ 0 ∷ 0 ∷ 2
+      ∷ 0 ∷ 0 ∷ 0 ∷ 2 ∷ 0 ∷ 0 ∷ 0 ∷ 20 ∷ 0 ∷ 0 ∷ 0 ∷ 0 ∷ 0 ∷ 0 ∷ 0 ∷ 24 ∷ 0 ∷ 0 ∷ 0 ∷ 255 ∷ 255 ∷ 255 ∷ 255 ∷ []
   pub leaf-bytes : part (after entering (negsuc 5) 10 40 (formatted 2 1 0)) 512 48 ≡ 0 ∷ 0 ∷ 0 ∷ 0 ∷ 3 ∷ 0 ∷ 0 ∷ 0 ∷ 255 ∷ 255 ∷ 255
       ∷ 255 ∷ 255 ∷ 255 ∷ 255 ∷ 255 ∷ 255 ∷ 255 ∷ 255 ∷ 255 ∷ 255 ∷ 255 ∷ 255 ∷ 255 ∷ 255 ∷ 255 ∷ 255 ∷ 255 ∷ 255 ∷ 255 ∷ 255 ∷ 255
       ∷ 0 ∷ 0 ∷ 0 ∷ 0 ∷ 10 ∷ 0 ∷ 0 ∷ 0 ∷ 40 ∷ 0 ∷ 0 ∷ 0 ∷ 255 ∷ 255 ∷ 255 ∷ 255 ∷ []
@@ -163,13 +164,13 @@ pub record Cases : Type 0 where
   pub free-last : part collapsed-again (112 * 2) 9 ≡ 255 ∷ 0 ∷ 0 ∷ 0 ∷ 0 ∷ 0 ∷ 0 ∷ 0 ∷ 255 ∷ []
   -- Pages are taken from the front of the chain.
   pub chain-first : head 2 again ≡
-      record { pages = 6; height = 2; root = 2; free = 0; chain = 0; mark = 4; kind = 1; window = 0; changes = 4 }
+      record { pages = 6; height = 2; root = 2; free = 0; chain = 0; mark = 4; kind = 1; window = 0; changes = 4; capacity = 4 }
   pub chain-root : entries-of 2 (page-at 2 again 2) ≡ entry 0 none 1 ∷ entry 15 none 3 ∷ []
   -- Absolute sums add up along the path; and every entry of a page that is met is asked.
-  pub path-bound : instant 2 0 (patch grown-root (3 * 112 + 48) (i64-bytes (pos 2000000))) ≡ record { status = 21; pair = none; pages = 2 }
-  pub path-within : instant 2 0 (patch grown-root (3 * 112 + 48) (i64-bytes (pos 1999999))) ≡
+  pub path-bound : index-instant 0 (patch grown-root (3 * 112 + 48) (i64-bytes (pos 2000000))) ≡ record { status = 21; pair = none; pages = 2 }
+  pub path-within : index-instant 0 (patch grown-root (3 * 112 + 48) (i64-bytes (pos 1999999))) ≡
       record { status = 0; pair = pair (pos 1999999) (pos 0); pages = 2 }
-  pub other-entry : instant half 5 (patch one-booking (512 + 32 + 96 + 16) (i64-bytes (pos 1000001))) ≡
+  pub other-entry : index-instant 5 (patch one-booking (512 + 32 + 96 + 16) (i64-bytes (pos 1000001))) ≡
       record { status = 21; pair = none; pages = 1 }
   -- A page split below the root: the parent gains an entry with the same pair.
   pub parent-pair-3 : entries-of 2 (page-at 2 split-below 3) ≡ entry 0 (pair (negsuc 1) (negsuc 0)) 1

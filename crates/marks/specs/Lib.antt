@@ -1,3 +1,4 @@
 pub mod Marks
 pub mod Cases
 pub mod Looks
+pub mod Capacities

@@ -14,29 +14,30 @@ use Rattle.image.specs.Images.{pages-in, page-at}
 use Rattle.image.specs.Listing.{Run, run}
 use Rattle.page.specs.Layout.{entry-count}
 use Rattle.calls.specs.Changes.{Side, entering, withdrawing}
-use Rattle.calls.specs.Calls.{head, format, book, instant, runs-over}
+use Rattle.calls.specs.Calls.{head, runs-over}
+use Rattle.calls.specs.Index.{index-format, index-book, index-instant}
 
--- The capacity is document 01's: 24.
+-- "The program and document 01's cases keep K = 24."
 abbrev pub half : ℕ
 half = 12
 
 -- a freshly formatted image of n pages, which held zeros before
 unfoldable pub formatted : ℕ → ℕ → ℕ → List ℕ
-formatted n kind window = format half kind window (replicate (512 * n) 0) .image
+formatted n kind window = index-format kind window 24 (replicate (512 * n) 0) .image
 
 -- the status of a booking on an image, with a scratch of one byte a page, and the image that it leaves
 unfoldable pub status : Side → ℤ → ℕ → ℕ → List ℕ → ℕ
-status side v s e img = book half side v s e img (replicate (pages-in half img) 7) .status
+status side v s e img = index-book side v s e img (replicate (pages-in half img) 7) .status
 
 unfoldable pub after : Side → ℤ → ℕ → ℕ → List ℕ → List ℕ
-after side v s e img = book half side v s e img (replicate (pages-in half img) 7) .image
+after side v s e img = index-book side v s e img (replicate (pages-in half img) 7) .image
 
 unfoldable pub pair-of : ℕ → List ℕ → Pair
-pair-of t img = instant half t img .pair
+pair-of t img = index-instant t img .pair
 
 -- the status of an instant call with it: a refusal has (0, 0) too
 unfoldable pub status-and-pair : ℕ → List ℕ → ℕ × Pair
-status-and-pair t img = (instant half t img .status, pair-of t img)
+status-and-pair t img = (index-instant t img .status, pair-of t img)
 
 unfoldable pub full-listing : List ℕ → List Run
 full-listing img = runs-over half 0 END img
@@ -68,7 +69,7 @@ example =
 
 pub record Marks : Type 0 where
   -- * "Fresh: instant 0 gives (0, 0), 1 page read."
-  pub fresh : instant half 0 (formatted 64 1 0) ≡ record { status = 0; pair = none; pages = 1 }
+  pub fresh : index-instant 0 (formatted 64 1 0) ≡ record { status = 0; pair = none; pages = 1 }
   -- * "Enter 6 on [10, 40): instant 9 (0, 0); * 10 and 39 (6, 1); * 40 (0, 0)."
   pub enters : status entering (pos 6) 10 40 (formatted 64 1 0) ≡ 0
   pub before : status-and-pair 9 one-booking ≡ (0, none)

@@ -10,7 +10,7 @@ use Rattle.rule.specs.Bounds.{value-or-none}
 use Rattle.fields.specs.Bytes.{part, all-are, every}
 use Rattle.page.specs.declared.Head.{Head}
 use Rattle.page.specs.declared.PageContext as declared
-use Rattle.page.specs.Layout.{capacity, page-size, level-of, entry-count, start-at, pair-at, child-at, unused-ok, head-of}
+use Rattle.page.specs.Layout.{capacity, capacity-ok, capacity-named, page-size, level-of, entry-count, start-at, pair-at, child-at, unused-ok, head-of}
 
 -- A page's place in the tree, as the code has it (src/lib.rt).
 abbrev pub Page-context : Type 0
@@ -36,7 +36,7 @@ context-below half s at i =
       counts = at .counts + natAbs (pair-at half s i .count);
     }
 
--- "it has 12 to 24 entries (root leaf 1 to 24, inner root 2 to 24)"
+-- "it has 12 to 24 entries (root leaf 1 to 24, inner root 2 to 24)", which is K/2 to K at K = 24
 unfoldable pub fewest : ℕ → Page-context → ℕ
 fewest half at = cond (at .«is_root») (cond (eqb (at .level) 0) 1 2) half
 
@@ -81,12 +81,13 @@ page-fit half h at s =
     && pairs-ok half h at s))))
 
 -- "The head is fit if n matches the length, changes ≤ 1,000,000,000, the root lies in 1 to n−1, the chain's first page is 0
--- or there, the other fields keep the ranges named, and its rest is FF." The chain's length has no range of its own.
+-- or there, the other fields keep the ranges named, and its rest is FF." The chain's length has no range of its own. Document 02, (xi): "the
+-- head's range becomes 1 to 10 at every K".
 abbrev pub most-changes : ℕ
 most-changes = 1000000000
 
 abbrev pub most-height : ℕ
-most-height = 4
+most-height = 10
 
 unfoldable pub ranges-ok : ℕ → Head → Bool
 ranges-ok pages h =
@@ -99,5 +100,11 @@ ranges-ok pages h =
     && (window-ok (h .window)
     && leb (h .changes) most-changes))))))
 
+-- the field names a capacity, and the one by which the page is read
+unfoldable pub field-ok : ℕ → ℕ → Bool
+field-ok half field = capacity-ok (capacity-named field) && eqb (capacity-named field) (capacity half)
+
 unfoldable pub head-fit : ℕ → ℕ → List ℕ → Bool
-head-fit half pages s = ranges-ok pages (head-of s) && all-are 255 (part s 36 (page-size half - 36))
+head-fit half pages s =
+    ranges-ok pages (head-of s)
+    && (field-ok half (head-of s .capacity) && all-are 255 (part s 40 (page-size half - 40)))

@@ -1,9 +1,10 @@
--- Document 01, "The page": where the numbers of a page stand, over half the capacity of a page, which is 12. Assumes nothing.
-use Prim.Native.Nat.{ℕ, _+_, _*_, _-_, min}
-use mathlib.Core.Bool.{Bool, _&&_}
+-- Document 01, "The page": where the numbers of a page stand, over half the capacity of a page; and which capacities there are: document 02,
+-- (xi). Assumes nothing.
+use Prim.Native.Nat.{ℕ, _+_, _*_, _-_, _/_, _%_, min}
+use mathlib.Core.Bool.{Bool, cond, _&&_}
 use mathlib.Core.List.{List, [], _∷_, _++_}
 use lib.ListN.{length}
-use lib.Dec.{eqb}
+use lib.Dec.{eqb, leb}
 use Rattle.lists.specs.Lists.{listed, concat-map}
 use Rattle.rule.specs.declared.Pair.{Pair}
 use Rattle.fields.specs.Bytes.{part, patch, unused, all-are}
@@ -16,14 +17,30 @@ use Rattle.page.specs.Entries.{entry}
 abbrev pub capacity : ℕ → ℕ
 capacity half = 2 * half
 
--- "level (u32, leaf 0), number of entries (u32), 24 bytes FF; then two parallel arrays of 24: starts (u32), and entries of 16 bytes"
+-- "The capacity K is an even number from 4 to 24"
+unfoldable pub capacity-ok : ℕ → Bool
+capacity-ok k = eqb (k % 2) 0 && (leb 4 k && leb k 24)
+
+-- the capacity that the head's field names: "an image of 512-byte pages without the field (FF there) reads as K = 24"
+abbrev pub no-field : ℕ
+no-field = 4294967295
+
+unfoldable pub capacity-named : ℕ → ℕ
+capacity-named field = cond (eqb field no-field) 24 field
+
+-- "Half is K/2"
+abbrev pub half-named : ℕ → ℕ
+half-named field = capacity-named field / 2
+
+-- "level (u32, leaf 0), number of entries (u32), 24 bytes FF; then two parallel arrays of 24: starts (u32), and entries of 16 bytes"; by
+-- document 02, (xi), of K places
 abbrev pub start-offset : ℕ → ℕ
 start-offset i = 32 + 4 * i
 
 abbrev pub entry-offset : ℕ → ℕ → ℕ
 entry-offset half i = 32 + 4 * capacity half + 16 * i
 
--- "The image is n pages of 512 bytes"
+-- "a page has 32 + 20 × K bytes and each array K places"
 abbrev pub page-size : ℕ → ℕ
 page-size half = 32 + 20 * capacity half
 
@@ -100,7 +117,7 @@ unfoldable pub never-used-ok : List ℕ → Bool
 never-used-ok s = all-are 255 s
 
 -- "Page 0, the head, u32 each: n, height (1 to 4), root page, first free page (0 none), free chain length, high mark
--- (lowest page never used, 2 to n), kind, window, changes. Rest FF."
+-- (lowest page never used, 2 to n), kind, window, changes. Rest FF." The capacity is "stored in the head after changes".
 unfoldable pub head-of : List ℕ → Head
 head-of s =
     record {
@@ -113,11 +130,13 @@ head-of s =
       kind = u32-at s 24;
       window = u32-at s 28;
       changes = u32-at s 32;
+      capacity = u32-at s 36;
     }
 
 -- its numbers in their order
 abbrev pub head-numbers : Head → List ℕ
-head-numbers h = h .pages ∷ h .height ∷ h .root ∷ h .free ∷ h .chain ∷ h .mark ∷ h .kind ∷ h .window ∷ h .changes ∷ []
+head-numbers h =
+    h .pages ∷ h .height ∷ h .root ∷ h .free ∷ h .chain ∷ h .mark ∷ h .kind ∷ h .window ∷ h .changes ∷ h .capacity ∷ []
 
 unfoldable pub head-bytes : ℕ → Head → List ℕ
-head-bytes half h = concat-map u32-bytes (head-numbers h) ++ unused (page-size half - 36)
+head-bytes half h = concat-map u32-bytes (head-numbers h) ++ unused (page-size half - 40)

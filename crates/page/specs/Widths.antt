@@ -29,3 +29,4 @@ pub record Head-fits (h : Head) : Type 0 where
   pub kind : h .kind < 2 ^ 32
   pub window : h .window < 2 ^ 32
   pub changes : h .changes < 2 ^ 32
+  pub capacity : h .capacity < 2 ^ 32

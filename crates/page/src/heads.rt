@@ -1,6 +1,7 @@
 // Reading and writing page 0, the head.
 use super::Head;
 use super::layout::HEAD_BYTES;
+use super::layout::HEAD_CAPACITY;
 use super::layout::HEAD_CHAIN;
 use super::layout::HEAD_CHANGES;
 use super::layout::HEAD_FREE;
@@ -26,7 +27,7 @@ ghost use Rattle.page.specs.Layout.{page-size, head-of, head-numbers, he
 
 // The head's numbers.
 pub fn read_head(s: &[u8]) -> Head
-    requires { ⌜ 36 ≤ length (now s) ⌝ }
+    requires { ⌜ 40 ≤ length (now s) ⌝ }
     ensures { λ r. ⌜ r ≡ head-of (now (s .entry)) ⌝ }
 {
     Head {
@@ -39,6 +40,7 @@ pub fn read_head(s: &[u8]) -> Head
         kind: get_u32(s, HEAD_KIND),
         window: get_u32(s, HEAD_WINDOW),
         changes: get_u32(s, HEAD_CHANGES),
+        capacity: get_u32(s, HEAD_CAPACITY),
     }
 }
 
@@ -54,12 +56,13 @@ fn put_three(s: &mut [u8], o: usize, x: u32, y: u32, z: u32)
 
 // Writes the head's numbers, and nothing behind them.
 pub fn write_numbers(s: &mut [u8], h: Head)
-    requires { ⌜ 36 ≤ length (now s) ⌝ }
+    requires { ⌜ 40 ≤ length (now s) ⌝ }
     ensures { λ _. ⌜ now (s .exit) ≡ patch (now (s .entry)) 0 (concat-map u32-bytes (head-numbers h)) ⌝ }
 {
     put_three(s, HEAD_PAGES, h.pages, h.height, h.root);
     put_three(s, HEAD_FREE, h.free, h.chain, h.mark);
     put_three(s, HEAD_KIND, h.kind, h.window, h.changes);
+    put_u32(s, HEAD_CAPACITY, h.capacity);
 }
 
 // Writes the head: its numbers, the rest unused.

@@ -4,7 +4,7 @@ ghost use mathlib.Core.Path.{_≡_};
 ghost use Prim.Native.Nat.{_<_, _^_};
 ghost use Rattle.page.specs.Layout.{capacity, start-offset, entry-offset, page-size};
 
-// Half of the greatest capacity: "it has 12 to 24 entries"
+// Half of the greatest capacity: "an even number from 4 to 24"
 pub const MOST_HALF: usize = 12;
 
 // Entries of a decoded page, of whatever capacity: one more than a written page has, for the entry that makes it split.
@@ -36,7 +36,7 @@ pub const FREE_LEVEL: u32 = 255;
 
 pub const NEXT_OFFSET: usize = 4;
 
-// The head: nine numbers, the rest unused.
+// The head: ten numbers, the rest unused.
 pub const HEAD_PAGES: usize = 0;
 
 pub const HEAD_HEIGHT: usize = 4;
@@ -55,15 +55,17 @@ pub const HEAD_WINDOW: usize = 28;
 
 pub const HEAD_CHANGES: usize = 32;
 
-pub const HEAD_BYTES: usize = 36;
+pub const HEAD_CAPACITY: usize = 36;
 
-// "The image is n pages of 512 bytes, n from 2 to 1,024."
+pub const HEAD_BYTES: usize = 40;
+
+// "n from 2 to 1,024"
 pub const FEWEST_PAGES: usize = 2;
 
 pub const MOST_PAGES: usize = 1024;
 
-// "height (1 to 4)", "high mark (lowest page never used, 2 to n)"
-pub const MOST_HEIGHT: u32 = 4;
+// "the head's range becomes 1 to 10 at every K", "high mark (lowest page never used, 2 to n)"
+pub const MOST_HEIGHT: u32 = 10;
 
 pub const LEAST_MARK: u32 = 2;
 

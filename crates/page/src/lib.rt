@@ -5,12 +5,13 @@
 //     8         24      unused, FF
 //     32        4 × K   starts (u32)
 //     32 + 4K   16 × K  entries: sum (i64), count (i32), child (u32, 0 in a leaf)
-// A free page has 255 as its level and its next page at 4; the head has nine u32. All other bytes are FF.
+// A free page has 255 as its level and its next page at 4; the head has ten u32. All other bytes are FF.
 use layout::SLOTS;
 use rule::Pair;
 
 pub mod at;
 pub mod blank;
+pub mod capacities;
 pub mod heads;
 pub mod layout;
 pub mod pages;
@@ -36,6 +37,7 @@ pub struct Head {
     pub kind: u32,
     pub window: u32,
     pub changes: u32,
+    pub capacity: u32,
 }
 
 // A decoded tree page: its level, its count of entries, and an array for each of an entry's numbers. There is a slot more

@@ -38,8 +38,8 @@ module _ {half : ℕ} {img : List ℕ} {h : Head} (o : Sound-image half img h) w
   facts : Fit-image half img
   facts = sound-facts half img (o .sound) .fit
 
-  pub head-is : Ranges (pages-in half img) h
-  head-is = subst⁻¹ (Ranges (pages-in half img)) (o .shown) (facts .head)
+  pub head-is : Ranges half (pages-in half img) h
+  head-is = subst⁻¹ (Ranges half (pages-in half img)) (o .shown) (facts .head)
 
   root-leads : Bytes img → (t : ℕ) → Leads half img t (h .height) (entry 0 none (h .root))
   unfolding root-context

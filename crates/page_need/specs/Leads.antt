@@ -1,5 +1,5 @@
 -- What the counting of pages is given: entries of a sound image that lead to fit pages. Assumes nothing.
-use Prim.Native.Nat.{ℕ, zero, suc, _≤_, _<_}
+use Prim.Native.Nat.{ℕ, _*_, zero, suc, _≤_, _<_}
 use mathlib.Core.Path.{_≡_}
 use mathlib.Core.Bool.{true}
 use mathlib.Core.List.{List}
@@ -15,7 +15,7 @@ use Rattle.page_need.specs.declared.Need.{Need}
 -- a need that no sum of a few wraps
 pub record Small (n : Need) : Type 0 where
   pub adds : n .adds ≤ 2
-  pub pages : n .pages ≤ 16
+  pub pages : n .pages ≤ 4 * most-height
 
 -- Page p of level l is fit in a context that starts at t or before, and so are all pages below it. The bytes are those of the image that
 -- they show.

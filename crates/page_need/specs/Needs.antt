@@ -24,7 +24,7 @@ add-needs a b = need (a .adds + b .adds) (a .pages + b .pages)
 unfoldable pub leaf-need : ℕ → Entry → Need
 leaf-need t e = need (cond (eqb (e .start) t) 0 1) 0
 
--- "25 entries split: the page keeps 12, a taken page gets 13, the parent gains an entry". A page splits once at the most: its
+-- "25 entries split: .. a taken page gets 13, the parent gains an entry", K + 1 at other capacities. A page splits once at the most: its
 -- halves have room for all that two cuts add.
 unfoldable pub page-need : ℕ → ℕ → Need → Need
 page-need half n below =

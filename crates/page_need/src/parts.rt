@@ -29,7 +29,7 @@ pub(crate) fn add_needs(a: Need, b: Need) -> Need
     }
 }
 
-// "25 entries split: the page keeps 12, a taken page gets 13, the parent gains an entry": a page of n entries that gains some.
+// "25 entries split: .. a taken page gets 13, the parent gains an entry", K + 1 at other capacities: a page of n entries that gains some.
 pub(crate) fn page_need(half: usize, n: usize, below: Need) -> Need
     requires { ⌜ (half ≤ 12) × (n ≤ capacity half) × Small below ⌝ }
     ensures { λ r. ⌜ r ≡ page-need half n below ⌝ }

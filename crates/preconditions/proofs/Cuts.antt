@@ -36,7 +36,7 @@ use Rattle.refinement.proofs.Paths.{there, entries-are, at-flat, has-index, sto
 use Rattle.refinement.proofs.Formed.{formed-full}
 use Rattle.invariant.specs.Invariant.{Structure}
 use Rattle.invariant.proofs.To.Known.{structure-once}
-use Rattle.invariant.proofs.To.Height.{height-low}
+use Rattle.invariant.proofs.To.Height.{height-most}
 use Rattle.preconditions.proofs.Paths.{Known, known-searchable, known-below, structure-known}
 use Rattle.preconditions.proofs.Spares.{Single, next-mark, takable}
 
@@ -61,7 +61,7 @@ module _ (half t l : ℕ) (x : Node (Subtree (suc l))) (S : Supply) where
       let R = inner half t l x S .supply in
       cut-case half t l x S (λ C. R .mark ≤ C .supply .mark) (omega arith) (next-mark R)
 
-  -- "25 entries split": the page takes one more
+  -- a page of one entry more than its capacity splits: it takes one more
   splits : Stocked (suc l) x → 1 < length (inner half t l x S .became) → capacity half ≤ length (x .subtree)
       → cut-node half t (suc l) x S .supply ≡ without-next (inner half t l x S .supply)
   unfolding cut-node split-if-full split
@@ -172,7 +172,7 @@ module _ {half kind changes : ℕ} (two : 2 ≤ half) (t : ℕ) (X : Image) (Y :
   r₀ = cut-node half t (suc l) x₀ (Y .supply)
 
   low : X .head .height ≤ 10
-  low = height-low X Y g two
+  low = height-most X Y g two
 
   full : Full Y
   full = formed-full half Leaf two Y (g .formed)

@@ -45,7 +45,7 @@ use Rattle.refinement.proofs.Heal.{stocked-two, may, may-within, shown′, heal
 use Rattle.invariant.specs.Invariant.{Structure}
 use Rattle.invariant.proofs.To.Weights.{Weighed, weighed-all, weighed-below}
 use Rattle.invariant.proofs.To.Known.{chain-short}
-use Rattle.invariant.proofs.To.Height.{height-low}
+use Rattle.invariant.proofs.To.Height.{height-most}
 use Rattle.preconditions.proofs.Pairs.{below-combinable}
 use Rattle.preconditions.proofs.Paths.{page-is, Known, here-inside, child-inside, known-searchable, Below, known-below}
 use Rattle.preconditions.proofs.Paths.{structure-known}
@@ -354,7 +354,7 @@ structure-healable {half} {kind} {changes} {X} {Y} two t g =
     let sh = g .shown in
     let level : X .head .height - 1 ≡ l = omega (arith, sh .height) in
     let k = structure-known two t g in
-    let low : l < 254 = omega (arith, sh .height, height-low X Y g two) in
+    let low : l < 254 = omega (arith, sh .height, height-most X Y g two) in
     let few : length (Y .supply .chain) ≤ 1024 = omega (arith, chain-short g, g .ranges .mark-most, g .ranges .pages-most) in
     let slow = g .changes-most in
     record {

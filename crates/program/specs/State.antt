@@ -6,7 +6,7 @@ use mathlib.Core.List.{List, [], _∷_, _++_}
 use lib.ListN.{length, replicate}
 use lib.Dec.{eqb}
 use Rattle.rule.specs.Time.{END}
-use Rattle.page.specs.Layout.{page-size}
+use Rattle.page.specs.Layout.{capacity, page-size}
 use Rattle.calls.specs.Calls.{Listed, format, runs-over}
 use Rattle.calls.specs.Program.{cut-at, line-from, ran-line, runs-text}
 use Rattle.print.specs.Written.{runs-line}
@@ -22,7 +22,7 @@ pub record Program-state : Type 0 where
 -- "(64 pages, kind 1, w = 0)": before the first byte, where the image is all zeros
 unfoldable pub at-first : ℕ → ℕ → Program-state
 at-first half pages =
-    record { written = []; line = []; number = 1; image = format half 1 0 (replicate (page-size half * pages) 0) .image }
+    record { written = []; line = []; number = 1; image = format half 1 0 (capacity half) (replicate (page-size half * pages) 0) .image }
 
 -- with nothing written: what was is out
 unfoldable pub unwritten : Program-state → Program-state

@@ -1,6 +1,7 @@
 // The full listing, "over [0, END)", printed.
 use crate::printed::put_runs;
-use luwhenoka::listings::luw_listing;
+use luwhenoka::listings::listing;
+use page::layout::HALF;
 use print::lines::put_runs_line;
 use rule::limits::END;
 ghost use Prim.Native.Nat.{_≤_};
@@ -18,7 +19,7 @@ pub fn put_listing(img: &[u8], list: &mut [u8], out: &mut [u8]) -> usize
     ensures { λ r. ⌜ Put (now (out .entry)) 0
         (listed-text (listing 12 0 END (now (img .entry)) (now (list .entry)))) (now (out .exit)) r ⌝ }
 {
-    let answer = luw_listing(img, 0, END, list);
+    let answer = listing(HALF, img, 0, END, list);
     let runs = answer.runs;
     let next = put_runs_line(out, 0, runs as u64);
     put_runs(out, next, list, runs as usize)

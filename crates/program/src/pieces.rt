@@ -2,6 +2,7 @@
 use crate::Reading;
 use crate::lines::run_line;
 use luwhenoka::formats::luw_format;
+use page::capacities::MOST_CAPACITY;
 use rule::limits::TOTALS;
 use text::feed::feed;
 use text::feed::none_fed;
@@ -12,12 +13,12 @@ ghost use lib.ListN.{length, replicate};
 ghost use Rattle.program.specs.State.{at-first, line-run, after-byte, after-bytes, ended};
 ghost use Rattle.program.specs.Simulation.{Begins, Simulates-step, Flushes, Advances};
 
-// "(64 pages, kind 1, w = 0)": the image before the first line.
+// "(64 pages, kind 1, w = 0)": the image before the first line. "The program and document 01's cases keep K = 24."
 pub fn begin(img: &mut [u8])
     requires { ⌜ now img ≡ replicate 32768 0 ⌝ }
     ensures { λ _. ⌜ now (img .exit) ≡ at-first 12 64 .image ⌝ }
 {
-    luw_format(img, TOTALS, 0);
+    luw_format(img, TOTALS, 0, MOST_CAPACITY);
 }
 
 // Before the first byte.

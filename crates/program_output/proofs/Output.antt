@@ -16,9 +16,9 @@ use Rattle.rule.proofs.Signed.{sfits-natAbs}
 use Rattle.fields.specs.Bytes.{patch}
 use Rattle.fields.proofs.Laws.Parts.{part-patch-same}
 use Rattle.page.specs.declared.Head.{Head}
-use Rattle.page.specs.Layout.{page-size}
+use Rattle.page.specs.Layout.{page-size, capacity-ok, capacity-named}
 use Rattle.lists.specs.Lists.{concat-map}
-use Rattle.page.specs.Fit.{root-context}
+use Rattle.page.specs.Fit.{root-context, field-ok}
 use Rattle.image.specs.Images.{pages-in}
 use Rattle.image.specs.Listing.{Run, run-bytes, walk-over}
 use Rattle.image.specs.Sound.{sound}
@@ -29,12 +29,11 @@ use Rattle.calls.specs.Program.{Line, booking, unread, ran-line, runs-text, pro
 use Rattle.print.specs.Written.{runs-line}
 use Rattle.runs.proofs.Laws.Entries.{length-runs-bytes}
 use Rattle.soundness.proofs.Sound.{the-head, sound-facts, sound-whole}
-use Rattle.answers.proofs.Demand.{demand-1}
+use Rattle.calls.proofs.Steps.{book-keeps}
 use Rattle.answers.proofs.Sound.{sound-head, sound-walk}
 use Rattle.demands.proofs.Booked.{booked}
 use Rattle.demands.proofs.Invariant.{Trace-invariant, kept-accepted}
 use Rattle.demands.proofs.Fresh.{kept-format}
-use Rattle.demands.proofs.All.{twelve}
 use Rattle.luwhenoka.proofs.Laws.Listings.{listing-0}
 use Rattle.program.specs.State.{Program-state, at-first, line-run, after-byte, after-bytes, ended, listing-text, listed-text}
 use Rattle.program.proofs.Whole.{goes-program}
@@ -63,14 +62,14 @@ reached-line k (booking side v s e) {img} R = step (ℕ-discrete (book 12 side v
   where
     step : Dec (book 12 side v s e img (replicate 64 0) .status ≡ 0) → Reached (book 12 side v s e img (replicate 64 0) .image)
     step (yes n) =
-        let left = booked twelve side v s e img (replicate 64 0) (R .kept .bytes) n in
+        let left = booked (omega arith) side v s e img (replicate 64 0) (R .kept .bytes) n in
         record {
           book = _;
-          kept = kept-accepted twelve side v s e (replicate 64 0) (R .kept) n;
+          kept = kept-accepted (omega arith) side v s e (replicate 64 0) (R .kept) n;
           pages = same-pages img (book 12 side v s e img (replicate 64 0) .image) (left .size) ∙ R .pages;
           kind = left .kind ∙ R .kind;
         }
-    step (no n) = subst Reached (sym (demand-1 12 .of-booking side v s e img (replicate 64 0) n)) R
+    step (no n) = subst Reached (sym (book-keeps 12 side v s e img (replicate 64 0) n)) R
 
 reached-run : (g : Program-state) → Reached (g .image) → Reached (line-run 12 64 g .image)
 unfolding line-run
@@ -124,25 +123,25 @@ listing-printed {img} R list n =
     let few = runs-few 0 END img (R .kept .sound) (R .pages) in
     let bs : List ℕ = concat-map run-bytes rs in
     ap listed-text
-    (sym (listing-0 0 END img list (sound-whole 12 img (R .kept .sound)) (omega arith) (omega arith) (sound-head 12 img (R .kept .sound))
+    (sym (listing-0 12 0 END img list (sound-whole 12 img (R .kept .sound)) (omega arith) (omega arith) (sound-head 12 img (R .kept .sound))
     (sound-walk 12 img (R .kept .sound) 0 END) (omega (arith, few, n))))
     ∙ ap (λ q. runs-line (length rs) ++ runs-text q)
     (runs-back (patch list 0 bs) 0 (fits R) (part-patch-same list 0 bs (16 * length rs) (length-runs-bytes rs) (omega arith)))
 
 -- ---- "(64 pages, kind 1, w = 0)"
 
-formats : format 12 1 0 (replicate 32768 0) .status ≡ 0
+formats : format 12 1 0 24 (replicate 32768 0) .status ≡ 0
 unfolding all-definitions
 formats = refl
 
-formatted-pages : pages-in 12 (format 12 1 0 (replicate 32768 0) .image) ≡ 64
+formatted-pages : pages-in 12 (format 12 1 0 24 (replicate 32768 0) .image) ≡ 64
 unfolding all-definitions
 formatted-pages = refl
 
 reached-first : Reached (at-first 12 64 .image)
 unfolding at-first empty-book
 reached-first =
-    let k = kept-format 12 1 0 (replicate 32768 0) formats (omega arith) in
+    let k = kept-format 12 1 0 24 (replicate 32768 0) formats (omega arith) (unfold field-ok capacity-named capacity-ok in refl) in
     record { book = empty-book 1 0; kept = k; pages = formatted-pages; kind = k .kind }
 
 -- The program's output is what the pieces of its text print and, behind that, what is printed of the full listing that is made in

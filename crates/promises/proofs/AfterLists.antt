@@ -5,9 +5,10 @@ use mathlib.Core.Logic.{_⊎_}
 use mathlib.Core.List.{List}
 use lib.IntN.{ℤ}
 use Rattle.fields.specs.Bytes.{Bytes}
-use Rattle.image.specs.Images.{pages-in}
+use Rattle.image.specs.Images.{half-of, pages-in}
 use Rattle.calls.specs.Changes.{Side}
-use Rattle.calls.specs.Calls.{Booked, Instant, Averaged, Audited, book, instant, average-at, listing, audit}
+use Rattle.calls.specs.Calls.{Booked, Instant, Averaged, Audited}
+use Rattle.calls.specs.Index.{index-book, index-instant, index-average, index-listing, index-audit}
 use Rattle.calls.specs.Accepted.{Accepted-change}
 use Rattle.calls.specs.Trace.{Step, change-made}
 use Rattle.calls.specs.Book.{book-of}
@@ -15,7 +16,6 @@ use Rattle.calls.specs.Demands.{fixed-status}
 use Rattle.calls.proofs.Steps.{booking-step}
 use Rattle.demands.proofs.Agree.{as-the-book}
 use Rattle.demands.proofs.Traces.{reached}
-use Rattle.demands.proofs.All.{twelve}
 use Rattle.luwhenoka.specs.declared.InstantAnswer.{InstantAnswer}
 use Rattle.luwhenoka.specs.declared.AverageAnswer.{AverageAnswer}
 use Rattle.luwhenoka.specs.declared.ListingAnswer.{ListingAnswer}
@@ -25,57 +25,57 @@ use Rattle.promises.specs.AfterLists.{After-lists, Instant-as, Average-a
 use Rattle.promises.proofs.Changes.{every-change-promised}
 
 pub instant-as : (t : ℕ) (img : List ℕ) (r : InstantAnswer)
-    → record { status = r .status; pair = pair-of r; pages = r .pages } ≡ instant 12 t img
+    → record { status = r .status; pair = pair-of r; pages = r .pages } ≡ index-instant t img
     → After-lists img (Instant-as t r)
 unfolding After-lists
-instant-as t img r p kind window cs T =
-    let b = as-the-book (reached twelve T .kept) in
+instant-as t img r p kind window field cs T =
+    let b = as-the-book (reached T .kept) in
     record {
       at-end = λ l. ap (λ (i : Instant). i .status) p ∙ b .instant-end t l;
       told = λ l. (ap (λ (i : Instant). i .status) p ∙ b .instants t l .0, ap (λ (i : Instant). i .pair) p ∙ b .instants t l .1);
     }
 
 pub average-as : (t : ℕ) (img : List ℕ) (r : AverageAnswer)
-    → r ≡ average-answer (average-at 12 t img .status) (average-at 12 t img .average)
+    → r ≡ average-answer (index-average t img .status) (index-average t img .average)
     → After-lists img (Average-as t r)
 unfolding After-lists
-average-as t img r p kind window cs T =
-    let b = as-the-book (reached twelve T .kept) in
+average-as t img r p kind window field cs T =
+    let b = as-the-book (reached T .kept) in
     record {
       at-end = λ l. p ∙ ap (λ (a : Averaged). average-answer (a .status) (a .average)) (b .average-end t l);
       told = λ l. p ∙ ap (λ (a : Averaged). average-answer (a .status) (a .average)) (b .averages t l);
     }
 
-pub listing-as : (a b : ℕ) (img out : List ℕ) (r : ListingAnswer) (after : List ℕ) → listing-answer r after ≡ listing 12 a b img out
+pub listing-as : (a b : ℕ) (img out : List ℕ) (r : ListingAnswer) (after : List ℕ) → listing-answer r after ≡ index-listing a b img out
     → After-lists img (Listing-as a b out r after)
 unfolding After-lists Listing-as
-listing-as a b img out r after p kind window cs T = p ∙ as-the-book (reached twelve T .kept) .listings a b out
+listing-as a b img out r after p kind window field cs T = p ∙ as-the-book (reached T .kept) .listings a b out
 
-pub audit-as : (img scratch : List ℕ) (r : ℕ) (left : List ℕ) → record { status = r; scratch = left } ≡ audit 12 img scratch
+pub audit-as : (img scratch : List ℕ) (r : ℕ) (left : List ℕ) → record { status = r; scratch = left } ≡ index-audit img scratch
     → After-lists img (Audit-as img scratch r)
 unfolding After-lists Audit-as
-audit-as img scratch r left p kind window cs T =
-    ap (λ (a : Audited). a .status) p ∙ as-the-book (reached twelve T .kept) .audits scratch
+audit-as img scratch r left p kind window field cs T =
+    ap (λ (a : Audited). a .status) p ∙ as-the-book (reached T .kept) .audits scratch
 
 pub booking-as : (side : Side) (v : ℤ) (s e : ℕ) (img scratch : List ℕ) (r : ℕ) (after left : List ℕ)
-    → record { status = r; image = after; scratch = left } ≡ book 12 side v s e img scratch
+    → record { status = r; image = after; scratch = left } ≡ index-book side v s e img scratch
     → After-lists img (Booking-as side v s e img scratch r)
 unfolding After-lists Booking-as
-booking-as side v s e img scratch r after left p kind window cs T =
+booking-as side v s e img scratch r after left p kind window field cs T =
     subst⁻¹
     (λ n.
-    (n ≡ fixed-status (pages-in 12 img) side v s e scratch (book-of kind window cs))
-    ⊎ ((fixed-status (pages-in 12 img) side v s e scratch (book-of kind window cs) ≡ 0) × (n ≡ 24)))
-    (ap (λ (b : Booked). b .status) p) (as-the-book (reached twelve T .kept) .bookings side v s e scratch)
+    (n ≡ fixed-status (pages-in (half-of img) img) side v s e scratch (book-of kind window cs))
+    ⊎ ((fixed-status (pages-in (half-of img) img) side v s e scratch (book-of kind window cs) ≡ 0) × (n ≡ 24)))
+    (ap (λ (b : Booked). b .status) p) (as-the-book (reached T .kept) .bookings side v s e scratch)
 
 -- what a booking does is a step, leaves what every accepted change does, and answers as the book says
 pub booking-promised : (side : Side) (v : ℤ) (s e : ℕ) (img scratch : List ℕ) (r : ℕ) (after left : List ℕ) → Bytes img
-    → record { status = r; image = after; scratch = left } ≡ book 12 side v s e img scratch
-    → Step 12 img (change-made r (record { side = side; v = v; s = s; e = e })) after
-    × ((r ≡ 0 → Accepted-change 12 side v s e img after) × After-lists img (Booking-as side v s e img scratch r))
+    → record { status = r; image = after; scratch = left } ≡ index-book side v s e img scratch
+    → Step img (change-made r (record { side = side; v = v; s = s; e = e })) after
+    × ((r ≡ 0 → Accepted-change (half-of img) side v s e img after) × After-lists img (Booking-as side v s e img scratch r))
 unfolding Every-change-promised
 booking-promised side v s e img scratch r after left b p = (
-  booking-step 12 side v s e img scratch r after left p,
+  booking-step side v s e img scratch r after left p,
   (
     λ z. every-change-promised side v s e img scratch after left b (rw z at p) .leaves,
     booking-as side v s e img scratch r after left p,

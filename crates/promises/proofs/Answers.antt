@@ -4,21 +4,21 @@ use mathlib.Core.Path.{_≡_, refl, ap, _∙_}
 use mathlib.Core.List.{List}
 use Rattle.rule.specs.declared.Average.{Average}
 use Rattle.rule.specs.declared.Average.the-variants.{Hundredths, Nothing, Beyond}
-use Rattle.calls.specs.Calls.{instant, average-at}
+use Rattle.calls.specs.Index.{index-instant, index-average}
 use Rattle.luwhenoka.specs.declared.InstantAnswer.{InstantAnswer}
 use Rattle.luwhenoka.specs.declared.AverageAnswer.{AverageAnswer}
 use Rattle.luwhenoka.specs.Answers.{instant-answer, pair-of, average-answer, averaged-answer}
 use Rattle.luwhenoka.specs.Promises.{Answers, Averages}
 
-pub answer-status : (t : ℕ) (img : List ℕ) {r : InstantAnswer} → Answers t img r → r .status ≡ instant 12 t img .status
+pub answer-status : (t : ℕ) (img : List ℕ) {r : InstantAnswer} → Answers t img r → r .status ≡ index-instant t img .status
 unfolding instant-answer
 answer-status t img p = ap (λ (a : InstantAnswer). a .status) p
 
-pub answer-pair : (t : ℕ) (img : List ℕ) {r : InstantAnswer} → Answers t img r → pair-of r ≡ instant 12 t img .pair
+pub answer-pair : (t : ℕ) (img : List ℕ) {r : InstantAnswer} → Answers t img r → pair-of r ≡ index-instant t img .pair
 unfolding instant-answer
 answer-pair t img p = ap (λ (a : InstantAnswer). pair-of a) p
 
-pub answer-pages : (t : ℕ) (img : List ℕ) {r : InstantAnswer} → Answers t img r → r .pages ≡ instant 12 t img .pages
+pub answer-pages : (t : ℕ) (img : List ℕ) {r : InstantAnswer} → Answers t img r → r .pages ≡ index-instant t img .pages
 unfolding instant-answer
 answer-pages t img p = ap (λ (a : InstantAnswer). a .pages) p
 
@@ -29,6 +29,6 @@ answer-of n Nothing = refl
 answer-of n (Hundredths x) = refl
 answer-of n Beyond = refl
 
-pub average-status : (t : ℕ) (img : List ℕ) {r : AverageAnswer} → Averages t img r → r .status ≡ average-at 12 t img .status
+pub average-status : (t : ℕ) (img : List ℕ) {r : AverageAnswer} → Averages t img r → r .status ≡ index-average t img .status
 unfolding averaged-answer
-average-status t img p = ap (λ (a : AverageAnswer). a .status) p ∙ answer-of (average-at 12 t img .status) (average-at 12 t img .average)
+average-status t img p = ap (λ (a : AverageAnswer). a .status) p ∙ answer-of (index-average t img .status) (index-average t img .average)

@@ -5,15 +5,15 @@ use Prim.Native.Nat.{ℕ}
 use lib.IntN.{ℤ}
 use Rattle.rule.specs.declared.Pair.{Pair}
 use Rattle.rule.specs.Pairs.{combine}
+use Rattle.image.specs.Images.{half-of}
 use Rattle.calls.specs.Changes.{Side, effect}
 use Rattle.calls.specs.Calls.{Booked, head}
 use Rattle.calls.specs.Accepted.{Accepted-change, Every-change}
 use Rattle.demands.proofs.Accepted.{every-change}
-use Rattle.demands.proofs.All.{twelve}
 use Rattle.promises.specs.Changes.{Change-promised, Every-change-promised}
 use Rattle.promises.proofs.Answers.{answer-status, answer-pair}
 
-changed-so : (side : Side) (v : ℤ) (s e : ℕ) (img after : List ℕ) → Accepted-change 12 side v s e img after
+changed-so : (side : Side) (v : ℤ) (s e : ℕ) (img after : List ℕ) → Accepted-change (half-of img) side v s e img after
     → Change-promised side v s e img after
 changed-so side v s e img after c =
     record {
@@ -25,12 +25,12 @@ changed-so side v s e img after c =
           λ t r q l h a b.
           answer-pair t after a
           ∙ c .inside t l h
-          ∙ ap (λ (p : Pair). combine (head 12 img .kind) p (effect side v)) (sym (answer-pair t img b));
+          ∙ ap (λ (p : Pair). combine (head (half-of img) img .kind) p (effect side v)) (sym (answer-pair t img b));
     }
 
 pub every-change-promised : Every-change-promised
 unfolding Every-change-promised Every-change
 every-change-promised side v s e img scratch after left b p =
     changed-so side v s e img after
-    (subst⁻¹ (Accepted-change 12 side v s e img) (ap (λ (x : Booked). x .image) p)
-    (every-change twelve side v s e img scratch b (sym (ap (λ (x : Booked). x .status) p))))
+    (subst⁻¹ (Accepted-change (half-of img) side v s e img) (ap (λ (x : Booked). x .image) p)
+    (every-change side v s e img scratch b (sym (ap (λ (x : Booked). x .status) p))))

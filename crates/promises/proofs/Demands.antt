@@ -1,5 +1,5 @@
 -- The demands are met. Assumes nothing.
-use Rattle.demands.proofs.All.{demands-at-12}
+use Rattle.demands.proofs.Demands.{the-demands}
 use Rattle.promises.specs.Demands.{Demands-met}
 use Rattle.promises.proofs.Refusing.{refusing}
 use Rattle.promises.proofs.Tables.{by-status}
@@ -9,7 +9,7 @@ use Rattle.promises.proofs.Header.{header-runs}
 pub demands-met : Demands-met
 demands-met =
     record {
-      demands = demands-at-12;
+      demands = the-demands;
       refusing = refusing;
       by-status = by-status;
       every-change = every-change-promised;

@@ -1,21 +1,44 @@
 -- The header's promise follows from what is proved of every listing. Assumes nothing.
+use Prim.Native.Nat.{ℕ, _*_, _-_, _≤_}
 use mathlib.Core.Path.{_≡_, sym, ap, _∙_}
+use mathlib.Core.Logic.{_≢_, _⊎_, inl, inr}
+use mathlib.Core.List.{List}
 use native.Mathlib.Omega.{arith}
+use lib.ListN.{length}
+use Rattle.page.specs.Layout.{capacity}
+use Rattle.image.specs.Images.{half-of, pages-in}
 use Rattle.calls.specs.Calls.{Listed, listing}
+use Rattle.calls.specs.Index.{judge, index-listing}
+use Rattle.calls.proofs.Judged.{by-judge, judge-is}
 use Rattle.answers.proofs.Few.{few-runs}
 use Rattle.luwhenoka.specs.Answers.{listing-answer}
 use Rattle.promises.specs.Header.{Header-runs}
+
+-- as many as fit in the pages of an image
+abbrev most : List ℕ → ℕ
+most img = capacity (half-of img) * (pages-in (half-of img) img - 1)
+
+answered : (a b : ℕ) (img out : List ℕ) → index-listing a b img out .runs ≤ most img
+unfolding index-listing
+answered a b img out =
+    by-judge _ (λ half. listing half a b img out) img (λ (r : Listed). r .runs ≤ most img) (λ g. few-runs (half-of img) .answered a b img out)
+    (λ n. omega arith)
+
+enough : (a b : ℕ) (img out : List ℕ) → 16 * most img ≤ length out → index-listing a b img out .status ≢ 15
+unfolding index-listing
+enough a b img out room =
+    by-judge _ (λ half. listing half a b img out) img (λ (r : Listed). r .status ≢ 15)
+    (λ g. few-runs (half-of img) .enough a b img out room) (λ n. go (judge-is img))
+  where
+    go : (judge img ≡ 0) ⊎ ((judge img ≡ 16) ⊎ (judge img ≡ 21)) → judge img ≢ 15
+    go (inl z) e = omega (arith, z, e)
+    go (inr (inl z)) e = omega (arith, z, e)
+    go (inr (inr z)) e = omega (arith, z, e)
 
 pub header-runs : Header-runs
 unfolding listing-answer
 header-runs =
     record {
-      runs =
-          λ a b img out r after p.
-          let same : r .runs ≡ listing 12 a b img out .runs = ap (λ (q : Listed). q .runs) p in
-          omega (arith, few-runs 12 .answered a b img out);
-      enough =
-          λ a b img out r after p room e.
-          let same : r .status ≡ listing 12 a b img out .status = ap (λ (q : Listed). q .status) p in
-          few-runs 12 .enough a b img out (omega (arith, room)) (sym same ∙ e);
+      runs = λ a b img out r after p. omega (arith, ap (λ (q : Listed). q .runs) p, answered a b img out);
+      enough = λ a b img out r after p room e. enough a b img out room (sym (ap (λ (q : Listed). q .status) p) ∙ e);
     }

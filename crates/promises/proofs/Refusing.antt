@@ -9,10 +9,11 @@ use lib.IntN.{pos}
 use Rattle.rule.specs.declared.Pair.{Pair}
 use Rattle.rule.specs.declared.Average.{Average}
 use Rattle.rule.specs.declared.Average.the-variants.{Hundredths, Nothing, Beyond}
-use Rattle.image.specs.Images.{pages-in}
+use Rattle.image.specs.Images.{half-of, pages-in}
 use Rattle.calls.specs.Refusals.{cleared}
 use Rattle.calls.specs.Changes.{entering}
-use Rattle.calls.specs.Calls.{Formatted, Booked, Listed, Audited, average-at}
+use Rattle.calls.specs.Calls.{Formatted, Booked, Listed, Audited}
+use Rattle.calls.specs.Index.{index-average}
 use Rattle.calls.specs.Demands.{keeps-scratch, Demand-1}
 use Rattle.answers.proofs.Demand.{demand-1}
 use Rattle.luwhenoka.specs.declared.AverageAnswer.{AverageAnswer}
@@ -21,8 +22,8 @@ use Rattle.luwhenoka.specs.Promises.{Averages}
 use Rattle.promises.specs.Refusing.{Refusing}
 use Rattle.promises.proofs.Answers.{answer-status, answer-pair, answer-pages, average-status}
 
-abbrev d1 : Demand-1 12
-d1 = demand-1 12
+abbrev d1 : Demand-1
+d1 = demand-1
 
 never-beyond : (n : ℕ) (a : Average) → a ≢ Beyond → average-answer n a .answer ≢ 2
 unfolding average-answer
@@ -35,18 +36,18 @@ averaged : (t : ℕ) (img : List ℕ) (r : AverageAnswer) → Averages t img r
 unfolding averaged-answer average-answer
 averaged t img r p = (refused, beyond)
   where
-    number : r .status ≡ average-at 12 t img .status
+    number : r .status ≡ index-average t img .status
     number = average-status t img p
 
     refused : r .status ≢ 0 → (r .answer ≡ 0) × (r .hundredths ≡ pos 0)
     refused d =
-        let n : average-at 12 t img .average ≡ Nothing = d1 .of-average t img (λ z. d (number ∙ z)) in
-        let q : r ≡ average-answer (average-at 12 t img .status) Nothing = p ∙ ap (average-answer (average-at 12 t img .status)) n in
+        let n : index-average t img .average ≡ Nothing = d1 .of-average t img (λ z. d (number ∙ z)) in
+        let q : r ≡ average-answer (index-average t img .status) Nothing = p ∙ ap (average-answer (index-average t img .status)) n in
         (ap (λ (a : AverageAnswer). a .answer) q, ap (λ (a : AverageAnswer). a .hundredths) q)
 
     beyond : r .answer ≢ 2
     beyond e =
-        never-beyond (average-at 12 t img .status) (average-at 12 t img .average) (d1 .of-beyond t img)
+        never-beyond (index-average t img .status) (index-average t img .average) (d1 .of-beyond t img)
         (sym (ap (λ (a : AverageAnswer). a .answer) p) ∙ e)
 
 pub refusing : Refusing
@@ -54,15 +55,15 @@ unfolding listing-answer
 refusing =
     record {
       of-format =
-          λ kind window img r after p d.
-          ap (λ (f : Formatted). f .image) p ∙ d1 .of-format kind window img (λ z. d (ap (λ (f : Formatted). f .status) p ∙ z));
+          λ kind window k img r after p d.
+          ap (λ (f : Formatted). f .image) p ∙ d1 .of-format kind window k img (λ z. d (ap (λ (f : Formatted). f .status) p ∙ z));
       of-booking =
           λ side v s e img scratch r after left p.
           let n = ap (λ (b : Booked). b .status) p in (
             λ d. ap (λ (b : Booked). b .image) p ∙ d1 .of-booking side v s e img scratch (λ z. d (n ∙ z)),
             ap (λ (b : Booked). b .scratch) p
                 ∙ d1 .of-scratch side v s e img scratch .0
-                ∙ ap (λ k. cond (keeps-scratch k) scratch (cleared (pages-in 12 img) scratch)) (sym n),
+                ∙ ap (λ k. cond (keeps-scratch img k) scratch (cleared (pages-in (half-of img) img) scratch)) (sym n),
           );
       of-instant =
           λ t img r p.
@@ -83,5 +84,5 @@ refusing =
           let n = ap (λ (a : Audited). a .status) p in
           ap (λ (a : Audited). a .scratch) p
           ∙ d1 .of-scratch entering (pos 0) 0 0 img scratch .1
-          ∙ ap (λ k. cond (keeps-scratch k) scratch (cleared (pages-in 12 img) scratch)) (sym n);
+          ∙ ap (λ k. cond (keeps-scratch img k) scratch (cleared (pages-in (half-of img) img) scratch)) (sym n);
     }

@@ -1,37 +1,44 @@
 -- The functions for C refuse by the numbers of document 01's tables: they return what the definitions return. Assumes nothing.
 use mathlib.Core.Path.{ap, subst⁻¹}
-use Rattle.calls.specs.Calls.{Formatted, Booked, Listed, Audited, instant}
-use Rattle.calls.specs.Tables.{Exactly, format-cases, book-cases, instant-cases, listing-cases, audit-cases, Pages-told, Turned-back}
+use Rattle.image.specs.Images.{half-of}
+use Rattle.calls.specs.Calls.{Formatted, Booked, Listed, Audited}
+use Rattle.calls.specs.Index.{index-instant}
+use Rattle.calls.specs.Tables.{Exactly, format-cases, judge-cases, book-cases, instant-cases, listing-cases, audit-cases, Pages-told, Turned-back}
 use Rattle.calls.proofs.Tables.{turned-back}
 use Rattle.luwhenoka.specs.Answers.{listing-answer}
 use Rattle.promises.specs.Tables.{By-status}
 use Rattle.promises.proofs.Answers.{answer-status, answer-pages, average-status}
 
-abbrev rows : Turned-back 12
-rows = turned-back 12
+abbrev rows : Turned-back
+rows = turned-back
 
 pub by-status : By-status
 unfolding listing-answer
 by-status =
     record {
       of-format =
-          λ kind window img r after p.
-          subst⁻¹ (Exactly (format-cases 12 kind window img)) (ap (λ (f : Formatted). f .status) p) (rows .of-format kind window img);
+          λ kind window k img r after p.
+          subst⁻¹ (Exactly (format-cases kind window k img)) (ap (λ (f : Formatted). f .status) p) (rows .of-format kind window k img);
       of-booking =
           λ side v s e img scratch r after left p.
-          subst⁻¹ (Exactly (book-cases 12 side v s e img scratch)) (ap (λ (b : Booked). b .status) p)
+          subst⁻¹ (Exactly (judge-cases img (book-cases (half-of img) side v s e img scratch))) (ap (λ (b : Booked). b .status) p)
           (rows .of-booking side v s e img scratch);
       of-instant =
           λ t img r p. (
-            subst⁻¹ (Exactly (instant-cases 12 t img)) (answer-status t img p) (rows .of-instant t img),
-            subst⁻¹ (λ n. Pages-told 12 t img n (r .pages)) (answer-status t img p)
-                (subst⁻¹ (Pages-told 12 t img (instant 12 t img .status)) (answer-pages t img p) (rows .of-pages t img)),
+            subst⁻¹ (Exactly (judge-cases img (instant-cases (half-of img) t img))) (answer-status t img p) (rows .of-instant t img),
+            subst⁻¹ (λ n. Pages-told (half-of img) t img n (r .pages)) (answer-status t img p)
+                (subst⁻¹ (Pages-told (half-of img) t img (index-instant t img .status)) (answer-pages t img p) (rows .of-pages t img)),
           );
-      of-average = λ t img r p. subst⁻¹ (Exactly (instant-cases 12 t img)) (average-status t img p) (rows .of-average t img);
+      of-average =
+          λ t img r p.
+          subst⁻¹ (Exactly (judge-cases img (instant-cases (half-of img) t img))) (average-status t img p)
+          (rows .of-average t img);
       of-listing =
           λ a b img out r after p.
-          subst⁻¹ (Exactly (listing-cases 12 a b img out)) (ap (λ (l : Listed). l .status) p) (rows .of-listing a b img out);
+          subst⁻¹ (Exactly (judge-cases img (listing-cases (half-of img) a b img out))) (ap (λ (l : Listed). l .status) p)
+          (rows .of-listing a b img out);
       of-audit =
           λ img scratch r left p.
-          subst⁻¹ (Exactly (audit-cases 12 img scratch)) (ap (λ (a : Audited). a .status) p) (rows .of-audit img scratch);
+          subst⁻¹ (Exactly (judge-cases img (audit-cases (half-of img) img scratch))) (ap (λ (a : Audited). a .status) p)
+          (rows .of-audit img scratch);
     }

@@ -9,7 +9,7 @@ use lib.IntN.{ℤ}
 use Rattle.rule.specs.declared.Average.the-variants.{Nothing}
 use Rattle.rule.specs.Time.{END}
 use Rattle.rule.specs.Averages.{average}
-use Rattle.image.specs.Images.{pages-in}
+use Rattle.image.specs.Images.{half-of, pages-in}
 use Rattle.calls.specs.Refusals.{first, scratch-ok}
 use Rattle.calls.specs.Changes.{Side, Change}
 use Rattle.calls.specs.Book.{Book, book-of, book-pair, listing-of}
@@ -20,9 +20,9 @@ use Rattle.luwhenoka.specs.declared.AverageAnswer.{AverageAnswer}
 use Rattle.luwhenoka.specs.declared.ListingAnswer.{ListingAnswer}
 use Rattle.luwhenoka.specs.Answers.{pair-of, average-answer, listing-answer}
 
--- P of the book of every list that leads to the image
+-- P of the book of every list that leads to the image, from a format of any capacity or from document 01's own
 unfoldable pub After-lists : List ℕ → (Book → Type 0) → Type 0
-After-lists img P = (kind window : ℕ) (cs : List Change) → Trace 12 kind window img cs → P (book-of kind window cs)
+After-lists img P = (kind window field : ℕ) (cs : List Change) → Trace kind window field img cs → P (book-of kind window cs)
 
 -- "an instant call returns 12 at END, else 0 and the pair at t that the book then has"
 pub record Instant-as (t : ℕ) (r : InstantAnswer) (B : Book) : Type 0 where
@@ -40,10 +40,10 @@ Listing-as a b out r after B = listing-answer r after ≡ listing-of (book-pair 
 
 -- "an audit 17 if its scratch is too short, else 0"
 unfoldable pub Audit-as : List ℕ → List ℕ → ℕ → Book → Type 0
-Audit-as img scratch r B = r ≡ first ((17, not (scratch-ok (pages-in 12 img) scratch)) ∷ [])
+Audit-as img scratch r B = r ≡ first ((17, not (scratch-ok (pages-in (half-of img) img) scratch)) ∷ [])
 
 -- a booking the status that is fixed without the image, but where the pages may be too few
 unfoldable pub Booking-as : Side → ℤ → ℕ → ℕ → List ℕ → List ℕ → ℕ → Book → Type 0
 Booking-as side v s e img scratch r B =
-    let fixed = fixed-status (pages-in 12 img) side v s e scratch B in
+    let fixed = fixed-status (pages-in (half-of img) img) side v s e scratch B in
     (r ≡ fixed) ⊎ ((fixed ≡ 0) × (r ≡ 24))

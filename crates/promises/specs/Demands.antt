@@ -2,7 +2,7 @@
 -- (a) the status, the answer and every byte that a function for C leaves are its definition's: its contract (`luwhenoka` Promises), and the
 --     first clause of its namesake's in `src`, in the definitions' own words;
 -- (b) so its call is a step of a list, on the image that it is handed: the other clauses there;
--- (c) the demands hold of every list of such steps: `The-demands`, at document 01's capacity.
+-- (c) the demands hold of every list of such steps, at every capacity: `The-demands`.
 -- The demands that speak of one call's answer alone are told in the words of these promises besides. Assumes nothing.
 use Rattle.calls.specs.Demands.{The-demands}
 use Rattle.promises.specs.Refusing.{Refusing}
@@ -11,7 +11,7 @@ use Rattle.promises.specs.Changes.{Every-change-promised}
 use Rattle.promises.specs.Header.{Header-runs}
 
 pub record Demands-met : Type 0 where
-  pub demands : The-demands 12
+  pub demands : The-demands
   pub refusing : Refusing
   pub by-status : By-status
   pub every-change : Every-change-promised

@@ -5,7 +5,7 @@ use mathlib.Core.Logic.{_≢_}
 use mathlib.Core.Bool.{cond}
 use mathlib.Core.List.{List}
 use lib.IntN.{ℤ, pos}
-use Rattle.image.specs.Images.{pages-in}
+use Rattle.image.specs.Images.{half-of, pages-in}
 use Rattle.calls.specs.Refusals.{cleared}
 use Rattle.calls.specs.Changes.{Side}
 use Rattle.calls.specs.Calls.{head}
@@ -16,16 +16,18 @@ use Rattle.luwhenoka.specs.declared.ListingAnswer.{ListingAnswer}
 use Rattle.luwhenoka.specs.Promises.{Formats, Books, Answers, Averages, Lists, Audits}
 
 -- "A refusal returns its number and zeros (instant: the pages read too). Image and output keep their bytes; scratch is untouched at 16
--- and 17, also at 11 and 13, else its n bytes are 0." That every call returns is part of its function's proof.
+-- and 17, also at 11 and 13, else its n bytes are 0." Document 02, (xi): at a bad capacity too. That every call returns is part of its
+-- function's proof.
 pub record Refusing : Type 0 where
-  pub of-format : (kind window : ℕ) (img : List ℕ) (r : ℕ) (after : List ℕ) → Formats kind window img r after → r ≢ 0 → after ≡ img
+  pub of-format :
+      (kind window k : ℕ) (img : List ℕ) (r : ℕ) (after : List ℕ) → Formats kind window k img r after → r ≢ 0 → after ≡ img
   pub of-booking :
       (side : Side) (v : ℤ) (s e : ℕ) (img scratch : List ℕ) (r : ℕ) (after left : List ℕ) → Books side v s e img scratch r after left
-      → (r ≢ 0 → after ≡ img) × (left ≡ cond (keeps-scratch r) scratch (cleared (pages-in 12 img) scratch))
+      → (r ≢ 0 → after ≡ img) × (left ≡ cond (keeps-scratch img r) scratch (cleared (pages-in (half-of img) img) scratch))
   pub of-instant :
       (t : ℕ) (img : List ℕ) (r : InstantAnswer) → Answers t img r
       → (r .status ≢ 0 → (r .sum ≡ pos 0) × (r .count ≡ pos 0))
-      × (r .status ≡ 0 → r .pages ≡ head 12 img .height)
+      × (r .status ≡ 0 → r .pages ≡ head (half-of img) img .height)
       × (r .status ≢ 0 → r .status ≢ 21 → r .pages ≡ 0)
   pub of-average :
       (t : ℕ) (img : List ℕ) (r : AverageAnswer) → Averages t img r
@@ -35,4 +37,4 @@ pub record Refusing : Type 0 where
       → (after ≡ out) × (r .runs ≡ 0)
   pub of-audit :
       (img scratch : List ℕ) (r : ℕ) (left : List ℕ) → Audits img scratch r left
-      → left ≡ cond (keeps-scratch r) scratch (cleared (pages-in 12 img) scratch)
+      → left ≡ cond (keeps-scratch img r) scratch (cleared (pages-in (half-of img) img) scratch)

@@ -3,7 +3,8 @@ use Prim.Native.Nat.{ℕ}
 use mathlib.Core.List.{List}
 use lib.IntN.{ℤ}
 use Rattle.calls.specs.Changes.{Side}
-use Rattle.calls.specs.Tables.{Exactly, format-cases, book-cases, instant-cases, listing-cases, audit-cases, Pages-told}
+use Rattle.image.specs.Images.{half-of}
+use Rattle.calls.specs.Tables.{Exactly, format-cases, judge-cases, book-cases, instant-cases, listing-cases, audit-cases, Pages-told}
 use Rattle.luwhenoka.specs.declared.InstantAnswer.{InstantAnswer}
 use Rattle.luwhenoka.specs.declared.AverageAnswer.{AverageAnswer}
 use Rattle.luwhenoka.specs.declared.ListingAnswer.{ListingAnswer}
@@ -13,18 +14,19 @@ use Rattle.luwhenoka.specs.Promises.{Formats, Books, Answers, Averages, Lists, 
 -- instant tells the pages that it looked at.
 pub record By-status : Type 0 where
   pub of-format :
-      (kind window : ℕ) (img : List ℕ) (r : ℕ) (after : List ℕ) → Formats kind window img r after
-      → Exactly (format-cases 12 kind window img) r
+      (kind window k : ℕ) (img : List ℕ) (r : ℕ) (after : List ℕ) → Formats kind window k img r after
+      → Exactly (format-cases kind window k img) r
   pub of-booking :
       (side : Side) (v : ℤ) (s e : ℕ) (img scratch : List ℕ) (r : ℕ) (after left : List ℕ) → Books side v s e img scratch r after left
-      → Exactly (book-cases 12 side v s e img scratch) r
+      → Exactly (judge-cases img (book-cases (half-of img) side v s e img scratch)) r
   pub of-instant :
       (t : ℕ) (img : List ℕ) (r : InstantAnswer) → Answers t img r
-      → Exactly (instant-cases 12 t img) (r .status) × Pages-told 12 t img (r .status) (r .pages)
+      → Exactly (judge-cases img (instant-cases (half-of img) t img)) (r .status) × Pages-told (half-of img) t img (r .status) (r .pages)
   pub of-average :
-      (t : ℕ) (img : List ℕ) (r : AverageAnswer) → Averages t img r → Exactly (instant-cases 12 t img) (r .status)
+      (t : ℕ) (img : List ℕ) (r : AverageAnswer) → Averages t img r → Exactly (judge-cases img (instant-cases (half-of img) t img)) (r .status)
   pub of-listing :
       (a b : ℕ) (img out : List ℕ) (r : ListingAnswer) (after : List ℕ) → Lists a b img out r after
-      → Exactly (listing-cases 12 a b img out) (r .status)
+      → Exactly (judge-cases img (listing-cases (half-of img) a b img out)) (r .status)
   pub of-audit :
-      (img scratch : List ℕ) (r : ℕ) (left : List ℕ) → Audits img scratch r left → Exactly (audit-cases 12 img scratch) r
+      (img scratch : List ℕ) (r : ℕ) (left : List ℕ) → Audits img scratch r left
+      → Exactly (judge-cases img (audit-cases (half-of img) img scratch)) r

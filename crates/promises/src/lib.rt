@@ -18,28 +18,29 @@ ghost use mathlib.Core.Logic.{_≢_};
 ghost use mathlib.Core.List.{[]};
 ghost use Rattle.rule.specs.Averages.{average};
 ghost use Rattle.calls.specs.Changes.{entering, withdrawing};
-ghost use Rattle.calls.specs.Calls as calls;
+ghost use Rattle.image.specs.Images.{half-of};
+ghost use Rattle.calls.specs.Index as calls;
 ghost use Rattle.calls.specs.Accepted.{Accepted-change};
 ghost use Rattle.calls.specs.Trace.{Step, Trace, change-made};
 ghost use Rattle.luwhenoka.specs.Answers.{average-answer};
 ghost use Rattle.promises.specs.AfterLists.{After-lists, Instant-as, Average-as, Listing-as, Audit-as, Booking-as};
 
 // A format that returns 0 begins a list, and a refused one keeps the image.
-pub fn format(img: &mut [u8], kind: u32, window: u32) -> u32
-    ensures { λ r. ⌜ record { status = r; image = now (img .exit) } ≡ calls.format 12 kind window (now (img .entry)) ⌝ }
-    ensures { λ r. ⌜ (r ≡ 0 → Trace 12 kind window (now (img .exit)) []) ⌝ }
-    ensures { λ r. ⌜ (r ≢ 0 → Step 12 (now (img .entry)) [] (now (img .exit))) ⌝ }
+pub fn format(img: &mut [u8], kind: u32, window: u32, capacity: u32) -> u32
+    ensures { λ r. ⌜ record { status = r; image = now (img .exit) } ≡ calls.index-format kind window capacity (now (img .entry)) ⌝ }
+    ensures { λ r. ⌜ (r ≡ 0 → Trace kind window capacity (now (img .exit)) []) ⌝ }
+    ensures { λ r. ⌜ (r ≢ 0 → Step (now (img .entry)) [] (now (img .exit))) ⌝ }
 {
-    luw_format(img, kind, window)
+    luw_format(img, kind, window, capacity)
 }
 
 // A booking makes its change if it returns 0, and none if it is refused. What an accepted change leaves is said of images of bytes, and
 // every image that is lent is one.
 pub fn enter(img: &mut [u8], scratch: &mut [u8], v: i64, s: u32, e: u32) -> u32
     ensures { λ r. ⌜ record { status = r; image = now (img .exit); scratch = now (scratch .exit) }
-        ≡ calls.book 12 entering v s e (now (img .entry)) (now (scratch .entry)) ⌝ }
-    ensures { λ r. ⌜ Step 12 (now (img .entry)) (change-made r (record { side = entering; v = v; s = s; e = e })) (now (img .exit)) ⌝ }
-    ensures { λ r. ⌜ (r ≡ 0 → Accepted-change 12 entering v s e (now (img .entry)) (now (img .exit))) ⌝ }
+        ≡ calls.index-book entering v s e (now (img .entry)) (now (scratch .entry)) ⌝ }
+    ensures { λ r. ⌜ Step (now (img .entry)) (change-made r (record { side = entering; v = v; s = s; e = e })) (now (img .exit)) ⌝ }
+    ensures { λ r. ⌜ (r ≡ 0 → Accepted-change (half-of (now (img .entry))) entering v s e (now (img .entry)) (now (img .exit))) ⌝ }
     ensures { λ r. ⌜ After-lists (now (img .entry)) (Booking-as entering v s e (now (img .entry)) (now (scratch .entry)) r) ⌝ }
 {
     luw_enter(img, scratch, v, s, e)
@@ -47,9 +48,9 @@ pub fn enter(img: &mut [u8], scratch: &mut [u8], v: i64, s: u32, e: u32) -> u32
 
 pub fn withdraw(img: &mut [u8], scratch: &mut [u8], v: i64, s: u32, e: u32) -> u32
     ensures { λ r. ⌜ record { status = r; image = now (img .exit); scratch = now (scratch .exit) }
-        ≡ calls.book 12 withdrawing v s e (now (img .entry)) (now (scratch .entry)) ⌝ }
-    ensures { λ r. ⌜ Step 12 (now (img .entry)) (change-made r (record { side = withdrawing; v = v; s = s; e = e })) (now (img .exit)) ⌝ }
-    ensures { λ r. ⌜ (r ≡ 0 → Accepted-change 12 withdrawing v s e (now (img .entry)) (now (img .exit))) ⌝ }
+        ≡ calls.index-book withdrawing v s e (now (img .entry)) (now (scratch .entry)) ⌝ }
+    ensures { λ r. ⌜ Step (now (img .entry)) (change-made r (record { side = withdrawing; v = v; s = s; e = e })) (now (img .exit)) ⌝ }
+    ensures { λ r. ⌜ (r ≡ 0 → Accepted-change (half-of (now (img .entry))) withdrawing v s e (now (img .entry)) (now (img .exit))) ⌝ }
     ensures { λ r. ⌜ After-lists (now (img .entry)) (Booking-as withdrawing v s e (now (img .entry)) (now (scratch .entry)) r) ⌝ }
 {
     luw_withdraw(img, scratch, v, s, e)
@@ -58,8 +59,8 @@ pub fn withdraw(img: &mut [u8], scratch: &mut [u8], v: i64, s: u32, e: u32) -> u
 // Who only reads an image keeps it, and tells after any list of calls what the book does.
 pub fn instant(img: &[u8], t: u32) -> InstantAnswer
     ensures { λ r. ⌜ record { status = r .status; pair = record { sum = r .sum; count = r .count }; pages = r .pages }
-        ≡ calls.instant 12 t (now (img .entry)) ⌝ }
-    ensures { λ r. ⌜ Step 12 (now (img .entry)) [] (now (img .exit)) ⌝ }
+        ≡ calls.index-instant t (now (img .entry)) ⌝ }
+    ensures { λ r. ⌜ Step (now (img .entry)) [] (now (img .exit)) ⌝ }
     ensures { λ r. ⌜ After-lists (now (img .entry)) (Instant-as t r) ⌝ }
 {
     luw_instant(img, t)
@@ -67,8 +68,8 @@ pub fn instant(img: &[u8], t: u32) -> InstantAnswer
 
 pub fn listing(img: &[u8], a: u32, b: u32, out: &mut [u8]) -> ListingAnswer
     ensures { λ r. ⌜ record { status = r .status; runs = r .runs; output = now (out .exit) }
-        ≡ calls.listing 12 a b (now (img .entry)) (now (out .entry)) ⌝ }
-    ensures { λ r. ⌜ Step 12 (now (img .entry)) [] (now (img .exit)) ⌝ }
+        ≡ calls.index-listing a b (now (img .entry)) (now (out .entry)) ⌝ }
+    ensures { λ r. ⌜ Step (now (img .entry)) [] (now (img .exit)) ⌝ }
     ensures { λ r. ⌜ After-lists (now (img .entry)) (Listing-as a b (now (out .entry)) r (now (out .exit))) ⌝ }
 {
     luw_listing(img, a, b, out)
@@ -76,17 +77,17 @@ pub fn listing(img: &[u8], a: u32, b: u32, out: &mut [u8]) -> ListingAnswer
 
 pub fn audit(img: &[u8], scratch: &mut [u8]) -> u32
     ensures { λ r. ⌜ record { status = r; scratch = now (scratch .exit) }
-        ≡ calls.audit 12 (now (img .entry)) (now (scratch .entry)) ⌝ }
-    ensures { λ r. ⌜ Step 12 (now (img .entry)) [] (now (img .exit)) ⌝ }
+        ≡ calls.index-audit (now (img .entry)) (now (scratch .entry)) ⌝ }
+    ensures { λ r. ⌜ Step (now (img .entry)) [] (now (img .exit)) ⌝ }
     ensures { λ r. ⌜ After-lists (now (img .entry)) (Audit-as (now (img .entry)) (now (scratch .entry)) r) ⌝ }
 {
     luw_audit(img, scratch)
 }
 
 pub fn average_at(img: &[u8], t: u32) -> AverageAnswer
-    ensures { λ r. ⌜ r ≡ average-answer (calls.average-at 12 t (now (img .entry)) .status)
-        (calls.average-at 12 t (now (img .entry)) .average) ⌝ }
-    ensures { λ r. ⌜ Step 12 (now (img .entry)) [] (now (img .exit)) ⌝ }
+    ensures { λ r. ⌜ r ≡ average-answer (calls.index-average t (now (img .entry)) .status)
+        (calls.index-average t (now (img .entry)) .average) ⌝ }
+    ensures { λ r. ⌜ Step (now (img .entry)) [] (now (img .exit)) ⌝ }
     ensures { λ r. ⌜ After-lists (now (img .entry)) (Average-as t r) ⌝ }
 {
     luw_average(img, t)

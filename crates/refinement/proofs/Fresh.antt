@@ -15,9 +15,9 @@ use Rattle.refinement.proofs.Stepped.{state}
 abbrev pub fresh-state : State
 fresh-state = state 0 1 (record { entry = entry 0 none 0; subtree = tt } ∷ []) (record { chain = []; mark = 2 })
 
-pub fresh-represented : (pages kind window : ℕ) → Represents (fresh pages kind window) fresh-state
+pub fresh-represented : (pages kind window field : ℕ) → Represents (fresh pages kind window field) fresh-state
 unfolding fresh fresh-page Stores root-node
-fresh-represented pages kind window =
+fresh-represented pages kind window field =
     record {
       height = refl;
       root = refl;

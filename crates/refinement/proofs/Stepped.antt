@@ -28,6 +28,7 @@ pub record Steady (h g : Head) : Type 0 where
   pub kind : g .kind ≡ h .kind
   pub window : g .window ≡ h .window
   pub changes : g .changes ≡ h .changes
+  pub capacity : g .capacity ≡ h .capacity
 
 pub steady-of : {h g : Head} → lasting g ≡ lasting h → Steady h g
 unfolding lasting with-supply
@@ -37,6 +38,7 @@ steady-of e =
       kind = ap (λ (h : Head). h .kind) e;
       window = ap (λ (h : Head). h .window) e;
       changes = ap (λ (h : Head). h .changes) e;
+      capacity = ap (λ (h : Head). h .capacity) e;
     }
 
 pub steady-of-same : {h g : Head} → g ≡ h → Steady h g
@@ -49,12 +51,14 @@ steady-then a b =
       kind = b .kind ∙ a .kind;
       window = b .window ∙ a .window;
       changes = b .changes ∙ a .changes;
+      capacity = b .capacity ∙ a .capacity;
     }
 
 -- the root is none of them
 pub steady-rooted : {h : Head} (height p : ℕ) (X : Image) → Steady h (X .head) → Steady h (with-root height p X .head)
 unfolding with-root
-steady-rooted height p X s = record { pages = s .pages; kind = s .kind; window = s .window; changes = s .changes }
+steady-rooted height p X s =
+    record { pages = s .pages; kind = s .kind; window = s .window; changes = s .changes; capacity = s .capacity }
 
 -- From X to X′, on trees from Y to Y′: what is shown, the pages held, and the pages that may differ, all of which are held.
 pub record Stepped (X X′ : Image) (Y Y′ : State) (names : List ℕ) : Type 0 where

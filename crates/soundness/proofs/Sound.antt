@@ -55,7 +55,7 @@ never-test half img =
 pub record Fit-image (half : ℕ) (img : List ℕ) : Type 0 where
   pub whole : length-ok half img ≡ true
   pub head-fits : head-test half img ≡ true
-  pub head : Ranges (pages-in half img) (the-head half img)
+  pub head : Ranges half (pages-in half img) (the-head half img)
   pub tree : tree-test half img ≡ true
   pub never : (p : ℕ) → the-head half img .mark ≤ p → p < pages-in half img → never-used-ok (page-at half img p) ≡ true
 

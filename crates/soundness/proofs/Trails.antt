@@ -210,7 +210,7 @@ all-visits half img into =
     visits half (the-head half img) img into (the-head half img .height - 1) (root-context (the-head half img)) (the-head half img .root)
 
 module _ (half : ℕ) (img : List ℕ) (fits : head-test half img ≡ true) where
-  facts : Ranges (pages-in half img) (the-head half img)
+  facts : Ranges half (pages-in half img) (the-head half img)
   facts = fit-ranges half (pages-in half img) (page-at half img 0) fits
 
   module _ (into : Page-context → List ℕ → ℕ → Bool) where

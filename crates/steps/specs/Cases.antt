@@ -28,7 +28,7 @@ withdraw-names v s e X = change-names 2 (combine 1) s e (opposite (entry-effect 
 
 -- one booking, which leaves three entries; a second one, which splits the leaf; and the second withdrawn
 unfoldable pub one : ℕ → Image
-one n = enter (pos 1) 10 15 (fresh n 1 0)
+one n = enter (pos 1) 10 15 (fresh n 1 0 4)
 
 unfoldable pub grown : Image
 grown = enter (pos 1) 20 25 (one 4)
@@ -40,44 +40,44 @@ collapsed = withdraw (pos 1) 20 25 grown
 unfoldable pub split-below : Image
 split-below =
     enter (pos 2) 4 8 (enter (pos 1) 6 16 (enter (pos 1) 6 9 (withdraw (pos 2) 0 9 (enter (pos 2) 9 10
-    (enter (pos 1) 9 20 (enter (pos 2) 0 9 (enter (pos 2) 2 9 (fresh 6 1 0))))))))
+    (enter (pos 1) 9 20 (enter (pos 2) 0 9 (enter (pos 2) 2 9 (fresh 6 1 0 4))))))))
 
 -- a left sibling gives
 unfoldable pub redistributed-left : Image
 redistributed-left =
     withdraw (pos 1) 3 7 (enter (pos 1) 5 17 (enter (pos 1) 3 7 (enter (pos 1) 11 23 (enter (pos 1) 3 6
-    (enter (pos 2) 3 12 (fresh 6 1 0))))))
+    (enter (pos 2) 3 12 (fresh 6 1 0 4))))))
 
 -- two pages join
 unfoldable pub before-merge : Image
-before-merge = enter (pos 2) 9 20 (enter (pos 1) 7 12 (enter (pos 2) 6 14 (enter (pos 1) 7 10 (fresh 6 1 0))))
+before-merge = enter (pos 2) 9 20 (enter (pos 1) 7 12 (enter (pos 2) 6 14 (enter (pos 1) 7 10 (fresh 6 1 0 4))))
 
 unfoldable pub merged : Image
 merged = withdraw (pos 2) 6 14 before-merge
 
 -- a leaf that the next cut splits; two leaves, the second of which starts at the end of the first booking
 unfoldable pub four-entries : Image
-four-entries = enter (pos 1) 0 7 (enter (pos 1) 4 5 (fresh 4 1 0))
+four-entries = enter (pos 1) 0 7 (enter (pos 1) 4 5 (fresh 4 1 0 4))
 
 unfoldable pub end-apart : Image
-end-apart = enter (pos 1) 5 8 (enter (pos 1) 2 4 (fresh 4 1 0))
+end-apart = enter (pos 1) 5 8 (enter (pos 1) 2 4 (fresh 4 1 0 4))
 
 -- Pages that will be rebalanced with a sibling that no path leads to: page 2, between pages 1 and 4, with page 1, which can give or not;
 -- page 1, the first, with page 4, which can give.
 unfoldable pub giver-left : Image
-giver-left = enter (pos 1) 10 11 (enter (pos 1) 23 24 (enter (pos 1) 17 19 (enter (pos 1) 9 20 (fresh 6 1 0))))
+giver-left = enter (pos 1) 10 11 (enter (pos 1) 23 24 (enter (pos 1) 17 19 (enter (pos 1) 9 20 (fresh 6 1 0 4))))
 
 unfoldable pub no-giver : Image
-no-giver = enter (pos 1) 18 23 (enter (pos 1) 12 19 (enter (pos 1) 5 13 (fresh 6 1 0)))
+no-giver = enter (pos 1) 18 23 (enter (pos 1) 12 19 (enter (pos 1) 5 13 (fresh 6 1 0 4)))
 
 unfoldable pub giver-right : Image
-giver-right = enter (pos 1) 7 12 (enter (pos 1) 14 16 (enter (pos 1) 23 25 (enter (pos 1) 24 28 (fresh 6 1 0))))
+giver-right = enter (pos 1) 7 12 (enter (pos 1) 14 16 (enter (pos 1) 23 25 (enter (pos 1) 24 28 (fresh 6 1 0 4))))
 
 -- three levels: page 2 will join page 1, and then their parent, page 3, is rebalanced with page 7
 unfoldable pub three-levels : Image
 three-levels =
     enter (pos 1) 13 17 (enter (pos 1) 12 15 (enter (pos 1) 11 END (enter (pos 1) 16 24 (enter (pos 1) 8 9
-    (enter (pos 1) 20 23 (fresh 9 1 0))))))
+    (enter (pos 1) 20 23 (fresh 9 1 0 4))))))
 
 pub record Cases : Type 0 where
   -- A. and B.: the leaf that has 20 keeps two entries, a taken page gets three, and a new root leads to both.
@@ -109,7 +109,7 @@ pub record Cases : Type 0 where
       entries merged 1 ≡ entry 0 none 0 ∷ entry 7 (pair (pos 2) (pos 2)) 0 ∷ entry 9 (pair (pos 4) (pos 3)) 0 ∷ []
   -- Equal sums alone don't heal: (0, 1) is not (0, 0).
   pub zero-counts :
-      entries (enter (pos 0) 10 40 (fresh 2 1 0)) 1
+      entries (enter (pos 0) 10 40 (fresh 2 1 0 4)) 1
       ≡ entry 0 none 0 ∷ entry 10 (pair (pos 0) (pos 1)) 0 ∷ entry 40 none 0 ∷ []
   -- The pages that the steps name: the head, then those of A, of B, of C's two ways, of D and of E, in this order.
   -- The second booking: the leaf on each way; B takes two pages, of which the second is the new root.

@@ -26,7 +26,8 @@ cut-leaf-entry t e = cond (eqb (e .start) t) (e ∷ []) (e ∷ entry t (e .pair)
 unfoldable pub not-split : ℕ → Entry → List Entry → Image → Cutting
 not-split level e es X = record { became = e ∷ []; image = put (e .child) (tree level es) X }
 
--- "25 entries split: the page keeps 12, a taken page gets 13, the parent gains an entry with the same pair."
+-- "25 entries split: the page keeps 12, a taken page gets 13, the parent gains an entry with the same pair." Document 02, (xi): "a split
+-- keeps K/2 and moves K/2 + 1"
 unfoldable pub split : ℕ → ℕ → Entry → List Entry → Image → Cutting
 split half level e es X =
     let right = drop half es in
@@ -36,7 +37,7 @@ split half level e es X =
       image = put q (tree level right) (put (e .child) (tree level (take half es)) (taken X));
     }
 
--- a page that gained an entry: "25 entries split", fewer are written
+-- a page that gained an entry: one more than the capacity split, fewer are written
 unfoldable pub split-if-full : ℕ → ℕ → Entry → List Entry → Image → Cutting
 split-if-full half level e es X = cond (leb (length es) (capacity half)) (not-split level e es X) (split half level e es X)
 

@@ -16,7 +16,7 @@ use Rattle.steps.specs.Supply.{entries, put, given-back, with-root}
 unfoldable pub heals : ℕ → List Entry → ℕ → Bool
 heals t es i = ltb 0 i && (eqb (at es i .start) t && same-pair (at es i .pair) (at es (i - 1) .pair))
 
--- "A page other than the root left with 11"
+-- "A page other than the root left with 11", at other capacities with K/2 − 1
 unfoldable pub short : ℕ → ℕ → Image → Bool
 short half p X = ltb (length (entries X p)) half
 
@@ -38,7 +38,7 @@ module _ (_⊕_ : Pair → Pair → Pair) where
   unfoldable pub joint : ℕ → ℕ → Image → List Entry
   joint p l X = pushed X (at (entries X p) l) ++ pushed X (at (entries X p) (suc l))
 
-  -- "A neighbour with 13 or more gives its nearest entry, and the right page's parent start follows": the left page has k of all
+  -- "a neighbour gives from K/2 + 1 up": "its nearest entry, and the right page's parent start follows"; the left page has k of all
   unfoldable pub redistribute : ℕ → ℕ → ℕ → ℕ → Image → Image
   redistribute level p l k X =
       let es = entries X p in

@@ -29,6 +29,7 @@ with-supply first chain mark h =
       kind = h .kind;
       window = h .window;
       changes = h .changes;
+      capacity = h .capacity;
     }
 
 -- the page that is taken next. Past the image's end the high mark goes on: refusal 24 sees to it that no change gets there.
@@ -77,6 +78,7 @@ with-root height p X =
             kind = h .kind;
             window = h .window;
             changes = h .changes;
+            capacity = h .capacity;
           };
       page = X .page;
     }
@@ -97,6 +99,7 @@ count-change X =
             kind = h .kind;
             window = h .window;
             changes = suc (h .changes);
+            capacity = h .capacity;
           };
       page = X .page;
     }

@@ -53,7 +53,7 @@ module _ {half : ℕ} {img : List ℕ} {X : Image} (h : Encodes half img X) wher
       let some : 0 < X .head .pages = omega (arith, h .pages-least) in
       omega (arith, holds-length, page-within half some)
 
-  pub holds-numbers : 36 ≤ length img
+  pub holds-numbers : 40 ≤ length img
   holds-numbers = omega (arith, holds-first, h .half-least)
 
   pub holds-pages : pages-in half img ≡ X .head .pages

@@ -16,9 +16,9 @@ pub fn head_of(half: usize, img: &[u8]) -> Head
     read_head(page_at(half, img, 0))
 }
 
-// The head becomes h, for the same number of pages: its nine numbers are written, since what stands behind them is unused already.
+// The head becomes h, for the same number of pages: its ten numbers are written, since what stands behind them is unused already.
 pub(crate) fn set_head(img: &mut [u8], h: Head)
-    requires { ⌜ 36 ≤ length (now img) ⌝ }
+    requires { ⌜ 40 ≤ length (now img) ⌝ }
     ensures { λ _. ⌜ Head-set h (now (img .entry)) (now (img .exit)) ⌝ }
 {
     write_numbers(img, h)

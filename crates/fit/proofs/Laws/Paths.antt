@@ -36,9 +36,9 @@ bounded h n at c l a b =
     record { sums = omega arith; counts = omega arith }
 
 -- the root is under no entry
-pub root-path : (n : ℕ) (h : Head) → Ranges n h → Path h 0 (root-context h)
+pub root-path : (half n : ℕ) (h : Head) → Ranges half n h → Path h 0 (root-context h)
 unfolding root-context
-root-path n h r = record {
+root-path half n h r = record {
   level = omega (arith, r .height-most);
   span = record { before = omega arith; within = omega arith };
   sums =

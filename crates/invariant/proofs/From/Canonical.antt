@@ -130,7 +130,7 @@ unfolding head-fit page-at
 head-page half img some ok b e =
     let k = simp and-eq-true-iff at e in
     head-again half (page-at half img 0) some (page-length (sized half img ok) 0 (omega (arith, sized half img ok .least)))
-    (bytes-part img (page-size half * 0) (page-size half) b) (k .1)
+    (bytes-part img (page-size half * 0) (page-size half) b) (k .1 .1)
     ∙ ap (λ o. part img o (page-size half)) (mul-zero (page-size half))
 
 pub canonical : (half : ℕ) (img : List ℕ) → 1 ≤ half → Bytes img → sound half img ≡ true → image-bytes half (image-of half img) ≡ img

@@ -42,7 +42,7 @@ module _ (half : ℕ) (img : List ℕ) (f : Sound-facts half img) where
         supplied = sound-supplied half img f;
       }
 
-  sound-ranges : Ranges (image-of half img .head)
+  sound-ranges : Ranges half (image-of half img .head)
   unfolding image-of
   sound-ranges =
       let r = pages-range half img (f .fit .whole) in
@@ -53,6 +53,7 @@ module _ (half : ℕ) (img : List ℕ) (f : Sound-facts half img) where
         mark-most = omega (arith, g .pages-is, g .mark-most);
         kind-fits = g .kind-fits;
         window-fits = g .window-fits;
+        field-fits = g .field-fits;
       }
 
   pub sound-structure : 1 ≤ half

@@ -32,7 +32,7 @@ seg-below l {Q} {hi = hi} p {G} f (more {lo} {mid} {x = x} {es = es} e lt q r) n
     go (yes m) later = f lo mid x (omega (arith, seg-length r)) q m
     go (no m) later = later (omega (arith, below-cons l p x es))
 
-module _ (half : ℕ) (h : Head) (pages : ℕ → Cell) (ranges : Ranges h) (few : h .changes ≤ most-changes) (p : ℕ) where
+module _ (half : ℕ) (h : Head) (pages : ℕ → Cell) (ranges : Ranges half h) (few : h .changes ≤ most-changes) (p : ℕ) where
   kept-here : (l sums counts lo hi q : ℕ) (es : Nodes l) → hi ≤ END → l < free-level
       → Paged half h pages l (Ready half h pages l sums counts) lo hi q es
       → Canonical half (pages q)

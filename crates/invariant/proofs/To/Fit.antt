@@ -142,7 +142,7 @@ module _ (half : ℕ) (h : Head) (pages : ℕ → Cell) where
 
   -- ---- the pages below
 
-  module _ (img : List ℕ) (ranges : Ranges h) (slow : h .changes ≤ most-changes) (some : 1 ≤ half)
+  module _ (img : List ℕ) (ranges : Ranges half h) (slow : h .changes ≤ most-changes) (some : 1 ≤ half)
       (written : (p : ℕ) → 1 ≤ p → p < h .pages → page-at half img p ≡ cell-bytes half (pages p)) where
     page-read : (l sums counts lo hi p : ℕ) (es : Nodes l) → hi ≤ END → l < free-level
         → Paged half h pages l (Ready half h pages l sums counts) lo hi p es

@@ -14,6 +14,7 @@ use Rattle.lists.proofs.Totals.{hit-self}
 use Rattle.rule.specs.Time.{END, kind-ok, window-ok}
 use Rattle.page.specs.declared.Head.{Head}
 use Rattle.page.specs.Fit.{most-height}
+use Rattle.page.proofs.Laws.Capacities.{field-fits, field-is}
 use Rattle.page.specs.Widths.{Head-fits}
 use Rattle.image.specs.Images.{Image, Cell, free, Canonical}
 use Rattle.lists.specs.Lists.{times}
@@ -153,6 +154,7 @@ module _ {half : ℕ} {X : Image} {Y : State} (g : Structure half (X .head .kind
         g .shown .supplied .length-true,
         g .ranges .mark-most,
         g .changes-most,
+        field-fits (field-is half (X .head .capacity) (g .ranges .field-fits) .0),
       )
 
   -- ---- every page

@@ -105,7 +105,7 @@ module _ (half : ℕ) (h : Head) (pages : ℕ → Cell) where
   child-small zero sums counts lo hi x r = omega arith
   child-small (suc l) sums counts lo hi x r = omega arith
 
-  module _ (ranges : Ranges h) (few : h .changes ≤ most-changes) (l sums counts : ℕ) where
+  module _ (ranges : Ranges half h) (few : h .changes ≤ most-changes) (l sums counts : ℕ) where
     entry-fits : (lo hi : ℕ) (x : Node (Subtree l)) → Ready l sums counts lo hi x → x .entry .start ≡ lo → lo < END → Entry-fits (x .entry)
     entry-fits lo hi x r e lt =
         let p = pair-fits (h .kind) (h .changes) l sums counts x (ready-weighed l sums counts lo hi x r) few in

@@ -10,7 +10,7 @@ use borrow.Author.Tests.{eq-eqb, le-leb, lt-leb, lt-ltb}
 use Rattle.rule.specs.Time.{END}
 use Rattle.page.specs.declared.Head.{Head}
 use Rattle.page.specs.Layout.{page-size, free-ok, never-used-ok, head-bytes}
-use Rattle.page.specs.Fit.{root-context, fewest, most-height, ranges-ok, head-fit}
+use Rattle.page.specs.Fit.{root-context, fewest, most-height, ranges-ok, field-ok, head-fit}
 use Rattle.page.proofs.Laws.Heads.{head-of-head, head-rest}
 use Rattle.page.proofs.Laws.Frees.{free-ok-free, never-used-ok-unused}
 use Rattle.image.specs.Images.{Image, page-at, pages-in, length-ok, cell-bytes, image-of, image-bytes, Canonical}
@@ -135,8 +135,10 @@ module _ (half : ℕ) (X : Image) (Y : State) (some : 1 ≤ half)
   unfolding head-fit
   head-passes =
       let n : ℕ = pages-in half (image-bytes half X) in
+      let written = head-of-head half (X .head) (head-fits g tall) in
       ap (head-fit half n) first-written
-      ∙ (λ j. (ap (ranges-ok n) (head-of-head half (X .head) (head-fits g tall)) ∙ ranges-pass) j && head-rest half (X .head) j)
+      ∙ (λ j. (ap (ranges-ok n) written ∙ ranges-pass) j
+      && ((ap (λ (h : Head). field-ok half (h .capacity)) written ∙ g .ranges .field-fits) j && head-rest half (X .head) j))
 
   stands : Stands (root-context (X .head)) (Y .tree .level) 0 0 0 END
   unfolding root-context

@@ -121,6 +121,6 @@ sits-root {img} q least most o =
       changes = r .changes-most;
       page = omega (arith, r .root-below, r .pages-is);
       depth = 0;
-      path = root-path (pages-in (q .half) img) (q .head) r;
+      path = root-path (q .half) (pages-in (q .half) img) (q .head) r;
       above = above-root (q .head);
     }

@@ -81,7 +81,7 @@ module _ {half : ℕ} {img : List ℕ} {h : Head} (some : 1 ≤ half) (o : Open-
   walk-root t =
       let r = opened-ranges o in
       record {
-        path = root-path _ h r;
+        path = root-path _ _ h r;
         here = omega (arith, r .root-below, r .pages-is);
         begun = omega arith;
         carried = carried-none h (root-context h);

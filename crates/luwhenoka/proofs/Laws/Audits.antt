@@ -19,27 +19,27 @@ audited fits room is-sound done had =
       scratch = cond (eqb (first ((16, not fits) ∷ (17, not room) ∷ [])) 0) done had;
     }
 
-module _ (img scratch : List ℕ) where
-  by-tests : (fits room is-sound : Bool) → length-ok 12 img ≡ fits → scratch-ok (pages-in 12 img) scratch ≡ room → sound 12 img ≡ is-sound
-      → audited fits room is-sound (cleared (pages-in 12 img) scratch) scratch ≡ audit 12 img scratch
+module _ (half : ℕ) (img scratch : List ℕ) where
+  by-tests : (fits room is-sound : Bool) → length-ok half img ≡ fits → scratch-ok (pages-in half img) scratch ≡ room → sound half img ≡ is-sound
+      → audited fits room is-sound (cleared (pages-in half img) scratch) scratch ≡ audit half img scratch
   unfolding audited audit audit-input-rows scratch-after first
-  by-tests fits room is-sound a b c = λ j. audited (sym a j) (sym b j) (sym c j) (cleared (pages-in 12 img) scratch) scratch
+  by-tests fits room is-sound a b c = λ j. audited (sym a j) (sym b j) (sym c j) (cleared (pages-in half img) scratch) scratch
 
-  pub audit-16 : length-ok 12 img ≡ false → record { status = 16; scratch = scratch } ≡ audit 12 img scratch
+  pub audit-16 : length-ok half img ≡ false → record { status = 16; scratch = scratch } ≡ audit half img scratch
   unfolding audited first
   audit-16 a = by-tests false _ _ a refl refl
 
-  pub audit-17 : length-ok 12 img ≡ true → length scratch < pages-in 12 img
-      → record { status = 17; scratch = scratch } ≡ audit 12 img scratch
+  pub audit-17 : length-ok half img ≡ true → length scratch < pages-in half img
+      → record { status = 17; scratch = scratch } ≡ audit half img scratch
   unfolding audited first scratch-ok borrowed
   audit-17 a l = by-tests true false _ a (lt-leb _ _ l) refl
 
-  pub audit-judged : length-ok 12 img ≡ true → pages-in 12 img ≤ length scratch → {b : Bool} → sound 12 img ≡ b
-      → record { status = cond b 0 21; scratch = cleared (pages-in 12 img) scratch } ≡ audit 12 img scratch
+  pub audit-judged : length-ok half img ≡ true → pages-in half img ≤ length scratch → {b : Bool} → sound half img ≡ b
+      → record { status = cond b 0 21; scratch = cleared (pages-in half img) scratch } ≡ audit half img scratch
   unfolding audited first scratch-ok borrowed
   audit-judged a room {b} c = numbered b ∙ by-tests true true b a (le-leb _ _ room) c
     where
-      numbered : (b : Bool) → record { status = cond b 0 21; scratch = cleared (pages-in 12 img) scratch }
-          ≡ audited true true b (cleared (pages-in 12 img) scratch) scratch
+      numbered : (b : Bool) → record { status = cond b 0 21; scratch = cleared (pages-in half img) scratch }
+          ≡ audited true true b (cleared (pages-in half img) scratch) scratch
       numbered true = refl
       numbered false = refl

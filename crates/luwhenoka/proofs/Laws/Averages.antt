@@ -5,7 +5,6 @@ use mathlib.Core.Logic.{_≢_}
 use mathlib.Core.Bool.{true, false, cond}
 use mathlib.Core.List.{List}
 use lib.Dec.{eqb}
-use lib.IntN.{pos}
 use borrow.Author.Tests.{ne-eqb}
 use Rattle.rule.specs.declared.Average.the-variants.{Nothing}
 use Rattle.rule.specs.Averages.{average}
@@ -15,32 +14,32 @@ use Rattle.answers.proofs.Calls.{answered}
 use Rattle.luwhenoka.specs.declared.InstantAnswer.{InstantAnswer}
 use Rattle.luwhenoka.specs.Answers.{instant-answer, average-answer, averaged-answer}
 
-module _ {r : InstantAnswer} (t : ℕ) (img : List ℕ) (e : r ≡ instant-answer (instant 12 t img)) where
-  number-is : r .status ≡ instant 12 t img .status
+module _ {r : InstantAnswer} (half t : ℕ) (img : List ℕ) (e : r ≡ instant-answer (instant half t img)) where
+  number-is : r .status ≡ instant half t img .status
   unfolding instant-answer
   number-is = ap (λ (a : InstantAnswer). a .status) e
 
-  pair-is : record { sum = r .sum; count = r .count } ≡ instant 12 t img .pair
+  pair-is : record { sum = r .sum; count = r .count } ≡ instant half t img .pair
   unfolding instant-answer
   pair-is = ap (λ (a : InstantAnswer). record { sum = a .sum; count = a .count }) e
 
   -- an image whose instant is answered is of a fit length
-  pub average-fits : r .status ≡ 0 → length-ok 12 img ≡ true
-  average-fits n = answered 12 t img (sym number-is ∙ n) .length-fits
+  pub average-fits : r .status ≡ 0 → length-ok half img ≡ true
+  average-fits n = answered half t img (sym number-is ∙ n) .length-fits
 
   pub average-0 : r .status ≡ 0
-      → average-answer 0 (average (head 12 img .kind) (record { sum = r .sum; count = r .count })) ≡ averaged-answer (average-at 12 t img)
+      → average-answer 0 (average (head half img .kind) (record { sum = r .sum; count = r .count })) ≡ averaged-answer (average-at half t img)
   unfolding averaged-answer average-at
   average-0 n =
-      let k : ℕ = head 12 img .kind in
-      let z : 0 ≡ instant 12 t img .status = sym n ∙ number-is in
+      let k : ℕ = head half img .kind in
+      let z : 0 ≡ instant half t img .status = sym n ∙ number-is in
       λ j. average-answer (z j) (cond (eqb (z j) 0) (average k (pair-is j)) Nothing)
 
   pub average-refused : r .status ≢ 0
-      → record { status = r .status; answer = 0; hundredths = pos 0 } ≡ averaged-answer (average-at 12 t img)
-  unfolding average-answer averaged-answer average-at
+      → average-answer (r .status) Nothing ≡ averaged-answer (average-at half t img)
+  unfolding averaged-answer average-at
   average-refused n =
-      let m : ℕ = instant 12 t img .status in
+      let m : ℕ = instant half t img .status in
       let off : eqb m 0 ≡ false = ne-eqb m 0 (λ z. n (number-is ∙ z)) in
       ap (λ k. average-answer k Nothing) number-is
-      ∙ ap (λ b. average-answer m (cond b (average (head 12 img .kind) (instant 12 t img .pair)) Nothing)) (sym off)
+      ∙ ap (λ b. average-answer m (cond b (average (head half img .kind) (instant half t img .pair)) Nothing)) (sym off)

@@ -15,25 +15,25 @@ formatted fits named done had =
     let number = first ((16, not fits) ∷ (14, not named) ∷ []) in
     record { status = number; image = cond (eqb number 0) done had }
 
-module _ (kind window : ℕ) (img : List ℕ) where
+module _ (half kind window field : ℕ) (img : List ℕ) where
   abbrev done : List ℕ
-  done = image-bytes 12 (fresh (pages-in 12 img) kind window)
+  done = image-bytes half (fresh (pages-in half img) kind window field)
 
-  by-tests : (fits named : Bool) → length-ok 12 img ≡ fits → (kind-ok kind && window-ok window) ≡ named
-      → formatted fits named done img ≡ format 12 kind window img
+  by-tests : (fits named : Bool) → length-ok half img ≡ fits → (kind-ok kind && window-ok window) ≡ named
+      → formatted fits named done img ≡ format half kind window field img
   unfolding formatted format format-status
   by-tests fits named a b = λ j. formatted (sym a j) (sym b j) done img
 
-  pub format-16 : length-ok 12 img ≡ false → record { status = 16; image = img } ≡ format 12 kind window img
+  pub format-16 : length-ok half img ≡ false → record { status = 16; image = img } ≡ format half kind window field img
   unfolding formatted first
   format-16 a = by-tests false _ a refl
 
-  pub format-14 : length-ok 12 img ≡ true → (kind-ok kind && window-ok window) ≡ false
-      → record { status = 14; image = img } ≡ format 12 kind window img
+  pub format-14 : length-ok half img ≡ true → (kind-ok kind && window-ok window) ≡ false
+      → record { status = 14; image = img } ≡ format half kind window field img
   unfolding formatted first
   format-14 a b = by-tests true false a b
 
-  pub format-0 : length-ok 12 img ≡ true → (kind-ok kind && window-ok window) ≡ true
-      → record { status = 0; image = done } ≡ format 12 kind window img
+  pub format-0 : length-ok half img ≡ true → (kind-ok kind && window-ok window) ≡ true
+      → record { status = 0; image = done } ≡ format half kind window field img
   unfolding formatted first
   format-0 a b = by-tests true true a b

@@ -23,42 +23,42 @@ answered fits past before-end headed w =
       pages = cond (fits && (before-end && headed)) (w .pages) 0;
     }
 
-module _ (t : ℕ) (img : List ℕ) where
-  by-tests : (fits past before-end headed : Bool) {w : Lookup} → length-ok 12 img ≡ fits → leb END t ≡ past → ltb t END ≡ before-end
-      → head-ok 12 img ≡ headed → w ≡ look-up 12 img t → answered fits past before-end headed w ≡ instant 12 t img
+module _ (half t : ℕ) (img : List ℕ) where
+  by-tests : (fits past before-end headed : Bool) {w : Lookup} → length-ok half img ≡ fits → leb END t ≡ past → ltb t END ≡ before-end
+      → head-ok half img ≡ headed → w ≡ look-up half img t → answered fits past before-end headed w ≡ instant half t img
   unfolding answered instant instant-status
   by-tests fits past before-end headed a b c d e = λ j. answered (sym a j) (sym b j) (sym c j) (sym d j) (e j)
 
-  pub instant-16 : length-ok 12 img ≡ false → record { status = 16; pair = none; pages = 0 } ≡ instant 12 t img
+  pub instant-16 : length-ok half img ≡ false → record { status = 16; pair = none; pages = 0 } ≡ instant half t img
   unfolding answered first
   instant-16 a = by-tests false _ _ _ a refl refl refl refl
 
-  pub instant-12 : length-ok 12 img ≡ true → END ≤ t → record { status = 12; pair = none; pages = 0 } ≡ instant 12 t img
+  pub instant-12 : length-ok half img ≡ true → END ≤ t → record { status = 12; pair = none; pages = 0 } ≡ instant half t img
   unfolding answered first
   instant-12 a l = by-tests true true false _ a (le-leb _ _ l) (le-ltb _ _ l) refl refl
 
   -- length, instant and head fit
   pub record Passed : Type 0 where
-    pub whole : length-ok 12 img ≡ true
+    pub whole : length-ok half img ≡ true
     pub early : t < END
-    pub headed : head-ok 12 img ≡ true
+    pub headed : head-ok half img ≡ true
 
-  module _ (a : length-ok 12 img ≡ true) (l : t < END) where
-    pub instant-head : head-ok 12 img ≡ false → record { status = 21; pair = none; pages = 0 } ≡ instant 12 t img
+  module _ (a : length-ok half img ≡ true) (l : t < END) where
+    pub instant-head : head-ok half img ≡ false → record { status = 21; pair = none; pages = 0 } ≡ instant half t img
     unfolding answered first
     instant-head d = by-tests true false true false a (lt-leb _ _ l) (lt-ltb _ _ l) d refl
 
   module _ (k : Passed) where
-    looked : {w : Lookup} → w ≡ look-up 12 img t → answered true false true true w ≡ instant 12 t img
+    looked : {w : Lookup} → w ≡ look-up half img t → answered true false true true w ≡ instant half t img
     looked e = by-tests true false true true (k .whole) (lt-leb _ _ (k .early)) (lt-ltb _ _ (k .early)) (k .headed) e
 
     module _ {p : Pair} {n : ℕ} where
-      pub instant-21 : record { fit = false; pair = p; pages = n } ≡ look-up 12 img t
-          → record { status = 21; pair = none; pages = n } ≡ instant 12 t img
+      pub instant-21 : record { fit = false; pair = p; pages = n } ≡ look-up half img t
+          → record { status = 21; pair = none; pages = n } ≡ instant half t img
       unfolding answered first
       instant-21 e = looked e
 
-      pub instant-0 : record { fit = true; pair = p; pages = n } ≡ look-up 12 img t
-          → record { status = 0; pair = p; pages = n } ≡ instant 12 t img
+      pub instant-0 : record { fit = true; pair = p; pages = n } ≡ look-up half img t
+          → record { status = 0; pair = p; pages = n } ≡ instant half t img
       unfolding answered first
       instant-0 e = looked e

@@ -8,7 +8,9 @@ use native.Mathlib.Omega.{arith}
 use lib.ListN.{length, getD, take, replicate}
 use lib.Seq.{take-suc, take-length}
 use borrow.Author.Tests.{eq-eqb, ne-eqb}
+use Rattle.page.specs.Layout.{capacity-ok}
 use Rattle.calls.specs.Calls.{Formatted, format}
+use Rattle.calls.specs.Index.{index-format}
 use Rattle.calls.specs.Program.{Line, cut-at, line-from, ran-line}
 use Rattle.text.specs.declared.Fed.{Fed}
 use Rattle.text.specs.Reading.{Holds}
@@ -148,10 +150,10 @@ goes-last {r} n f had from g s = shows-as (ended-line 12 64 g (λ e. n (omega (a
 
 -- ---- the first byte, and an output that is empty again
 
-pub begun : {img after : List ℕ} {n : ℕ} → img ≡ replicate 32768 0 → record { status = n; image = after } ≡ format 12 1 0 img
+pub begun : {img after : List ℕ} {n : ℕ} → img ≡ replicate 32768 0 → record { status = n; image = after } ≡ index-format 1 0 24 img
     → after ≡ at-first 12 64 .image
-unfolding at-first
-begun e f = ap (λ (r : Formatted). r .image) f ∙ ap (λ s. format 12 1 0 s .image) e
+unfolding at-first index-format capacity-ok
+begun e f = ap (λ (r : Formatted). r .image) f ∙ ap (λ s. format 12 1 0 24 s .image) e
 
 pub begins : {r : Reading} → Holds (r .fed) [] → r .number ≡ 1 → r .at ≡ 0 → Begins r
 unfolding at-first

@@ -111,16 +111,10 @@ least-wider half zero two = omega arith
 least-wider half (suc l) two = omega (arith, mul-le-mul-right (least-under half l) two, least-wider half l two)
 
 -- with 2 entries at the least a root of level 10 has 2,046 pages below it: the height is 10 at the most
-pub level-once-2 : {half : ℕ} {B : Asked (Subtree 0)} → 2 ≤ half → (Y : State) → Formed half B (Y .tree) → ((p : ℕ) → held p Y ≤ 1)
+pub level-low : {half : ℕ} {B : Asked (Subtree 0)} → 2 ≤ half → (Y : State) → Formed half B (Y .tree) → ((p : ℕ) → held p Y ≤ 1)
     → held 0 Y ≡ 0
     → Y .supply .mark ≤ 1024 → Y .tree .level ≤ 9
 unfolding least-under
-level-once-2 {half} two Y F once apart h =
+level-low {half} two Y F once apart h =
     let k : 1023 ≤ least-under half 10 = least-wider half 10 two in
     level-once 9 Y F once apart (omega arith)
-
--- with 12 entries at the least a root of level 4 has 3,770 pages below it: the height is 4 at the most
-pub level-once-12 : {B : Asked (Subtree 0)} (Y : State) → Formed 12 B (Y .tree) → ((p : ℕ) → held p Y ≤ 1) → held 0 Y ≡ 0
-    → Y .supply .mark ≤ 1024 → Y .tree .level ≤ 3
-unfolding least-under
-level-once-12 Y F once apart h = level-once 3 Y F once apart (omega arith)

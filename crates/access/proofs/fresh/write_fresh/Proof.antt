@@ -43,9 +43,9 @@ returns c =
     let img : List ℕ = args .img .now in
     let e = paged .page-size .ensures in
     let z = size paged in
-    fresh-written half (args .kind) (args .window) (pages-in half img) (began paged .pre .0) (z .least) img (z .size)
+    fresh-written half (args .kind) (args .window) (args .field) (pages-in half img) (began paged .pre .0) (z .least) img (z .size)
     (head .write-fresh-head .ensures
-    ∙ ap (λ n. patch img 0 (head-bytes half (fresh n (args .kind) (args .window) .head))) (pages-counted half img e))
+    ∙ ap (λ n. patch img 0 (head-bytes half (fresh n (args .kind) (args .window) (args .field) .head))) (pages-counted half img e))
     (root .write-fresh-root .ensures)
     (rest .fill .ensures ∙ (λ j. patch (root .write-fresh-root .last .1 .0) (2 * e j) (unused (length img - 2 * e j))))
 

@@ -1,54 +1,69 @@
 -- `access::heads::open_head` meets its contract: what is tested and read is the image's first page. Assumes nothing.
 use mathlib.Core.Path.{_≡_, sym, ap, _∙_}
-use Prim.Native.Nat.{_<_}
+use mathlib.Core.Bool.{_&&_}
+use Prim.Native.Nat.{_*_, _≤_, _<_}
+use native.Mathlib.Nat.{mul-le-mul-right}
 use native.Mathlib.Omega.{arith}
 use lib.ListN.{length}
+use lib.Dec.{eqb}
+use Rattle.page.specs.declared.Head.{Head}
 use Rattle.page.specs.Layout.{page-size, head-of}
 use Rattle.page.specs.Fit.{head-fit}
 use Rattle.page.proofs.Laws.Offsets.{page-within}
 use Rattle.image.specs.Images.{pages-in, page-at}
 use Rattle.image.proofs.Sizes.{Sized, sized}
 use Rattle.access.specs.Access.{Page-in}
-use Rattle.access.proofs.Laws.{page-length, pages-counted, opening-fit, opening-unfit}
+use Rattle.access.proofs.Laws.{page-length, own-pages, opening-fit, opening-unfit}
 use Rattle.access.proofs.heads.open_head.Statement.{statement}
 use Rattle.access.proofs.heads.open_head.Tie as tie
 
--- places: the call's start
-abbrev began : tie.After-page-size → tie.Start
+-- the call's start
+abbrev began : tie.After-page-at → tie.Start
 began c = c .before .before
 
-fits : (c : tie.After-page-size) → Sized (began c .args .half) (began c .args .img .now)
-fits c = sized _ _ (began c .pre .2)
-
-first : (c : tie.After-page-size) → let args = began c .args in Page-in (args .half) (args .img .now) 0
+first : (c : tie.Start) → Page-in (c .args .half) (c .args .img .now) 0
 first c =
-    let half = began c .args .half in
-    let one : 0 < pages-in half (began c .args .img .now) = omega (arith, fits c .least) in
-    omega (arith, fits c .size, page-within half one)
+    let half = c .args .half in
+    let z = sized half (c .args .img .now) (c .pre .2) in
+    let one : 0 < pages-in half (c .args .img .now) = omega (arith, z .least) in
+    omega (arith, z .size, page-within half one)
 
-page-long : (c : tie.After-page-at) → length (c .page-at .result .now) ≡ page-size (began (c .before) .args .half)
-page-long c = ap length (c .page-at .ensures) ∙ page-length _ _ 0 (first (c .before))
+page-long : (c : tie.After-page-at) → length (c .page-at .result .now) ≡ page-size (began c .args .half)
+page-long c = ap length (c .page-at .ensures) ∙ page-length _ _ 0 (first (began c))
+
+read : (c : tie.After-read-head) → c .read-head .result ≡ head-of (page-at (began (c .before) .args .half) (began (c .before) .args .img .now) 0)
+read c = c .read-head .ensures ∙ ap head-of (c .before .page-at .ensures)
 
 tested : (c : tie.After-head-fit)
-    → let args = began (c .before .before) .args in
-    head-fit (args .half) (pages-in (args .half) (args .img .now)) (page-at (args .half) (args .img .now) 0) ≡ c .head-fit .result
+    → let sized = c .before .before in
+    let args = began (sized .before .before) .args in
+    head-fit (args .half) (pages-in (args .half) (args .img .now)) (page-at (args .half) (args .img .now) 0)
+    ≡ (eqb (sized .page-size .result * sized .before .read-head .result .pages) (length (args .img .now)) && c .head-fit .result)
 tested c =
-    let page = c .before in
-    let args = began (page .before) .args in
-    let n = pages-counted (args .half) (args .img .now) (page .before .page-size .ensures) in
-    sym (c .head-fit .ensures ∙ (λ j. head-fit (args .half) (n j) (page .page-at .ensures j)))
+    let sized = c .before .before in
+    let head = sized .before in
+    let start = began (head .before) in
+    let args = start .args in
+    let pages = ap (λ (h : Head). h .pages) (read head) in
+    sym
+    ((λ j. eqb (sized .page-size .ensures j * pages j) (length (args .img .now))
+    && (c .head-fit .ensures ∙ (λ i. head-fit (args .half) (pages i) (head .before .page-at .ensures i))) j)
+    ∙ own-pages (args .half) (args .img .now) (start .pre .2))
 
 pub open-head-spec : {M : Type 1} → statement M
 open-head-spec =
     tie.close
     (tie.spec
+    (λ c κs. first (c .before))
+    (λ c κs. omega (arith, page-long c))
     (λ c κs. omega arith)
     (λ c. omega arith)
-    (λ c. omega (arith, pages-counted _ (began c .args .img .now) (c .page-size .ensures), fits c .most))
-    (λ c κs. first c)
-    (λ c κs. omega (arith, page-long c))
-    (λ c κs. omega (arith, page-long (c .before .before)))
     (λ c.
-    let test = c .before .before in
-    opening-fit _ _ (tested test ∙ c .before .if1 .taken) (c .read-head .ensures ∙ ap head-of (test .before .page-at .ensures)))
+    let sized = c .before in
+    let few : sized .page-size .result ≤ 512 = omega (arith, sized .page-size .ensures, began (sized .before .before) .pre .1) in
+    omega (arith, mul-le-mul-right (sized .before .read-head .result .pages) few))
+    (λ c κs.
+    let start = began (c .before .before .before) in
+    (start .pre .0, start .pre .1, page-long (c .before .before .before)))
+    (λ c. opening-fit _ _ (tested (c .before) ∙ c .if1 .taken) (read (c .before .before .before .before)))
     (λ c. opening-unfit _ _ (tested (c .before) ∙ c .if1 .left)))

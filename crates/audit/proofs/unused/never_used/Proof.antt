@@ -1,49 +1,49 @@
--- `audit::unused::never_used` meets its contract. The loop's invariant: `ok` is the test of the pages passed. Assumes nothing.
-use mathlib.Core.Path.{ap, _∙_}
-use Prim.Native.Nat.{_+_, _-_, _<_}
+-- `audit::unused::never_used` meets its contract: the pages are one run of words. Assumes nothing.
+use mathlib.Core.Path.{_≡_, sym, ap, _∙_}
+use Prim.Native.Nat.{ℕ, _+_, _*_, _-_, _/_, _≤_}
+use native.Mathlib.Nat.{mul-add, mul-assoc, mul-le-mul-right}
 use native.Mathlib.Omega.{arith}
-use lib.ListN.{length}
-use Rattle.page.specs.Layout.{never-used-ok}
-use Rattle.image.specs.Images.{page-at}
-use Rattle.page.proofs.Laws.Offsets.{page-within}
-use Rattle.access.specs.Access.{Page-in}
-use Rattle.access.proofs.Laws.{page-length}
-use Rattle.fit.proofs.Tests.{Passed, passed-none, passed-more, passed-all}
+use Rattle.fields.specs.Bytes.{part, all-are}
+use Rattle.page.specs.Layout.{page-size}
+use Rattle.audit.proofs.NeverUsed.{pages-unused}
 use Rattle.audit.proofs.unused.never_used.Statement.{statement}
 use Rattle.audit.proofs.unused.never_used.Tie as tie
 
-abbrev Inv-loop : tie.InvT-loop
-Inv-loop half img n mark ok₀ i₀ ok i = Passed (n - mark) (λ k. never-used-ok (page-at half img (mark + k))) i ok
+-- so many words are so many pages
+words : (c : tie.After-page-size) (m : ℕ) → 8 * (c .page-size .result / 8 * m) ≡ page-size (c .before .before .args .half) * m
+words c m =
+    let whole : 8 * (c .page-size .result / 8) ≡ page-size (c .before .before .args .half) = omega (arith, c .page-size .ensures) in
+    sym (mul-assoc 8 (c .page-size .result / 8) m) ∙ ap (λ k. k * m) whole
 
-abbrev μ-loop : tie.MeasureT-loop
-μ-loop half img n mark ok₀ i₀ ok i = n - i
+-- and few enough to be multiplied
+few : (c : tie.After-page-size) (m : ℕ) → c .page-size .result / 8 * m ≤ 64 * m
+few c m = mul-le-mul-right m (omega (arith, c .page-size .ensures, c .before .before .pre .0))
 
--- the page that is tested lies in the image
-within : (c : tie.In-loop Inv-loop μ-loop) → let args = c .before .before .before .args in
-    Page-in (args .half) (args .img .now) (args .mark + c .before .loop .i)
-within c =
-    let args = c .before .before .before .args in
-    let l : args .mark + c .before .loop .i < args .n = omega arith in
-    omega (arith, page-within (args .half) l)
+-- the pages before the mark and from there on are all of them
+inside : (c : tie.After-page-size) → let args = c .before .before .args in
+    page-size (args .half) * args .mark + page-size (args .half) * (args .n - args .mark) ≡ page-size (args .half) * args .n
+inside c =
+    let args = c .before .before .args in
+    let all : args .mark + (args .n - args .mark) ≡ args .n = omega (arith, c .before .before .pre .2) in
+    sym (mul-add (page-size (args .half)) (args .mark) (args .n - args .mark)) ∙ ap (λ k. page-size (args .half) * k) all
 
-never-used-ok-requires : tie.Need-never-used-ok-requires Inv-loop μ-loop
-never-used-ok-requires c κs = ap length (c .page-at .ensures) ∙ page-length _ _ _ (within (c .before))
-
-loop-again : tie.Need-loop-again Inv-loop μ-loop
-loop-again c =
-    let turn = c .before .before .before in
-    passed-more (turn .loop .inv) (omega arith) (c .never-used-ok .ensures ∙ ap never-used-ok (c .before .page-at .ensures))
-
-returns : tie.Need-returns Inv-loop μ-loop
-returns c = passed-all (c .before .loop .inv) (c .loop-test .left)
+returns : tie.Need-returns
+returns c =
+    let sized = c .before in
+    let args = sized .before .before .args in
+    c .blocks-ff .ensures
+    ∙ (λ j. all-are 255 (part (args .img .now) (words sized (args .mark) j) (words sized (args .n - args .mark) j)))
+    ∙ pages-unused (args .half) (args .img .now) (args .mark) (args .n - args .mark)
 
 pub never-used-spec : {M : Type 1} → statement M
 never-used-spec =
     tie.close
-    (tie.spec Inv-loop μ-loop
-    (λ c. passed-none _ _)
-    (λ c. omega arith)
-    (λ c. omega arith)
-    (λ c κs. within c)
-    never-used-ok-requires
-    (λ c. omega arith) (λ c. omega arith) loop-again returns)
+    (tie.spec (λ c κs. omega arith)
+    (λ c. omega (arith, few c (c .before .before .args .mark)))
+    (λ c. omega (arith, few c (c .before .before .args .mark)))
+    (λ c. omega arith) (λ c. omega arith)
+    (λ c. let args = c .before .before .args in omega (arith, few c (args .n - args .mark)))
+    (λ c κs.
+    let args = c .before .before .args in
+    omega (arith, words c (args .mark), words c (args .n - args .mark), inside c, c .before .before .pre .1))
+    returns)

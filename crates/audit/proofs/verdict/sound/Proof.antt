@@ -58,13 +58,14 @@ pub sound-spec : {M : Type 1} → statement M
 sound-spec =
     tie.close
     (tie.spec (λ c κs. search needs) (λ c. search needs) (λ c. search needs) returns
-    (λ c κs. let pre = start (c .before .before .before) .pre in (pre .0, pre .1, headed (c .before)))
+    (λ c κs. let pre = start (c .before .before .before) .pre in (omega (arith, pre .0), pre .1, headed (c .before)))
     (λ c. search needs) (λ c. search needs)
     (λ c. unsound-tree (walked (c .before .before)) (c .enum-told2 .given .1))
     (λ c κs. omega (arith, opened-ranges (walked (counted (c .before)) .opened) .mark-least))
     returns-3
     (λ c κs. opened-size (walked (counted (told (c .before))) .opened))
     (λ c κs.
-    let o = walked (counted (told (c .before .before))) .opened in
-    (opened-size o, omega (arith, opened-ranges o .mark-most, opened-ranges o .pages-is)))
+    let tree = counted (told (c .before .before)) in
+    let o = walked tree .opened in
+    (start (read-of tree .before .before) .pre .1, opened-size o, omega (arith, opened-ranges o .mark-most, opened-ranges o .pages-is)))
     returns-4)

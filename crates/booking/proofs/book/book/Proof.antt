@@ -1,12 +1,10 @@
 -- `booking::book::book` meets its contract: a law for each way out. Assumes nothing.
 use mathlib.Core.Path.{_≡_, sym, ap, _∙_}
-use Prim.Native.Nat.{ℕ, _/_}
+use Prim.Native.Nat.{ℕ}
 use native.Mathlib.Omega.{arith}
 use borrow.Author.Needs.{needs}
 use mir.Facts.{toZ-ofZ}
-use lib.ListN.{length}
 use Rattle.image.specs.Images.{pages-in}
-use Rattle.access.proofs.Laws.{pages-counted}
 use Rattle.calls.specs.Refusals.{first, borrowed, cleared}
 use Rattle.calls.specs.Changes.{Side}
 use Rattle.calls.specs.Calls.{book-input-rows}
@@ -36,29 +34,21 @@ returns c = book-early-out _ _ _ _ _ _ _ (number (c .before)) (c .if1 .taken)
 abbrev side : tie.Else1 → Side
 side c = side-of (began (c .before) .args .withdraws)
 
--- how many pages the image has
-counted : (c : tie.After-page-size)
-    → let args = began (c .before .before .before) .args in
-    length (args .img .now) / c .page-size .result ≡ pages-in (args .half) (args .img .now)
-counted c =
-    let args = began (c .before .before .before) .args in
-    pages-counted (args .half) (args .img .now) (c .page-size .ensures)
-
 fill-requires : tie.Need-fill-requires
 fill-requires c κs =
-    let input = c .before .before in
-    omega (arith, counted c, early-room _ (side input) _ _ _ _ _ (passed input))
+    let input = c .before .before .before in
+    omega (arith, c .page-count .ensures, early-room _ (side input) _ _ _ _ _ (passed input))
 
 -- a scratch that was filled is clean
 cleaned : (c : tie.After-fill)
-    → let input = c .before .before .before in
+    → let input = c .before .before .before .before in
     let args = began (input .before) .args in
     c .fill .last .0 ≡ cleared (pages-in (args .half) (args .img .now)) (args .scratch .now)
 unfolding cleared borrowed
 cleaned c =
-    let input = c .before .before .before in
+    let input = c .before .before .before .before in
     let scratch = began (input .before) .args .scratch .now in
-    c .fill .ensures ∙ ap (λ n. cleared n scratch) (counted (c .before))
+    c .fill .ensures ∙ ap (λ n. cleared n scratch) (c .before .page-count .ensures)
 
 -- where the scratch had been filled
 abbrev filled : tie.After-check-state-arg → tie.After-fill
@@ -66,7 +56,7 @@ filled c = c .before .before .before
 
 check-state-requires : tie.Need-check-state-requires
 check-state-requires c κs =
-    let input = filled c .before .before .before in
+    let input = filled c .before .before .before .before in
     let asked = began (input .before) .pre in
     ((asked .0, asked .1, early-whole _ (side input) _ _ _ _ _ (passed input)), early-span _ (side input) _ _ _ _ _ (passed input))
 
@@ -74,7 +64,7 @@ make-change-requires : tie.Need-make-change-requires
 make-change-requires c κs =
     let told = c .before .before in
     let state = told .before .before in
-    let input = filled (state .before) .before .before .before in
+    let input = filled (state .before) .before .before .before .before in
     let asked = began (input .before) .pre in
     rw (toZ-ofZ (began (input .before) .fits .v))
     (accepts _ (side input) _ _ _ _ _ (passed input) (sym (told .h .given .1) ∙ state .check-state .ensures) (asked .0) (asked .1))
@@ -84,7 +74,7 @@ returns-2 c =
     let told = c .before in
     let state = told .before .before in
     let fill = filled (state .before) in
-    book-late-out _ _ _ _ _ _ _ (passed (fill .before .before .before)) (sym (told .row .given .1) ∙ state .check-state .ensures)
+    book-late-out _ _ _ _ _ _ _ (passed (fill .before .before .before .before)) (sym (told .row .given .1) ∙ state .check-state .ensures)
     (cleaned fill)
 
 returns-3 : tie.Need-returns-3
@@ -93,7 +83,7 @@ returns-3 c =
     let told = did .before .before .before in
     let state = told .before .before in
     let fill = filled (state .before) in
-    let input = fill .before .before .before in
+    let input = fill .before .before .before .before in
     book-done _ _ _ _ _ _ _ (passed input) (sym (told .h .given .1) ∙ state .check-state .ensures)
     (rw (toZ-ofZ (began (input .before) .fits .v)) at (did .make-change .ensures))
     (cleaned fill)
@@ -102,7 +92,6 @@ pub book-spec : {M : Type 1} → statement M
 book-spec =
     tie.close
     (tie.spec (λ c κs. c .before .before .before .before .pre .1) (λ c. search needs) (λ c. search needs) returns
-    (λ c κs. omega (arith, began (c .before .before) .pre .1))
-    (λ c. omega (arith, c .page-size .ensures)) fill-requires check-state-requires
+    (λ c κs. omega (arith, began (c .before .before .before) .pre .1)) fill-requires check-state-requires
     (λ c. search needs) (λ c. search needs) make-change-requires (λ c. search needs) (λ c. search needs) returns-2
     (λ c. search needs) (λ c. search needs) returns-3)

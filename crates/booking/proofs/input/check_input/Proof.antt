@@ -1,6 +1,5 @@
 -- `booking::input::check_input` meets its contract: the first test that fails gives the status. Assumes nothing.
 use mathlib.Core.Path.{_≡_, refl, sym, ap, _∙_}
-use Prim.Native.Nat.{_/_}
 use mathlib.Core.Bool.{Bool, true}
 use native.Mathlib.Omega.{arith}
 use lib.ListN.{length}
@@ -8,7 +7,6 @@ use lib.Dec.{leb, ltb}
 use borrow.Author.Needs.{needs}
 use borrow.Author.Tests.{not-true, not-false}
 use mir.Facts.{toZ-ofZ}
-use Rattle.access.proofs.Laws.{pages-counted}
 use Rattle.calls.specs.Refusals.{first}
 use Rattle.booking.proofs.Laws.Early.{Tests, rows-are, span-less}
 use Rattle.booking.proofs.input.check_input.Statement.{statement}
@@ -27,14 +25,13 @@ Tested c =
     (began c .args .scratch .now)
 
 tests : (c : tie.After-value-ok) {whole room span fits : Bool} → tested c .length-fits .result ≡ whole
-    → leb (length (began c .args .img .now) / c .before .page-size .result) (length (began c .args .scratch .now)) ≡ room
+    → leb (c .before .page-count .result) (length (began c .args .scratch .now)) ≡ room
     → ltb (began c .args .s) (began c .args .e) ≡ span → c .value-ok .result ≡ fits → Tested c whole room span fits
 tests c a b d f =
     let args = began c .args in
     record {
       whole-is = sym (tested c .length-fits .ensures) ∙ a;
-      room-is = sym (ap (λ n. leb n (length (args .scratch .now)))
-          (pages-counted (args .half) (args .img .now) (c .before .page-size .ensures))) ∙ b;
+      room-is = sym (ap (λ n. leb n (length (args .scratch .now))) (c .before .page-count .ensures)) ∙ b;
       span-is = span-less _ _ (omega (arith, began c .fits .e)) ∙ d;
       fits-is = sym (rw (toZ-ofZ (began c .fits .v)) at (c .value-ok .ensures)) ∙ f;
     }
@@ -71,5 +68,5 @@ unfolding first
 returns-5 c = rows-are _ _ _ _ _ _ (spanned (c .before) (not-false _ (c .if4 .left)))
 
 pub check-input-spec : {M : Type 1} → statement M
-check-input-spec = tie.close (tie.spec (λ c κs. search needs) (λ c κs. omega arith) (λ c. omega (arith, c .page-size .ensures))
+check-input-spec = tie.close (tie.spec (λ c κs. search needs) (λ c κs. search needs)
     (λ c κs. search needs) returns returns-2 returns-3 returns-4 returns-5)

@@ -1,47 +1,41 @@
--- `luwhenoka::formats::luw_format` meets its contract: a law for each way out. Assumes nothing.
+-- `luwhenoka::formats::luw_format` meets its contract: by half the capacity that it takes. Assumes nothing.
+use Prim.Native.Nat.{_/_}
 use mathlib.Core.Path.{_≡_, sym, ap, _∙_}
-use mathlib.Core.Bool.{true, _&&_}
-use native.Mathlib.Omega.{arith}
+use mathlib.Core.Bool.{true, cond}
 use borrow.Author.Needs.{needs}
 use borrow.Author.Tests.{not-true, not-false}
-use Rattle.rule.specs.Time.{kind-ok, window-ok}
-use Rattle.image.specs.Images.{length-ok}
-use Rattle.luwhenoka.proofs.Laws.Formats.{format-16, format-14, format-0}
+use Rattle.page.specs.Layout.{capacity-ok}
+use Rattle.page.proofs.Laws.Capacities.{capacity-is}
+use Rattle.calls.specs.Calls.{format}
+use Rattle.calls.specs.Index.{index-format}
 use Rattle.luwhenoka.proofs.formats.luw_format.Statement.{statement}
 use Rattle.luwhenoka.proofs.formats.luw_format.Tie as tie
 
--- where the length had been tested, and the call's own start
-abbrev measured : tie.After-window-ok → tie.After-length-fits
-measured c = c .before .before
+-- the call's own start
+abbrev began : tie.After-capacity-ok → tie.Start
+began c = c .before .before
 
-abbrev began : tie.After-window-ok → tie.Start
-began c = measured c .before .before .before
-
-fits : (c : tie.Else1) → length-ok 12 (began (c .before) .args .img .now) ≡ true
-fits c = sym (measured (c .before) .length-fits .ensures) ∙ not-false _ (c .if1 .left)
-
--- the two tests of kind and window, as one
-named : (c : tie.After-window-ok)
-    → (kind-ok (began c .args .kind) && window-ok (began c .args .window)) ≡ (c .before .kind-ok .result && c .window-ok .result)
-named c = λ j. sym (c .before .kind-ok .ensures) j && sym (c .window-ok .ensures) j
+passed : (c : tie.Else1) → capacity-ok (began (c .before) .args .capacity) ≡ true
+passed c = sym (c .before .capacity-ok .ensures) ∙ not-false _ (c .if1 .left)
 
 returns : tie.Need-returns
-returns c = format-16 _ _ _ (sym (measured (c .before) .length-fits .ensures) ∙ not-true _ (c .if1 .taken))
+unfolding index-format
+returns c = rw (sym (c .before .capacity-ok .ensures) ∙ not-true _ (c .if1 .taken))
 
 returns-2 : tie.Need-returns-2
-returns-2 c = format-14 _ _ _ (fits (c .before)) (named (c .before .before) ∙ not-true _ (c .if2 .taken))
-
-returns-3 : tie.Need-returns-3
-returns-3 c =
-    let wrote = c .before .before in
-    let test = wrote .before .before in
-    ap (λ s. record { status = 0; image = s }) (wrote .write-fresh .ensures)
-    ∙ format-0 _ _ _ (fits (test .before)) (named (test .before .before) ∙ not-false _ (test .if2 .left))
+unfolding index-format
+returns-2 c =
+    let did = c .before .before in
+    let test = did .before .before in
+    let args = began (test .before) .args in
+    let k = args .capacity in
+    did .format .ensures
+    ∙ ap (λ b. cond b (format (k / 2) (args .kind) (args .window) k (args .img .now)) (record { status = 14; image = args .img .now }))
+    (sym (passed test))
 
 pub luw-format-spec : {M : Type 1} → statement M
 luw-format-spec =
     tie.close
-    (tie.spec (λ c κs. search needs) (λ c κs. search needs) (λ c κs. search needs) (λ c. search needs) returns
-    (λ c. search needs) returns-2
-    (λ c κs. (omega arith, omega arith, fits (c .before .before)))
-    (λ c. search needs) returns-3)
+    (tie.spec (λ c κs. search needs) returns (λ c. search needs)
+    (λ c κs. let k = capacity-is (passed (c .before)) in (k .half-least, k .half-most))
+    (λ c. search needs) returns-2)

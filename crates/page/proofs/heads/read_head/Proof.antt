@@ -7,7 +7,8 @@ use Rattle.page.proofs.heads.read_head.Tie as tie
 returns : tie.Need-returns
 unfolding head-of
 returns c =
-    let window = c .before in
+    let changes = c .before in
+    let window = changes .before in
     let kind = window .before in
     let mark = kind .before in
     let chain = mark .before in
@@ -24,7 +25,8 @@ returns c =
       mark = mark .get-u326 .ensures j;
       kind = kind .get-u327 .ensures j;
       window = window .get-u328 .ensures j;
-      changes = c .get-u329 .ensures j;
+      changes = changes .get-u329 .ensures j;
+      capacity = c .get-u3210 .ensures j;
     }
 
 pub read-head-spec : {M : Type 1} → statement M
@@ -32,4 +34,4 @@ read-head-spec =
     tie.close
     (tie.spec (λ c κs. omega arith) (λ c κs. omega arith) (λ c κs. omega arith) (λ c κs. omega arith)
     (λ c κs. omega arith) (λ c κs. omega arith) (λ c κs. omega arith) (λ c κs. omega arith) (λ c κs. omega arith)
-    returns)
+    (λ c κs. omega arith) returns)

@@ -20,9 +20,9 @@ returns c =
     let written = back .before .before in
     let args = written .before .before .before .args in
     let vs : List ℕ = head-numbers (args .h) in
-    put-rest (args .s .now) vs 36 (sized .page-size .result - 36) refl (omega arith) (written .write-numbers .ensures)
+    put-rest (args .s .now) vs 40 (sized .page-size .result - 40) refl (omega arith) (written .write-numbers .ensures)
     (filled .fill .ensures)
-    ∙ ap (λ k. concat-map u32-bytes vs ++ unused (k - 36)) (sized .page-size .ensures)
+    ∙ ap (λ k. concat-map u32-bytes vs ++ unused (k - 40)) (sized .page-size .ensures)
 
 pub write-head-spec : {M : Type 1} → statement M
 write-head-spec =

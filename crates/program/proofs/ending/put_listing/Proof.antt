@@ -11,11 +11,11 @@ returns c =
     let last = c .before .before in
     let line = last .before .before .before .before .before in
     let call = line .before .before .before .before in
-    put-as (listed-printed _ _ _ _ _ _ (call .luw-listing .ensures)) (put-then (line .put-runs-line .ensures) (last .put-runs .ensures))
+    put-as (listed-printed _ _ _ _ _ _ (call .listing .ensures)) (put-then (line .put-runs-line .ensures) (last .put-runs .ensures))
 
 pub put-listing-spec : {M : Type 1} → statement M
 put-listing-spec =
     tie.close
-    (tie.spec (λ c κs. search needs) (λ c. search needs) (λ c κs. search needs) (λ c. search needs)
+    (tie.spec (λ c κs. (omega arith, omega arith)) (λ c. search needs) (λ c κs. search needs) (λ c. search needs)
     (λ c κs. omega (arith, behind-runs-line, listed-room))
     (λ c. search needs) (λ c. search needs) returns)
