@@ -1,36 +1,48 @@
 /*
- * Luwhenoka: a time index in an image of 512-byte pages that the caller lends.
+ * Luwhenoka: a time index in an image of pages that the caller lends.
  *
- * Every call may be handed any image, span, instant, value and buffer, unchecked. It returns, and the status tells what it
- * turns back. The archive is libluwhenoka.a (`rt staticlib luwhenoka`); it needs no other library but memset and memcpy of
- * the C library, takes no memory of its own and keeps nothing between two calls.
+ * Every call may be handed any image, capacity, span, instant, value and buffer, unchecked. It returns, and the status tells
+ * what it turns back. The archive is libluwhenoka.a (`rt staticlib luwhenoka`); it needs no other library but memset and
+ * memcpy of the C library, takes no memory of its own and keeps nothing between two calls.
  *
  * Time and value. Instants are 0 to 4,294,967,294; LUW_END is no instant. A span [s, e) has s < e <= LUW_END. A value is
  * -1,000,000 to 1,000,000. An index has a kind and a window w, both set at format. A booking on [s, e) counts from s up to
  * but not including e + w, or LUW_END if that is less.
  *
+ * Pages. The capacity K, the number of entries that a page has room for, is an even number from 4 to 24, and a page has
+ * 32 + 20 x K bytes: 112 at K = 4, 512 at K = 24. It is set at format and stands in the image from then on, as a uint32_t in
+ * bytes 36 to 39. Every other call reads it there. An older image, made before there was such a field, has FF in these four
+ * bytes and is read as K = 24. A change keeps them as they are.
+ *
  * Buffers. A buffer is a pointer and its length in bytes; no pointer need be aligned, and null is fine with length 0.
  * Buffers of one call must not overlap: nothing is promised where they do. Nor is it where somebody else writes one of them
  * during the call.
  *
- *   image     512 x n bytes for an n from 2 to 1,024, the pages of docs/FORMAT.md. Only luw_format,
- *             luw_enter and luw_withdraw write it.
+ *   image     (32 + 20 x K) x n bytes for an n from 2 to 1,024 at every K, the pages of docs/FORMAT.md.
+ *             Only luw_format, luw_enter and luw_withdraw write it.
  *   scratch   at least n bytes, of any content.
  *   output    16 bytes for each run that a listing writes; any length.
  *
  * The status that a call returns. 0 is accepted; every other one is a refusal. Where several would apply, the first of this
- * order is returned: 16, 17, 11 or 12, 13, 14, 21, 22, 23, 24, and 15 last.
+ * order is returned: 16, 17, 11 or 12, 13, 14, 21, 22, 23, 24, and 15 last. Only the capacity is judged ahead of it, since
+ * the image's length is judged by the capacity:
+ *
+ *   luw_format        14 for the capacity; then 16, by that capacity; then 14 for kind or window
+ *   any other call    16 if the image is under 40 bytes long; then 21 if bytes 36 to 39 are neither all FF nor an even
+ *   with an image     number from 4 to 24, with the scratch untouched and no page read; then 16, by the capacity that they
+ *                     name, and on in the order above
  *
  *   turned back by the input
  *     11  LUW_SPAN_EMPTY      span with s >= e, or a >= b                          enter, withdraw, listing
  *     12  LUW_INSTANT_END     instant LUW_END                                      instant, average
  *     13  LUW_VALUE_RANGE     value outside its range                              enter, withdraw
- *     14  LUW_KIND_OR_WINDOW  kind or window outside its range                     format
+ *     14  LUW_FORMAT_RANGE    capacity, kind or window outside its range           format
  *     15  LUW_OUTPUT_SHORT    output shorter than the runs                         listing
- *     16  LUW_IMAGE_LENGTH    image length not 512 x n for an n in range           all but luw_average_of
+ *     16  LUW_IMAGE_LENGTH    image length not (32 + 20 x K) x n for an n in range all but luw_average_of
  *     17  LUW_SCRATCH_SHORT   scratch shorter than n bytes                         audit, enter, withdraw
  *   turned back by the state
- *     21  LUW_UNSOUND         instant, average, listing: a page met is unfit;
+ *     21  LUW_UNSOUND         the image's field for its capacity names none; else
+ *                             instant, average, listing: a page met is unfit;
  *                             audit, enter, withdraw: the image is not sound
  *     22  LUW_WITHDRAWAL_KIND the kind is 2 or 3                                   withdraw
  *     23  LUW_CHANGES_FULL    the index has had 1,000,000,000 changes              enter, withdraw
@@ -52,8 +64,12 @@ extern "C" {
 /* The end of time, which is no instant. */
 #define LUW_END UINT32_C(4294967295)
 
-/* Bytes of a page; the fewest and the most pages of an image; bytes of a run. */
-#define LUW_PAGE_BYTES 512
+/* The least and the greatest capacity of a page, which is an even number; the bytes of a page of a capacity. */
+#define LUW_LEAST_CAPACITY 4
+#define LUW_MOST_CAPACITY 24
+#define LUW_PAGE_BYTES(capacity) (32 + 20 * (size_t)(capacity))
+
+/* The fewest and the most pages of an image; bytes of a run. */
 #define LUW_FEWEST_PAGES 2
 #define LUW_MOST_PAGES 1024
 #define LUW_RUN_BYTES 16
@@ -74,7 +90,7 @@ extern "C" {
 #define LUW_SPAN_EMPTY 11
 #define LUW_INSTANT_END 12
 #define LUW_VALUE_RANGE 13
-#define LUW_KIND_OR_WINDOW 14
+#define LUW_FORMAT_RANGE 14
 #define LUW_OUTPUT_SHORT 15
 #define LUW_IMAGE_LENGTH 16
 #define LUW_SCRATCH_SHORT 17
@@ -89,20 +105,22 @@ extern "C" {
 #define LUW_BEYOND 2
 
 /*
- * Makes the image an empty index of n pages, whatever it held. Every byte of it is written: height 1, no changes, one leaf
- * with one entry that starts at 0 and has the pair (0, 0); all pages behind it are FF.
+ * Makes the image an empty index of n pages, whatever it held. Every byte of it is written: height 1, no changes, the
+ * capacity as a number, also if it is 24; one leaf with one entry that starts at 0 and has the pair (0, 0); all pages
+ * behind it are FF.
  *
- * kind is 1 (totals), 2 (greatest) or 3 (least); window is 0 to 1,000,000,000. Refusals: 16, 14; the image keeps its bytes.
+ * kind is 1 (totals), 2 (greatest) or 3 (least); window is 0 to 1,000,000,000; capacity is 4, 6, 8 .. 24. Refusals: 14 for
+ * the capacity, 16, 14 for kind or window; the image keeps its bytes.
  */
-uint32_t luw_format(uint8_t *image, size_t image_length, uint32_t kind, uint32_t window);
+uint32_t luw_format(uint8_t *image, size_t image_length, uint32_t kind, uint32_t window, uint32_t capacity);
 
 /*
  * What holds at an instant. Kind 1: the sum and the count of what counts there; an entry adds its value and 1 to them, a
  * withdrawal takes them away, so that a count may be below 0. Kinds 2 and 3: the greatest or least value, with count 1;
  * 0 and 0 where nothing counts.
  *
- * pages is the number of tree pages read: the height of the tree (1 to 4) if answered. At 21 it is the number of pages up
- * to and including the unfit one, or 0 if that is the head. At 16 and 12 it is 0.
+ * pages is the number of tree pages read: the height of the tree (1 to 10) if answered. At 21 it is the number of pages up
+ * to and including the unfit one, or 0 if that is the head or the capacity is bad. At 16 and 12 it is 0.
  */
 struct luw_instant_answer {
     uint32_t status;
@@ -113,7 +131,8 @@ struct luw_instant_answer {
 
 /*
  * The pair at instant t, combined on the way from the root to the leaf that has t. Only the head and the pages on that way
- * are looked at, each as a whole: damage elsewhere doesn't matter. Refusals: 16, 12, 21; sum and count are then 0.
+ * are looked at, each as a whole: damage elsewhere doesn't matter. Refusals: 16, 12, 21, and 21 for the capacity ahead of
+ * them; sum and count are then 0.
  */
 struct luw_instant_answer luw_instant(const uint8_t *image, size_t image_length, uint32_t t);
 
@@ -155,10 +174,10 @@ struct luw_listing_answer {
  * where the next one starts, the last one at b. Over [0, LUW_END) it is the full listing.
  *
  * Each run is 16 bytes of the output, little-endian: start (uint32_t), count (int32_t), sum (int64_t). Bytes past the last
- * run keep what they held. An image of n pages shows at most 24 x (n - 1) runs, so 384 x (n - 1) bytes are always enough.
+ * run keep what they held. An image of n pages shows at most K x (n - 1) runs, so 16 x K x (n - 1) bytes are always enough.
  *
- * Only the head, the root and the pages whose span overlaps [a, b) are looked at. Refusals: 16, 11, 21, 15; the output then
- * keeps every byte, also where it would have had room for some of the runs.
+ * Only the head, the root and the pages whose span overlaps [a, b) are looked at. Refusals: 16, 11, 21, 15, and 21 for the
+ * capacity ahead of them; the output then keeps every byte, also where it would have had room for some of the runs.
  */
 struct luw_listing_answer luw_listing(const uint8_t *image, size_t image_length, uint32_t a, uint32_t b,
                                       uint8_t *output, size_t output_length);
@@ -166,9 +185,10 @@ struct luw_listing_answer luw_listing(const uint8_t *image, size_t image_length,
 /*
  * Whether the image is sound: head and all tree pages are fit, each page below the high mark but the head is once in the
  * tree or once in the chain of free pages, the chain is as long as the head says, and free and never used pages read as they should.
- * Returns 0 if it is. Refusals: 16, 17, 21.
+ * Returns 0 if it is. Refusals: 16, 17, 21, and 21 for the capacity ahead of them.
  *
- * The first n bytes of the scratch are 0 after 0 and 21; any beyond keep theirs. At 16 and 17 the scratch is untouched.
+ * The first n bytes of the scratch are 0 after 0, and after 21 where the capacity is good; any beyond keep theirs. At 16, at
+ * 17 and at 21 for the capacity the scratch is untouched: n is not known without a capacity.
  */
 uint32_t luw_audit(const uint8_t *image, size_t image_length, uint8_t *scratch, size_t scratch_length);
 
@@ -180,8 +200,9 @@ uint32_t luw_audit(const uint8_t *image, size_t image_length, uint8_t *scratch, 
  * higher. It may cut the tree's entries at both ends of what it covers, and each cut may take a page a level, and one more
  * for a new root, from the chain of free pages or at the high mark; 24 tells that there are not so many left.
  *
- * Refusals: 16, 17, 11, 13, 21, 23, 24. The first n bytes of the scratch are 0 after 0, 21, 22, 23 and 24; any beyond keep
- * theirs. At 16, 17, 11 and 13 the scratch is untouched.
+ * Refusals: 16, 17, 11, 13, 21, 23, 24, and 21 for the capacity ahead of them. The first n bytes of the scratch are 0 after
+ * 0, 22, 23 and 24, and after 21 where the capacity is good; any beyond keep theirs. At 16, 17, 11, 13 and at 21 for the
+ * capacity the scratch is untouched.
  */
 uint32_t luw_enter(uint8_t *image, size_t image_length, uint8_t *scratch, size_t scratch_length,
                    int64_t v, uint32_t s, uint32_t e);
@@ -190,7 +211,7 @@ uint32_t luw_enter(uint8_t *image, size_t image_length, uint8_t *scratch, size_t
  * Takes the value v on the span [s, e) away again: -v and -1 are added where luw_enter would add v and 1, whether or not
  * such a booking is live. Kind 1 only. A withdrawal may need a page too, and be refused with 24.
  *
- * Refusals: 16, 17, 11, 13, 21, 22, 23, 24; image and scratch as at luw_enter.
+ * Refusals: 16, 17, 11, 13, 21, 22, 23, 24, and 21 for the capacity ahead of them; image and scratch as at luw_enter.
  */
 uint32_t luw_withdraw(uint8_t *image, size_t image_length, uint8_t *scratch, size_t scratch_length,
                       int64_t v, uint32_t s, uint32_t e);

@@ -5,14 +5,16 @@
 use std::error::Error;
 
 use luwhenoka::{
-    audit, average, average_of, enter, format, instant, listing, runs, withdraw, Average, Kind, Refusal, END,
+    audit, average, average_of, enter, format, instant, listing, page_bytes, runs, withdraw, Average, Kind, Refusal,
+    END, RUN_BYTES,
 };
 
 const PAGES: usize = 2;
+const CAPACITY: u32 = 24;
 
 /// Puts a number's bytes at a place of a page.
 fn put(image: &mut [u8], page: usize, at: usize, bytes: &[u8]) {
-    image[512 * page + at..][..bytes.len()].copy_from_slice(bytes);
+    image[page_bytes(CAPACITY) * page + at..][..bytes.len()].copy_from_slice(bytes);
 }
 
 fn in_words(average: Average) -> String {
@@ -27,9 +29,9 @@ fn in_words(average: Average) -> String {
 }
 
 fn main() -> Result<(), Box<dyn Error>> {
-    let mut image = [0; 512 * PAGES];
+    let mut image = [0; page_bytes(CAPACITY) * PAGES];
     let mut scratch = [0; PAGES];
-    format(&mut image, Kind::Totals, 0)?;
+    format(&mut image, Kind::Totals, 0, CAPACITY)?;
     for (v, s, e) in [(6, 10, 40), (3, 20, 50), (7, 30, 60), (5, 20, 25)] {
         enter(&mut image, &mut scratch, v, s, e)?;
     }
@@ -39,7 +41,7 @@ fn main() -> Result<(), Box<dyn Error>> {
     let now = instant(&image, 22)?;
     println!("at 22: sum {}, count {}, average {}", now.sum, now.count, in_words(average(&image, 22)?));
 
-    let mut output = [0; 16 * 24 * (PAGES - 1)];
+    let mut output = [0; RUN_BYTES * CAPACITY as usize * (PAGES - 1)];
     let count = listing(&image, 0, END, &mut output)?;
     println!("runs {count}");
     for run in runs(&output, count) {
@@ -47,8 +49,8 @@ fn main() -> Result<(), Box<dyn Error>> {
         println!("from {} sum {} count {} average {}", run.start, run.sum, run.count, in_words(average));
     }
 
-    // A worn header: more entries than a page has room for.
-    put(&mut image, 1, 4, &25u32.to_le_bytes());
+    // A worn header: more entries than the page has room for.
+    put(&mut image, 1, 4, &(CAPACITY + 1).to_le_bytes());
     let refused = instant(&image, 22).expect_err("25 entries are refused");
     assert_eq!(refused.refusal, Refusal::Unsound);
     println!("damaged: {refused}");

@@ -1,14 +1,16 @@
 //! Luwhenoka, a proved time index: how much is booked at an instant, over a span or within a moving window.
 //!
-//! The index lives in an *image*, 512 bytes for each of 2 to 1,024 pages, that the caller lends. Any bytes may stand there:
-//! what is not a fit page is refused, and nothing is changed. These are safe functions over the static library
-//! `libluwhenoka.a`, which is written and proved in Rattle; `include/luwhenoka.h` tells each call in full.
+//! The index lives in an *image* of 2 to 1,024 pages that the caller lends. Any bytes may stand there: what is not a fit page
+//! is refused, and nothing is changed. A page has room for as many entries as its *capacity* says, an even number from 4 to
+//! 24, which is chosen at format and stands in the image from then on; [`page_bytes`] tells how long the pages are. These are
+//! safe functions over the static library `libluwhenoka.a`, which is written and proved in Rattle; `include/luwhenoka.h`
+//! tells each call in full.
 //!
 //! ```
-//! use luwhenoka::{enter, format, instant, listing, runs, Kind, END};
+//! use luwhenoka::{enter, format, instant, listing, page_bytes, runs, Kind, END};
 //!
-//! let (mut image, mut scratch) = ([0; 4 * 512], [0; 4]);
-//! format(&mut image, Kind::Totals, 0)?;
+//! let (mut image, mut scratch) = ([0; 4 * page_bytes(24)], [0; 4]);
+//! format(&mut image, Kind::Totals, 0, 24)?;
 //! enter(&mut image, &mut scratch, 6, 10, 40)?;
 //!
 //! let now = instant(&image, 39)?;
@@ -30,8 +32,22 @@ pub use run::{runs, Run, Runs};
 /// The end of time, which is no instant.
 pub const END: u32 = 4_294_967_295;
 
-/// Bytes of a page.
-pub const PAGE_BYTES: usize = 512;
+/// The least capacity of a page.
+pub const LEAST_CAPACITY: u32 = 4;
+
+/// The greatest capacity of a page, and that of an older image, which has FF where the capacity stands.
+pub const MOST_CAPACITY: u32 = 24;
+
+/// Bytes of a page of a capacity, for any even number from [`LEAST_CAPACITY`] to [`MOST_CAPACITY`].
+///
+/// ```
+/// use luwhenoka::page_bytes;
+///
+/// assert_eq!([4, 8, 24].map(page_bytes), [112, 192, 512]);
+/// ```
+pub const fn page_bytes(capacity: u32) -> usize {
+    32 + 20 * capacity as usize
+}
 
 /// Bytes of a run in a listing's output.
 pub const RUN_BYTES: usize = 16;
@@ -47,20 +63,43 @@ pub enum Kind {
     Least = 3,
 }
 
-/// Makes the image an empty index, whatever it held. The window is 0 to 1,000,000,000.
+/// Makes the image an empty index, whatever it held. The window is 0 to 1,000,000,000, the capacity an even number from 4 to
+/// 24; the image is to have [`page_bytes`] of the capacity for each of 2 to 1,024 pages.
 ///
-/// Refusals: [`ImageLength`](Refusal::ImageLength), [`KindOrWindow`](Refusal::KindOrWindow).
+/// Refusals: [`FormatRange`](Refusal::FormatRange) for the capacity, [`ImageLength`](Refusal::ImageLength),
+/// [`FormatRange`](Refusal::FormatRange) for the window, in this order; the image then keeps every byte.
 ///
 /// ```
 /// use luwhenoka::{format, Kind, Refusal};
 ///
-/// let mut image = [0; 1_024];
-/// assert_eq!(format(&mut image, Kind::Greatest, 20), Ok(()));
-/// assert_eq!(format(&mut image, Kind::Greatest, 1_000_000_001), Err(Refusal::KindOrWindow));
-/// assert_eq!(format(&mut image[1..], Kind::Greatest, 20), Err(Refusal::ImageLength));
+/// let mut image = [0; 2 * 512];
+/// assert_eq!(format(&mut image, Kind::Greatest, 20, 24), Ok(()));
+/// assert_eq!(format(&mut image, Kind::Greatest, 1_000_000_001, 24), Err(Refusal::FormatRange));
+/// assert_eq!(format(&mut image[1..], Kind::Greatest, 20, 24), Err(Refusal::ImageLength));
+/// assert_eq!(format(&mut image[1..], Kind::Greatest, 20, 23), Err(Refusal::FormatRange));
 /// ```
-pub fn format(image: &mut [u8], kind: Kind, window: u32) -> Result<(), Refusal> {
-    Refusal::result(raw::format(image, kind as u32, window))
+///
+/// Pages of 8 entries have 192 bytes, and every other call knows it from the image:
+///
+/// ```
+/// use luwhenoka::{audit, enter, format, instant, page_bytes, Kind, Refusal};
+///
+/// const PAGES: usize = 5;
+/// let mut image = [0; PAGES * page_bytes(8)];
+/// let mut scratch = [0; PAGES];
+/// format(&mut image, Kind::Totals, 0, 8)?;
+/// for s in [10, 20, 30, 40] {
+///     enter(&mut image, &mut scratch, 1, s, s + 5)?;
+/// }
+/// assert_eq!(instant(&image, 42)?.pages, 2); // nine entries are one too many for a page
+/// assert_eq!(audit(&image, &mut scratch), Ok(()));
+///
+/// image[36] = 9; // where the capacity stands
+/// assert_eq!(audit(&image, &mut scratch), Err(Refusal::Unsound));
+/// # Ok::<(), Refusal>(())
+/// ```
+pub fn format(image: &mut [u8], kind: Kind, window: u32, capacity: u32) -> Result<(), Refusal> {
+    Refusal::result(raw::format(image, kind as u32, window, capacity))
 }
 
 /// What holds at an instant.
@@ -70,23 +109,23 @@ pub struct Instant {
     pub sum: i64,
     /// How many values count; of a greatest or least, 1, or 0 for nothing.
     pub count: i32,
-    /// The tree pages read, which is the height of the tree.
+    /// The tree pages read, which is the height of the tree, 1 to 10.
     pub pages: u32,
 }
 
 /// The pair at instant `t`. Only the head and the pages on the way from the root to the leaf that has `t` are looked at.
 ///
-/// Refusals: [`ImageLength`](Refusal::ImageLength), [`InstantEnd`](Refusal::InstantEnd), [`Unsound`](Refusal::Unsound);
-/// with each comes how many tree pages were read.
+/// Refusals: [`ImageLength`](Refusal::ImageLength), [`InstantEnd`](Refusal::InstantEnd), [`Unsound`](Refusal::Unsound), and
+/// ahead of them [`Unsound`](Refusal::Unsound) for a bad capacity; with each comes how many tree pages were read.
 ///
 /// ```
 /// use luwhenoka::{format, instant, Instant, Kind, Refusal, Refused};
 ///
 /// let mut image = [0; 1_024];
-/// format(&mut image, Kind::Totals, 0)?;
+/// format(&mut image, Kind::Totals, 0, 24)?;
 /// assert_eq!(instant(&image, 0), Ok(Instant { sum: 0, count: 0, pages: 1 }));
 ///
-/// image[512 + 4] = 25; // more entries than a page has room for
+/// image[512 + 4] = 25; // more entries than the page has room for
 /// assert_eq!(instant(&image, 0), Err(Refused { refusal: Refusal::Unsound, pages: 1 }));
 /// # Ok::<(), Refusal>(())
 /// ```
@@ -128,7 +167,7 @@ impl Average {
 /// use luwhenoka::{average, format, Average, Kind, Refusal, END};
 ///
 /// let mut image = [0; 1_024];
-/// format(&mut image, Kind::Totals, 0)?;
+/// format(&mut image, Kind::Totals, 0, 24)?;
 /// assert_eq!(average(&image, 7), Ok(Average::None));
 /// assert_eq!(average(&image, END), Err(Refusal::InstantEnd));
 /// # Ok::<(), Refusal>(())
@@ -153,16 +192,18 @@ pub fn average_of(kind: Kind, sum: i64, count: i32) -> Average {
 }
 
 /// Writes the runs over [`a`, `b`) to the output, 16 bytes each, and answers their number; [`runs`] reads them. Bytes past
-/// the last run keep what they held. An image of n pages shows at most 24 × (n − 1) runs.
+/// the last run keep what they held. An image of n pages of capacity K shows at most K × (n − 1) runs, so 16 × K × (n − 1)
+/// bytes are always enough.
 ///
 /// Refusals: [`ImageLength`](Refusal::ImageLength), [`SpanEmpty`](Refusal::SpanEmpty), [`Unsound`](Refusal::Unsound),
-/// [`OutputShort`](Refusal::OutputShort); the output then keeps every byte.
+/// [`OutputShort`](Refusal::OutputShort), and ahead of them [`Unsound`](Refusal::Unsound) for a bad capacity; the output then
+/// keeps every byte.
 ///
 /// ```
 /// use luwhenoka::{format, listing, runs, Kind, Refusal, Run};
 ///
 /// let mut image = [0; 1_024];
-/// format(&mut image, Kind::Totals, 0)?;
+/// format(&mut image, Kind::Totals, 0, 24)?;
 /// let mut output = [0; 40];
 /// let count = listing(&image, 10, 20, &mut output)?;
 /// assert_eq!(runs(&output, count).collect::<Vec<_>>(), [Run { start: 10, count: 0, sum: 0 }]);
@@ -178,16 +219,18 @@ pub fn listing(image: &[u8], a: u32, b: u32, output: &mut [u8]) -> Result<usize,
 /// Whether the image of n pages is sound. Borrows the first n bytes of the scratch, which are 0 afterwards; any beyond keep
 /// theirs.
 ///
-/// Refusals: [`ImageLength`](Refusal::ImageLength), [`ScratchShort`](Refusal::ScratchShort), both with the scratch
-/// untouched; [`Unsound`](Refusal::Unsound).
+/// Refusals: [`Unsound`](Refusal::Unsound) for a bad capacity, [`ImageLength`](Refusal::ImageLength) and
+/// [`ScratchShort`](Refusal::ScratchShort), all three with the scratch untouched; [`Unsound`](Refusal::Unsound) for an image
+/// that is not sound.
 ///
 /// ```
 /// use luwhenoka::{audit, format, Kind, Refusal};
 ///
 /// let mut image = [0; 1_024];
 /// let mut scratch = [7; 3];
-/// assert_eq!(audit(&image, &mut scratch), Err(Refusal::Unsound));
-/// format(&mut image, Kind::Least, 0)?;
+/// assert_eq!(audit(&image, &mut scratch), Err(Refusal::Unsound)); // 0 is no capacity
+/// assert_eq!(scratch, [7, 7, 7]);
+/// format(&mut image, Kind::Least, 0, 24)?;
 /// assert_eq!(audit(&image, &mut scratch), Ok(()));
 /// assert_eq!(scratch, [0, 0, 7]);
 /// # Ok::<(), Refusal>(())
@@ -199,16 +242,18 @@ pub fn audit(image: &[u8], scratch: &mut [u8]) -> Result<(), Refusal> {
 /// Books the value `v` on [`s`, `e`). Borrows the first n bytes of the scratch, for an image of n pages; they are 0
 /// afterwards, and any beyond keep theirs.
 ///
-/// Refusals: [`ImageLength`](Refusal::ImageLength), [`ScratchShort`](Refusal::ScratchShort),
-/// [`SpanEmpty`](Refusal::SpanEmpty), [`ValueRange`](Refusal::ValueRange), all four with the scratch untouched;
-/// [`Unsound`](Refusal::Unsound), [`ChangesFull`](Refusal::ChangesFull), [`PagesLacking`](Refusal::PagesLacking). The image
-/// then keeps every byte.
+/// Refusals: [`Unsound`](Refusal::Unsound) for a bad capacity, [`ImageLength`](Refusal::ImageLength),
+/// [`ScratchShort`](Refusal::ScratchShort), [`SpanEmpty`](Refusal::SpanEmpty), [`ValueRange`](Refusal::ValueRange), all five
+/// with the scratch untouched; [`Unsound`](Refusal::Unsound) for an image that is not sound,
+/// [`ChangesFull`](Refusal::ChangesFull), [`PagesLacking`](Refusal::PagesLacking). The image then keeps every byte.
+///
+/// The capacity stays as it stands in the image: an older one, with FF there, keeps FF.
 ///
 /// ```
 /// use luwhenoka::{enter, format, instant, Kind};
 ///
 /// let mut image = [0; 1_024];
-/// format(&mut image, Kind::Totals, 0)?;
+/// format(&mut image, Kind::Totals, 0, 24)?;
 /// enter(&mut image, &mut [0; 2], 6, 10, 40)?;
 /// assert_eq!(instant(&image, 39)?.sum, 6);
 /// assert_eq!(instant(&image, 40)?.sum, 0);
@@ -225,7 +270,7 @@ pub fn enter(image: &mut [u8], scratch: &mut [u8], v: i64, s: u32, e: u32) -> Re
 /// use luwhenoka::{enter, format, instant, withdraw, Kind};
 ///
 /// let mut image = [0; 1_024];
-/// format(&mut image, Kind::Totals, 0)?;
+/// format(&mut image, Kind::Totals, 0, 24)?;
 /// enter(&mut image, &mut [0; 2], 6, 10, 40)?;
 /// withdraw(&mut image, &mut [0; 2], 6, 10, 40)?;
 /// assert_eq!(instant(&image, 39)?.count, 0);

@@ -8,7 +8,7 @@ pub mod ffi {
     use super::{AverageAnswer, InstantAnswer, ListingAnswer};
 
     extern "C" {
-        pub fn luw_format(image: *mut u8, image_length: usize, kind: u32, window: u32) -> u32;
+        pub fn luw_format(image: *mut u8, image_length: usize, kind: u32, window: u32, capacity: u32) -> u32;
         pub fn luw_instant(image: *const u8, image_length: usize, t: u32) -> InstantAnswer;
         pub fn luw_average(image: *const u8, image_length: usize, t: u32) -> AverageAnswer;
         pub fn luw_average_of(kind: u32, sum: i64, count: i32) -> AverageAnswer;
@@ -69,8 +69,8 @@ pub struct ListingAnswer {
     pub runs: u32,
 }
 
-pub fn format(image: &mut [u8], kind: u32, window: u32) -> u32 {
-    unsafe { ffi::luw_format(image.as_mut_ptr(), image.len(), kind, window) }
+pub fn format(image: &mut [u8], kind: u32, window: u32, capacity: u32) -> u32 {
+    unsafe { ffi::luw_format(image.as_mut_ptr(), image.len(), kind, window, capacity) }
 }
 
 pub fn instant(image: &[u8], t: u32) -> InstantAnswer {

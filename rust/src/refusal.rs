@@ -4,6 +4,10 @@ use std::error::Error;
 use std::fmt;
 
 /// Why a call was turned back. Image and output are as before.
+///
+/// Where several refusals apply, a call tells the first of 16, 17, 11 or 12, 13, 14, 21, 22, 23, 24, 15. Only the capacity is
+/// judged ahead of these, since the length is judged by it. A format tells 14 for its capacity first. Any other call tells 16
+/// for an image under 40 bytes, then 21 for an image that names no capacity, with the scratch untouched and no page read.
 #[derive(Clone, Copy, PartialEq, Eq, Hash, Debug)]
 pub enum Refusal {
     /// 11: a span whose start is not below its end
@@ -12,15 +16,18 @@ pub enum Refusal {
     InstantEnd,
     /// 13: a value outside −1,000,000 to 1,000,000
     ValueRange,
-    /// 14: a kind other than 1 to 3, or a window above 1,000,000,000
-    KindOrWindow,
+    /// 14: at format, a capacity that is no even number from 4 to 24, a kind other than 1 to 3, or a window above
+    /// 1,000,000,000
+    FormatRange,
     /// 15: an output shorter than the runs, 16 bytes each
     OutputShort,
-    /// 16: an image length that isn't 512 × n for an n from 2 to 1,024
+    /// 16: an image length that isn't (32 + 20 × K) × n for an n from 2 to 1,024, where K is the capacity that format is
+    /// given and that any other call finds in the image
     ImageLength,
     /// 17: a scratch shorter than n bytes
     ScratchShort,
-    /// 21: a page that was met is unfit; of an audit or a change, the image is not sound
+    /// 21: the image names no capacity, neither by an even number from 4 to 24 nor by the FF of an older image; or a page
+    /// that was met is unfit; of an audit or a change, the image is not sound
     Unsound,
     /// 22: a withdrawal from an index of kind 2 or 3
     WithdrawalKind,
@@ -36,7 +43,7 @@ impl Refusal {
         Refusal::SpanEmpty,
         Refusal::InstantEnd,
         Refusal::ValueRange,
-        Refusal::KindOrWindow,
+        Refusal::FormatRange,
         Refusal::OutputShort,
         Refusal::ImageLength,
         Refusal::ScratchShort,
@@ -56,7 +63,7 @@ impl Refusal {
             Refusal::SpanEmpty => 11,
             Refusal::InstantEnd => 12,
             Refusal::ValueRange => 13,
-            Refusal::KindOrWindow => 14,
+            Refusal::FormatRange => 14,
             Refusal::OutputShort => 15,
             Refusal::ImageLength => 16,
             Refusal::ScratchShort => 17,
@@ -93,11 +100,11 @@ impl fmt::Display for Refusal {
             Refusal::SpanEmpty => "the span's start is not below its end",
             Refusal::InstantEnd => "4294967295 is the end of time and no instant",
             Refusal::ValueRange => "the value is outside -1000000 to 1000000",
-            Refusal::KindOrWindow => "the kind is none of 1, 2 and 3, or the window is above 1000000000",
+            Refusal::FormatRange => "the capacity, the kind or the window is outside its range",
             Refusal::OutputShort => "the output is shorter than the runs",
-            Refusal::ImageLength => "the image is not 512 bytes for each of 2 to 1024 pages",
+            Refusal::ImageLength => "the image is not 2 to 1024 pages of the length that its capacity asks for",
             Refusal::ScratchShort => "the scratch is shorter than a byte for each page",
-            Refusal::Unsound => "a page of the image is unfit, or the image is not sound",
+            Refusal::Unsound => "the image names no capacity, a page of it is unfit, or it is not sound",
             Refusal::WithdrawalKind => "an index of the greatest or least takes no withdrawal",
             Refusal::ChangesFull => "the index has had 1000000000 changes",
             Refusal::PagesLacking => "the image lacks pages for the change",
@@ -110,8 +117,8 @@ impl Error for Refusal {}
 
 /// Why an instant was turned back, and how many tree pages were read.
 ///
-/// At [`Refusal::Unsound`] the pages are those up to and including the unfit one, 0 for the head; at any other refusal they
-/// are 0.
+/// At [`Refusal::Unsound`] the pages are those up to and including the unfit one, 0 for the head and for a bad capacity; at
+/// any other refusal they are 0.
 #[derive(Clone, Copy, PartialEq, Eq, Hash, Debug)]
 pub struct Refused {
     pub refusal: Refusal,

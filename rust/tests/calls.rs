@@ -5,14 +5,30 @@ use std::collections::HashSet;
 use std::error::Error;
 
 use luwhenoka::{
-    audit, average, average_of, format, instant, listing, raw, runs, Average, Instant, Kind, Refusal, Refused, Run, END,
+    audit, average, average_of, enter, format, instant, listing, page_bytes, raw, runs, withdraw, Average, Instant,
+    Kind, Refusal, Refused, Run, END, LEAST_CAPACITY, MOST_CAPACITY,
 };
 
+/// Where the capacity stands in the head.
+const CAPACITY_AT: usize = 36;
+
+/// A fresh image with pages of 512 bytes.
 fn fresh(pages: usize, kind: Kind) -> Vec<u8> {
-    let mut image = vec![0xA5; 512 * pages];
-    format(&mut image, kind, 0).expect("a fresh image");
+    fresh_of(24, pages, kind)
+}
+
+fn fresh_of(capacity: u32, pages: usize, kind: Kind) -> Vec<u8> {
+    let mut image = vec![0xA5; page_bytes(capacity) * pages];
+    format(&mut image, kind, 0, capacity).expect("a fresh image");
     image
 }
+
+fn capacities() -> impl Iterator<Item = u32> {
+    (LEAST_CAPACITY..=MOST_CAPACITY).step_by(2)
+}
+
+/// Numbers that are no capacity.
+const NO_CAPACITY: [u32; 8] = [0, 1, 2, 3, 5, 23, 25, 26];
 
 fn put(image: &mut [u8], page: usize, at: usize, bytes: &[u8]) {
     image[512 * page + at..][..bytes.len()].copy_from_slice(bytes);
@@ -60,16 +76,97 @@ fn format_and_its_refusals() {
             assert_eq!(audit(&fresh(pages, kind), &mut vec![9; pages]), Ok(()));
         }
     }
-    for length in [0, 512, 1_023, 1_025, 512 * 1_025] {
-        let mut image = vec![3; length];
-        assert_eq!(format(&mut image, Kind::Totals, 0), Err(Refusal::ImageLength));
-        assert!(image.iter().all(|byte| *byte == 3));
+    for capacity in capacities() {
+        let page = page_bytes(capacity);
+        for length in [0, 39, 40, page, 2 * page - 1, 2 * page + 1, 1_025 * page] {
+            let mut image = vec![3; length];
+            assert_eq!(format(&mut image, Kind::Totals, 0, capacity), Err(Refusal::ImageLength));
+            assert!(image.iter().all(|byte| *byte == 3));
+        }
     }
     let mut image = fresh(2, Kind::Least);
     let before = image.clone();
-    assert_eq!(format(&mut image, Kind::Totals, 1_000_000_001), Err(Refusal::KindOrWindow));
-    assert_eq!(raw::format(&mut image, 4, 0), 14);
+    assert_eq!(format(&mut image, Kind::Totals, 1_000_000_001, 24), Err(Refusal::FormatRange));
+    assert_eq!(raw::format(&mut image, 4, 0, 24), 14);
     assert_eq!(image, before);
+}
+
+/// 14 for the capacity is ahead of 16, 16 ahead of 14 for kind and window.
+#[test]
+fn format_judges_the_capacity_first() {
+    let mut image = fresh(2, Kind::Least);
+    let before = image.clone();
+    for capacity in NO_CAPACITY.into_iter().chain([u32::MAX, 1 << 31, 24 << 8]) {
+        assert_eq!(format(&mut image, Kind::Totals, 0, capacity), Err(Refusal::FormatRange));
+        assert_eq!(format(&mut image[..39], Kind::Totals, 0, capacity), Err(Refusal::FormatRange));
+        assert_eq!(format(&mut [], Kind::Totals, 0, capacity), Err(Refusal::FormatRange));
+    }
+    assert_eq!(raw::format(&mut image[1..], 4, 1_000_000_001, 24), 16);
+    assert_eq!(raw::format(&mut image, 4, 1_000_000_001, 22), 16);
+    assert_eq!(image, before);
+}
+
+/// Each capacity from format to listing: K + 1 entries are one too many for a page, and K − 1 go back into one.
+#[test]
+fn every_capacity() {
+    const PAGES: usize = 4;
+    for capacity in capacities() {
+        let mut image = fresh_of(capacity, PAGES, Kind::Totals);
+        assert_eq!(image[CAPACITY_AT..][..4], capacity.to_le_bytes());
+        let mut scratch = [9; PAGES];
+        for i in 1..=capacity / 2 {
+            assert_eq!(instant(&image, 0).map(|answer| answer.pages), Ok(1));
+            assert_eq!(enter(&mut image, &mut scratch, 1, 10 * i, 10 * i + 5), Ok(()));
+        }
+        assert_eq!(instant(&image, 10), Ok(Instant { sum: 1, count: 1, pages: 2 }));
+        assert_eq!(audit(&image, &mut scratch), Ok(()));
+        let mut output = vec![0; 16 * capacity as usize * (PAGES - 1)];
+        assert_eq!(listing(&image, 0, END, &mut output), Ok(capacity as usize + 1));
+        assert_eq!(withdraw(&mut image, &mut scratch, 1, 10, 15), Ok(()));
+        assert_eq!(instant(&image, 10), Ok(Instant { sum: 0, count: 0, pages: 1 }));
+        assert_eq!(image[CAPACITY_AT..][..4], capacity.to_le_bytes());
+        assert_eq!(audit(&image, &mut scratch), Ok(()));
+    }
+}
+
+/// An image from before the capacity was stored has FF in its place: it is one of 24, and a change keeps FF.
+#[test]
+fn older_images() {
+    let mut image = fresh(2, Kind::Totals);
+    image[CAPACITY_AT..][..4].fill(0xFF);
+    assert_eq!(audit(&image, &mut [9; 2]), Ok(()));
+    assert_eq!(enter(&mut image, &mut [9; 2], 6, 10, 40), Ok(()));
+    assert_eq!(instant(&image, 39), Ok(Instant { sum: 6, count: 1, pages: 1 }));
+    assert_eq!(withdraw(&mut image, &mut [9; 2], 6, 10, 40), Ok(()));
+    assert_eq!(image[CAPACITY_AT..][..4], [0xFF; 4]);
+    assert_eq!(audit(&image[..448], &mut [9; 2]), Err(Refusal::ImageLength));
+}
+
+/// Under 40 bytes 16; then 21 for a bad capacity, ahead of every other refusal; then 16 by the capacity.
+#[test]
+fn the_capacity_is_judged_first() {
+    let mut image = fresh(2, Kind::Totals);
+    let unsound = |pages| Err(Refused { refusal: Refusal::Unsound, pages });
+    for number in NO_CAPACITY.into_iter().chain([u32::MAX - 1, 24 << 8]) {
+        put(&mut image, 0, CAPACITY_AT, &number.to_le_bytes());
+        let (before, mut scratch, mut output) = (image.clone(), [5; 4], [5; 64]);
+        for length in [40, 1_023, 1_024] {
+            let image = &mut image[..length];
+            assert_eq!(instant(image, END), unsound(0));
+            assert_eq!(average(image, END), Err(Refusal::Unsound));
+            assert_eq!(listing(image, 7, 7, &mut output), Err(Refusal::Unsound));
+            assert_eq!(audit(image, &mut scratch), Err(Refusal::Unsound));
+            assert_eq!(audit(image, &mut []), Err(Refusal::Unsound));
+            assert_eq!(enter(image, &mut scratch, 1_000_001, 7, 7), Err(Refusal::Unsound));
+            assert_eq!(withdraw(image, &mut scratch, 1, 7, 8), Err(Refusal::Unsound));
+        }
+        assert_eq!(audit(&image[..39], &mut scratch), Err(Refusal::ImageLength));
+        assert_eq!((image.clone(), scratch, output), (before, [5; 4], [5; 64]));
+    }
+    for capacity in capacities().filter(|capacity| *capacity != 24) {
+        put(&mut image, 0, CAPACITY_AT, &capacity.to_le_bytes());
+        assert_eq!(instant(&image, END), Err(Refused { refusal: Refusal::ImageLength, pages: 0 }));
+    }
 }
 
 #[test]
@@ -134,7 +231,7 @@ fn audits_and_their_scratch() {
     let mut image = fresh(3, Kind::Totals);
     let mut scratch = [5; 4];
     assert_eq!(audit(&image, &mut scratch[..2]), Err(Refusal::ScratchShort));
-    assert_eq!(audit(&image[1..], &mut scratch), Err(Refusal::ImageLength));
+    assert_eq!(audit(&image[..3 * 512 - 1], &mut scratch), Err(Refusal::ImageLength));
     assert_eq!(scratch, [5; 4]);
     assert_eq!(audit(&image, &mut scratch), Ok(()));
     assert_eq!(scratch, [0, 0, 0, 5]);

@@ -13,9 +13,22 @@
 
 #define PAGES 4
 
-static uint8_t image[512 * PAGES];
+/* Where the capacity stands in the head. */
+#define CAPACITY_AT 36
+
+/* Room for the pages of every capacity; those of the one in use take the first `length` bytes. */
+static uint8_t image[LUW_PAGE_BYTES(LUW_MOST_CAPACITY) * PAGES];
 static uint8_t scratch[PAGES + 2];
-static uint8_t output[384 * PAGES];
+static uint8_t output[LUW_RUN_BYTES * LUW_MOST_CAPACITY * PAGES];
+static uint32_t capacity = 24;
+static size_t page_bytes = LUW_PAGE_BYTES(24);
+static size_t length = LUW_PAGE_BYTES(24) * PAGES;
+
+static void use_capacity(uint32_t entries) {
+    capacity = entries;
+    page_bytes = LUW_PAGE_BYTES(entries);
+    length = page_bytes * PAGES;
+}
 
 #define CHECK(what) check((what), #what, __LINE__)
 
@@ -28,9 +41,9 @@ static void check(int holds, const char *what, int line) {
 
 /* ---------------------------------------------------------------- numbers in bytes */
 
-static void put(int page, int at, uint64_t number, int bytes) {
-    for (int i = 0; i < bytes; i++) {
-        image[512 * page + at + i] = (uint8_t)(number >> (8 * i));
+static void put(size_t page, size_t at, uint64_t number, size_t bytes) {
+    for (size_t i = 0; i < bytes; i++) {
+        image[page_bytes * page + at + i] = (uint8_t)(number >> (8 * i));
     }
 }
 
@@ -69,72 +82,82 @@ static int averages(struct luw_average_answer average, uint32_t status, uint32_t
 
 /* ---------------------------------------------------------------- an image made by hand */
 
-static void put_entry(int page, int i, uint32_t start, int64_t sum, int32_t count, uint32_t child) {
+static void put_entry(size_t page, size_t i, uint32_t start, int64_t sum, int32_t count, uint32_t child) {
+    size_t entry = 32 + 4 * capacity + 16 * i;
     put(page, 32 + 4 * i, start, 4);
-    put(page, 128 + 16 * i, (uint64_t)sum, 8);
-    put(page, 136 + 16 * i, (uint32_t)count, 4);
-    put(page, 140 + 16 * i, child, 4);
+    put(page, entry, (uint64_t)sum, 8);
+    put(page, entry + 8, (uint32_t)count, 4);
+    put(page, entry + 12, child, 4);
 }
 
-static void put_page(int page, uint32_t level, uint32_t entries) {
-    memset(image + 512 * page, 0xFF, 512);
+static void put_page(size_t page, uint32_t level, uint32_t entries) {
+    memset(image + page_bytes * page, 0xFF, page_bytes);
     put(page, 0, level, 4);
     put(page, 4, entries, 4);
 }
 
-/* What value 1 on [10, 15), [20, 25) .. [120, 125) leaves in four pages, of height 2; laid down by docs/FORMAT.md. */
-static void twelve_bookings(void) {
-    const uint32_t head[9] = {PAGES, 2, 3, 0, 0, 4, LUW_TOTALS, 0, 12};
-    memset(image, 0xFF, 512);
-    for (int i = 0; i < 9; i++) {
+/* Where the leaf entries of the bookings below start: 0, 10, 15, 20, 25, 30 .. */
+static uint32_t start_of(uint32_t i) {
+    return i == 0 ? 0 : 10 * ((i + 1) / 2) + (i % 2 == 0 ? 5 : 0);
+}
+
+/*
+ * What value 1 on [10, 15), [20, 25) and so on, half as many bookings as the capacity, leaves in four pages: one entry more
+ * than a page has room for, so that it is split and the height is 2. Laid down by docs/FORMAT.md.
+ */
+static void bookings_by_hand(void) {
+    uint32_t half = capacity / 2;
+    const uint32_t head[10] = {PAGES, 2, 3, 0, 0, 4, LUW_TOTALS, 0, half, capacity};
+    memset(image, 0xFF, page_bytes);
+    for (size_t i = 0; i < 10; i++) {
         put(0, 4 * i, head[i], 4);
     }
-    put_page(1, 0, 12);
-    put_page(2, 0, 13);
-    for (int i = 0; i < 25; i++) {
-        uint32_t start = i == 0 ? 0 : 10 * ((uint32_t)(i + 1) / 2) + (i % 2 == 0 ? 5 : 0);
-        put_entry(i < 12 ? 1 : 2, i < 12 ? i : i - 12, start, i % 2, i % 2, 0);
+    put_page(1, 0, half);
+    put_page(2, 0, half + 1);
+    for (uint32_t i = 0; i < capacity + 1; i++) {
+        put_entry(i < half ? 1 : 2, i < half ? i : i - half, start_of(i), i % 2, i % 2, 0);
     }
     put_page(3, 1, 2);
     put_entry(3, 0, 0, 0, 0, 1);
-    put_entry(3, 1, 65, 0, 0, 2);
+    put_entry(3, 1, start_of(half), 0, 0, 2);
 }
 
 /* ---------------------------------------------------------------- the calls */
 
 static void formats(void) {
     memset(image, 7, sizeof image);
-    CHECK(luw_format(image, sizeof image - 1, LUW_TOTALS, 0) == LUW_IMAGE_LENGTH);
-    CHECK(luw_format(image, sizeof image, 4, 0) == LUW_KIND_OR_WINDOW);
-    CHECK(luw_format(image, sizeof image, LUW_LEAST, LUW_MOST_WINDOW + 1) == LUW_KIND_OR_WINDOW);
-    CHECK(luw_format(NULL, 0, LUW_LEAST, 0) == LUW_IMAGE_LENGTH);
+    CHECK(luw_format(image, length - 1, LUW_TOTALS, 0, capacity) == LUW_IMAGE_LENGTH);
+    CHECK(luw_format(image, length, 4, 0, capacity) == LUW_FORMAT_RANGE);
+    CHECK(luw_format(image, length, LUW_LEAST, LUW_MOST_WINDOW + 1, capacity) == LUW_FORMAT_RANGE);
+    CHECK(luw_format(NULL, 0, LUW_LEAST, 0, capacity) == LUW_IMAGE_LENGTH);
     CHECK(all(image, sizeof image, 7));
-    CHECK(luw_format(image, sizeof image, LUW_GREATEST, 20) == LUW_ACCEPTED);
+    CHECK(luw_format(image, length, LUW_GREATEST, 20, capacity) == LUW_ACCEPTED);
     CHECK(get(image, 4) == PAGES && get(image + 24, 4) == LUW_GREATEST && get(image + 28, 4) == 20);
-    CHECK(all(image + 512 * 2, 512 * (PAGES - 2), 0xFF));
-    CHECK(holds(luw_instant(image, sizeof image, 0), 0, 0, 1));
-    CHECK(averages(luw_average(image, sizeof image, 0), LUW_ACCEPTED, LUW_NO_AVERAGE, 0));
-    printf("fresh: audit %" PRIu32 ", %" PRIu32 " run\n", luw_audit(image, sizeof image, scratch, sizeof scratch),
-           luw_listing(image, sizeof image, 0, LUW_END, output, sizeof output).runs);
+    CHECK(get(image + CAPACITY_AT, 4) == capacity && all(image + 40, page_bytes - 40, 0xFF));
+    CHECK(all(image + page_bytes * 2, page_bytes * (PAGES - 2), 0xFF));
+    CHECK(holds(luw_instant(image, length, 0), 0, 0, 1));
+    CHECK(averages(luw_average(image, length, 0), LUW_ACCEPTED, LUW_NO_AVERAGE, 0));
+    printf("fresh: audit %" PRIu32 ", %" PRIu32 " run\n", luw_audit(image, length, scratch, sizeof scratch),
+           luw_listing(image, length, 0, LUW_END, output, sizeof output).runs);
 }
 
 static void instants(void) {
-    CHECK(holds(luw_instant(image, sizeof image, 9), 0, 0, 2));
-    CHECK(holds(luw_instant(image, sizeof image, 10), 1, 1, 2));
-    CHECK(holds(luw_instant(image, sizeof image, 14), 1, 1, 2));
-    CHECK(holds(luw_instant(image, sizeof image, 15), 0, 0, 2));
-    CHECK(holds(luw_instant(image, sizeof image, 124), 1, 1, 2));
-    CHECK(holds(luw_instant(image, sizeof image, LUW_END - 1), 0, 0, 2));
-    CHECK(turned_back(luw_instant(image, sizeof image, LUW_END), LUW_INSTANT_END, 0));
-    CHECK(turned_back(luw_instant(image, sizeof image + 1, LUW_END), LUW_IMAGE_LENGTH, 0));
-    struct luw_instant_answer now = luw_instant(image, sizeof image, 122);
+    CHECK(holds(luw_instant(image, length, 9), 0, 0, 2));
+    CHECK(holds(luw_instant(image, length, 10), 1, 1, 2));
+    CHECK(holds(luw_instant(image, length, 14), 1, 1, 2));
+    CHECK(holds(luw_instant(image, length, 15), 0, 0, 2));
+    CHECK(holds(luw_instant(image, length, 124), 1, 1, 2));
+    CHECK(holds(luw_instant(image, length, LUW_END - 1), 0, 0, 2));
+    CHECK(turned_back(luw_instant(image, length, LUW_END), LUW_INSTANT_END, 0));
+    CHECK(turned_back(luw_instant(image, length + 1, LUW_END), LUW_IMAGE_LENGTH, 0));
+    struct luw_instant_answer now = luw_instant(image, length, 122);
     printf("at 122: sum %" PRId64 ", count %" PRId32 ", %" PRIu32 " pages read\n", now.sum, now.count, now.pages);
 }
 
 static void averages_of_pairs(void) {
-    CHECK(averages(luw_average(image, sizeof image, 122), LUW_ACCEPTED, LUW_HUNDREDTHS, 100));
-    CHECK(averages(luw_average(image, sizeof image, 0), LUW_ACCEPTED, LUW_NO_AVERAGE, 0));
-    CHECK(averages(luw_average(image, sizeof image, LUW_END), LUW_INSTANT_END, LUW_NO_AVERAGE, 0));
+    CHECK(averages(luw_average(image, length, 122), LUW_ACCEPTED, LUW_HUNDREDTHS, 100));
+    CHECK(averages(luw_average(image, length, 0), LUW_ACCEPTED, LUW_NO_AVERAGE, 0));
+    CHECK(averages(luw_average(image, length, LUW_END), LUW_INSTANT_END, LUW_NO_AVERAGE, 0));
     CHECK(averages(luw_average_of(LUW_TOTALS, 14, 3), LUW_ACCEPTED, LUW_HUNDREDTHS, 467));
     CHECK(averages(luw_average_of(LUW_TOTALS, 5, -1), LUW_ACCEPTED, LUW_NO_AVERAGE, 0));
     CHECK(averages(luw_average_of(LUW_LEAST, 5, 1), LUW_ACCEPTED, LUW_NO_AVERAGE, 0));
@@ -144,13 +167,13 @@ static void averages_of_pairs(void) {
 
 static void listings(void) {
     memset(output, 0xA5, sizeof output);
-    CHECK(listed(luw_listing(image, sizeof image, 5, 5, output, sizeof output), LUW_SPAN_EMPTY, 0));
-    CHECK(listed(luw_listing(image, sizeof image, 0, LUW_END, output, 16 * 25 - 1), LUW_OUTPUT_SHORT, 0));
-    CHECK(listed(luw_listing(image, sizeof image, 0, LUW_END, NULL, 0), LUW_OUTPUT_SHORT, 0));
+    CHECK(listed(luw_listing(image, length, 5, 5, output, sizeof output), LUW_SPAN_EMPTY, 0));
+    CHECK(listed(luw_listing(image, length, 0, LUW_END, output, 16 * 25 - 1), LUW_OUTPUT_SHORT, 0));
+    CHECK(listed(luw_listing(image, length, 0, LUW_END, NULL, 0), LUW_OUTPUT_SHORT, 0));
     CHECK(all(output, sizeof output, 0xA5));
-    CHECK(listed(luw_listing(image, sizeof image, 0, LUW_END, output, 16 * 25), LUW_ACCEPTED, 25));
+    CHECK(listed(luw_listing(image, length, 0, LUW_END, output, 16 * 25), LUW_ACCEPTED, 25));
     CHECK(all(output + 16 * 25, sizeof output - 16 * 25, 0xA5));
-    struct luw_listing_answer answer = luw_listing(image, sizeof image, 58, 72, output, sizeof output);
+    struct luw_listing_answer answer = luw_listing(image, length, 58, 72, output, sizeof output);
     printf("runs %" PRIu32 " over [58, 72)\n", answer.runs);
     for (uint32_t i = 0; i < answer.runs; i++) {
         const uint8_t *run = output + LUW_RUN_BYTES * i;
@@ -161,76 +184,143 @@ static void listings(void) {
 
 static void audits(void) {
     memset(scratch, 9, sizeof scratch);
-    CHECK(luw_audit(image, sizeof image, scratch, PAGES - 1) == LUW_SCRATCH_SHORT);
-    CHECK(luw_audit(image, sizeof image, NULL, 0) == LUW_SCRATCH_SHORT);
-    CHECK(luw_audit(image, 512, scratch, sizeof scratch) == LUW_IMAGE_LENGTH);
+    CHECK(luw_audit(image, length, scratch, PAGES - 1) == LUW_SCRATCH_SHORT);
+    CHECK(luw_audit(image, length, NULL, 0) == LUW_SCRATCH_SHORT);
+    CHECK(luw_audit(image, page_bytes, scratch, sizeof scratch) == LUW_IMAGE_LENGTH);
     CHECK(all(scratch, sizeof scratch, 9));
-    CHECK(luw_audit(image, sizeof image, scratch, sizeof scratch) == LUW_ACCEPTED);
+    CHECK(luw_audit(image, length, scratch, sizeof scratch) == LUW_ACCEPTED);
     CHECK(all(scratch, PAGES, 0) && all(scratch + PAGES, 2, 9));
 }
 
 /* A page header whose number of entries runs past the page: whoever meets it is turned back, nobody else. */
 static void damage(void) {
-    put(2, 4, 25, 4);
+    put(2, 4, capacity + 1, 4);
     memset(scratch, 9, sizeof scratch);
-    CHECK(luw_audit(image, sizeof image, scratch, sizeof scratch) == LUW_UNSOUND);
+    CHECK(luw_audit(image, length, scratch, sizeof scratch) == LUW_UNSOUND);
     CHECK(all(scratch, PAGES, 0) && all(scratch + PAGES, 2, 9));
     memset(output, 0xA5, sizeof output);
-    CHECK(listed(luw_listing(image, sizeof image, 0, 66, output, sizeof output), LUW_UNSOUND, 0));
+    CHECK(listed(luw_listing(image, length, 0, 66, output, sizeof output), LUW_UNSOUND, 0));
     CHECK(all(output, sizeof output, 0xA5));
-    CHECK(listed(luw_listing(image, sizeof image, 0, 65, output, sizeof output), LUW_ACCEPTED, 12));
-    CHECK(turned_back(luw_instant(image, sizeof image, 65), LUW_UNSOUND, 2));
-    CHECK(holds(luw_instant(image, sizeof image, 64), 1, 1, 2));
-    CHECK(averages(luw_average(image, sizeof image, 65), LUW_UNSOUND, LUW_NO_AVERAGE, 0));
-    image[511] = 0;
-    CHECK(turned_back(luw_instant(image, sizeof image, 64), LUW_UNSOUND, 0));
+    CHECK(listed(luw_listing(image, length, 0, 65, output, sizeof output), LUW_ACCEPTED, 12));
+    CHECK(turned_back(luw_instant(image, length, 65), LUW_UNSOUND, 2));
+    CHECK(holds(luw_instant(image, length, 64), 1, 1, 2));
+    CHECK(averages(luw_average(image, length, 65), LUW_UNSOUND, LUW_NO_AVERAGE, 0));
+    image[page_bytes - 1] = 0;
+    CHECK(turned_back(luw_instant(image, length, 64), LUW_UNSOUND, 0));
     printf("25 entries in a page: refused with %d\n", LUW_UNSOUND);
 }
 
-/* Twelve bookings by the calls make the image that was laid down by hand; withdrawn in turn, one entry is left. */
+/* The bookings by the calls make the image that was laid down by hand; withdrawn in turn, one entry is left. */
 static void changes(void) {
     static uint8_t expected[sizeof image];
-    twelve_bookings();
-    memcpy(expected, image, sizeof image);
-    CHECK(luw_format(image, sizeof image, LUW_TOTALS, 0) == LUW_ACCEPTED);
-    for (uint32_t i = 1; i <= 12; i++) {
-        CHECK(luw_enter(image, sizeof image, scratch, PAGES, 1, 10 * i, 10 * i + 5) == LUW_ACCEPTED);
+    uint32_t bookings = capacity / 2;
+    bookings_by_hand();
+    memcpy(expected, image, length);
+    CHECK(luw_format(image, length, LUW_TOTALS, 0, capacity) == LUW_ACCEPTED);
+    for (uint32_t i = 1; i <= bookings; i++) {
+        CHECK(luw_enter(image, length, scratch, PAGES, 1, 10 * i, 10 * i + 5) == LUW_ACCEPTED);
     }
-    CHECK(memcmp(image, expected, sizeof image) == 0);
-    CHECK(luw_withdraw(image, 3 * 512, scratch, PAGES, 1, 10, 15) == LUW_UNSOUND);
-    CHECK(memcmp(image, expected, sizeof image) == 0);
-    for (uint32_t i = 12; i >= 1; i--) {
-        CHECK(luw_withdraw(image, sizeof image, scratch, PAGES, 1, 10 * i, 10 * i + 5) == LUW_ACCEPTED);
+    CHECK(memcmp(image, expected, length) == 0);
+    CHECK(luw_withdraw(image, 3 * page_bytes, scratch, PAGES, 1, 10, 15) == LUW_UNSOUND);
+    CHECK(memcmp(image, expected, length) == 0);
+    for (uint32_t i = bookings; i >= 1; i--) {
+        CHECK(luw_withdraw(image, length, scratch, PAGES, 1, 10 * i, 10 * i + 5) == LUW_ACCEPTED);
     }
-    CHECK(luw_audit(image, sizeof image, scratch, PAGES) == LUW_ACCEPTED);
-    CHECK(listed(luw_listing(image, sizeof image, 0, LUW_END, output, sizeof output), LUW_ACCEPTED, 1));
-    printf("12 entered and withdrawn: %" PRIu64 " changes, height %" PRIu64 "\n", get(image + 32, 4), get(image + 4, 4));
+    CHECK(luw_audit(image, length, scratch, PAGES) == LUW_ACCEPTED);
+    CHECK(listed(luw_listing(image, length, 0, LUW_END, output, sizeof output), LUW_ACCEPTED, 1));
+    printf("%" PRIu32 " entered and withdrawn: %" PRIu64 " changes, height %" PRIu64 "\n", bookings, get(image + 32, 4),
+           get(image + 4, 4));
 }
 
 static void refused_changes(void) {
     memset(scratch, 9, sizeof scratch);
-    CHECK(luw_enter(image, 511, scratch, PAGES, 1, 1, 2) == LUW_IMAGE_LENGTH);
-    CHECK(luw_enter(image, sizeof image, scratch, PAGES - 1, 1, 5, 5) == LUW_SCRATCH_SHORT);
-    CHECK(luw_enter(image, sizeof image, scratch, PAGES, LUW_MOST_VALUE + 1, 5, 5) == LUW_SPAN_EMPTY);
-    CHECK(luw_withdraw(image, sizeof image, scratch, PAGES, -LUW_MOST_VALUE - 1, 5, 6) == LUW_VALUE_RANGE);
+    CHECK(luw_enter(image, page_bytes - 1, scratch, PAGES, 1, 1, 2) == LUW_IMAGE_LENGTH);
+    CHECK(luw_enter(image, length, scratch, PAGES - 1, 1, 5, 5) == LUW_SCRATCH_SHORT);
+    CHECK(luw_enter(image, length, scratch, PAGES, LUW_MOST_VALUE + 1, 5, 5) == LUW_SPAN_EMPTY);
+    CHECK(luw_withdraw(image, length, scratch, PAGES, -LUW_MOST_VALUE - 1, 5, 6) == LUW_VALUE_RANGE);
     CHECK(all(scratch, sizeof scratch, 9));
-    CHECK(luw_format(image, sizeof image, LUW_GREATEST, 20) == LUW_ACCEPTED);
-    CHECK(luw_enter(image, sizeof image, scratch, PAGES, 4, 35, 45) == LUW_ACCEPTED);
-    CHECK(holds(luw_instant(image, sizeof image, 64), 4, 1, 1) && holds(luw_instant(image, sizeof image, 65), 0, 0, 1));
-    CHECK(luw_withdraw(image, sizeof image, scratch, PAGES, 4, 35, 45) == LUW_WITHDRAWAL_KIND);
+    CHECK(luw_format(image, length, LUW_GREATEST, 20, capacity) == LUW_ACCEPTED);
+    CHECK(luw_enter(image, length, scratch, PAGES, 4, 35, 45) == LUW_ACCEPTED);
+    CHECK(holds(luw_instant(image, length, 64), 4, 1, 1) && holds(luw_instant(image, length, 65), 0, 0, 1));
+    CHECK(luw_withdraw(image, length, scratch, PAGES, 4, 35, 45) == LUW_WITHDRAWAL_KIND);
     CHECK(all(scratch, PAGES, 0) && all(scratch + PAGES, 2, 9));
     put(0, 32, 1000000000, 4);
-    CHECK(luw_enter(image, sizeof image, scratch, PAGES, 4, 35, 45) == LUW_CHANGES_FULL);
-    CHECK(luw_format(image, 3 * 512, LUW_TOTALS, 0) == LUW_ACCEPTED);
+    CHECK(luw_enter(image, length, scratch, PAGES, 4, 35, 45) == LUW_CHANGES_FULL);
+    CHECK(luw_format(image, 3 * page_bytes, LUW_TOTALS, 0, capacity) == LUW_ACCEPTED);
     for (uint32_t i = 1; i <= 11; i++) {
-        CHECK(luw_enter(image, 3 * 512, scratch, 3, 1, 10 * i, 10 * i + 5) == LUW_ACCEPTED);
+        CHECK(luw_enter(image, 3 * page_bytes, scratch, 3, 1, 10 * i, 10 * i + 5) == LUW_ACCEPTED);
     }
-    printf("the twelfth in three pages: refused with %" PRIu32 "\n", luw_enter(image, 3 * 512, scratch, 3, 1, 120, 125));
+    printf("the twelfth in three pages: refused with %" PRIu32 "\n",
+           luw_enter(image, 3 * page_bytes, scratch, 3, 1, 120, 125));
+}
+
+/* ---------------------------------------------------------------- the capacity */
+
+/* Pages of 4 entries, the smallest, in full; then the changes above with pages of every capacity. */
+static void other_capacities(void) {
+    use_capacity(LUW_LEAST_CAPACITY);
+    CHECK(page_bytes == 112);
+    bookings_by_hand();
+    CHECK(luw_audit(image, length, scratch, PAGES) == LUW_ACCEPTED);
+    CHECK(holds(luw_instant(image, length, 22), 1, 1, 2) && holds(luw_instant(image, length, 15), 0, 0, 2));
+    CHECK(listed(luw_listing(image, length, 0, LUW_END, output, sizeof output), LUW_ACCEPTED, 5));
+    put(2, 4, 5, 4);
+    CHECK(turned_back(luw_instant(image, length, 15), LUW_UNSOUND, 2) && holds(luw_instant(image, length, 14), 1, 1, 2));
+    printf("5 entries in a page of 4: refused with %d\n", LUW_UNSOUND);
+    for (uint32_t entries = LUW_LEAST_CAPACITY; entries <= LUW_MOST_CAPACITY; entries += 2) {
+        use_capacity(entries);
+        changes();
+    }
+    use_capacity(24);
+}
+
+/* An image from before the capacity was stored has FF in its place: it is one of 24, and a change keeps FF. */
+static void older_image(void) {
+    bookings_by_hand();
+    put(0, CAPACITY_AT, UINT32_MAX, 4);
+    CHECK(luw_audit(image, length, scratch, PAGES) == LUW_ACCEPTED);
+    CHECK(holds(luw_instant(image, length, 122), 1, 1, 2));
+    CHECK(turned_back(luw_instant(image, length - 1, 122), LUW_IMAGE_LENGTH, 0));
+    CHECK(luw_enter(image, length, scratch, PAGES, 5, 12, 122) == LUW_ACCEPTED);
+    CHECK(holds(luw_instant(image, length, 121), 6, 2, 2) && luw_audit(image, length, scratch, PAGES) == LUW_ACCEPTED);
+    CHECK(get(image + 32, 4) == 13 && all(image + CAPACITY_AT, 4, 0xFF));
+    printf("FF for a capacity: read as 24, and kept by a change\n");
+}
+
+/* Every call but format is turned back by the capacity or the length, whatever other faults there are. */
+static void refused_by_capacity(uint32_t status, size_t image_length) {
+    CHECK(turned_back(luw_instant(image, image_length, LUW_END), status, 0));
+    CHECK(averages(luw_average(image, image_length, LUW_END), status, LUW_NO_AVERAGE, 0));
+    CHECK(listed(luw_listing(image, image_length, 5, 5, output, sizeof output), status, 0));
+    CHECK(luw_audit(image, image_length, scratch, PAGES - 1) == status);
+    CHECK(luw_audit(image, image_length, scratch, PAGES) == status);
+    CHECK(luw_enter(image, image_length, scratch, PAGES, LUW_MOST_VALUE + 1, 5, 5) == status);
+    CHECK(luw_withdraw(image, image_length, scratch, PAGES, 1, 5, 6) == status);
+}
+
+static void refused_capacities(void) {
+    static const uint32_t bad[] = {0, 2, 3, 5, 23, 25, 26, 24 << 8, UINT32_MAX - 1};
+    bookings_by_hand();
+    memset(scratch, 9, sizeof scratch);
+    for (size_t i = 0; i < sizeof bad / sizeof *bad; i++) {
+        CHECK(luw_format(image, length - 1, 4, 0, bad[i]) == LUW_FORMAT_RANGE);
+        CHECK(luw_format(NULL, 0, LUW_TOTALS, 0, bad[i]) == LUW_FORMAT_RANGE);
+        put(0, CAPACITY_AT, bad[i], 4);
+        refused_by_capacity(LUW_UNSOUND, length);
+        refused_by_capacity(LUW_UNSOUND, length - 1);
+        refused_by_capacity(LUW_UNSOUND, 40);
+        refused_by_capacity(LUW_IMAGE_LENGTH, 39);
+    }
+    CHECK(luw_format(image, length, LUW_TOTALS, 0, UINT32_MAX) == LUW_FORMAT_RANGE);
+    put(0, CAPACITY_AT, 22, 4);
+    refused_by_capacity(LUW_IMAGE_LENGTH, length);
+    CHECK(all(scratch, sizeof scratch, 9));
+    printf("25 for a capacity: refused with %d at format, with %d in an image\n", LUW_FORMAT_RANGE, LUW_UNSOUND);
 }
 
 int main(void) {
     formats();
-    twelve_bookings();
+    bookings_by_hand();
     instants();
     averages_of_pairs();
     listings();
@@ -238,6 +328,9 @@ int main(void) {
     damage();
     changes();
     refused_changes();
+    other_capacities();
+    older_image();
+    refused_capacities();
     printf("all as expected\n");
     return 0;
 }

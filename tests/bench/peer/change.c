@@ -408,9 +408,10 @@ static struct effect effect_of(const struct head *head, bool withdrawal, int64_t
 
 static uint32_t change(uint8_t *image, size_t image_length, uint8_t *scratch, size_t scratch_length,
                        bool withdrawal, int64_t v, uint32_t s, uint32_t e) {
-    uint32_t n = number_of_pages(image_length);
-    if (n == 0) {
-        return IMAGE_LENGTH;
+    uint32_t n;
+    uint32_t status = judge(image, image_length, &n);
+    if (status != ACCEPTED) {
+        return status;
     }
     if (scratch_length < n) {
         return SCRATCH_SHORT;

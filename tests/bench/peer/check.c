@@ -57,15 +57,15 @@ bool free_page_fits(const uint8_t *page) {
 bool head_fits(const uint8_t *image, uint32_t n, struct head *head) {
     memcpy(head, image, HEAD_BYTES);
     return head->n == n
-        && head->height - 1 < MOST_LEVELS
+        && head->height - 1 < MOST_HEIGHT
         && head->root - 1 < n - 1
         && head->first_free < n
         && head->high_mark - 2 <= n - 2
         && head->kind - TOTALS <= LEAST - TOTALS
         && head->window <= MOST_WINDOW
         && head->changes <= MOST_CHANGES
-        && load32(image + HEAD_BYTES) == UNUSED
-        && (first_words(image, HEAD_BYTES + 4) & words_from(image, 64)) == FF;
+        && names_24(head->capacity)
+        && (first_words(image, HEAD_BYTES) & words_from(image, 64)) == FF;
 }
 
 /* The greatest power of two that is at most so much; 0 for 0. */

@@ -14,20 +14,26 @@
 
 /* ------------------------------------------------------------ sizes and ranges */
 
+/* All pages have 24 entries; the other capacities are known only to tell what the library tells of them. */
 #define PAGE_BYTES 512
-#define FEWEST_PAGES 2
-#define MOST_PAGES 1024
-#define MOST_LEVELS 4
-
 #define MOST_ENTRIES 24
 #define FEWEST_ENTRIES 12
+#define LEAST_CAPACITY 4
+
+#define FEWEST_PAGES 2
+#define MOST_PAGES 1024
+
+/* What the head may say at every capacity; and what a sound image comes to: a fifth level would take 3,771 pages. */
+#define MOST_HEIGHT 10
+#define MOST_LEVELS 4
+
 #define GAP_AT 8
 #define STARTS_AT 32
 #define START_BYTES 4
 #define ENTRIES_AT 128
 #define ENTRY_BYTES 16
 
-#define HEAD_BYTES 36
+#define HEAD_BYTES 40
 #define FREE_LEVEL 255
 #define FREE_BYTES 8
 
@@ -85,13 +91,37 @@ struct head {
     uint32_t kind;
     uint32_t window;
     uint32_t changes;
+    uint32_t capacity;
 };
 
-/* n, or 0 where the length is not 512 x n for an n in range. */
-static inline uint32_t number_of_pages(size_t image_length) {
-    size_t n = image_length / PAGE_BYTES;
-    bool fits = image_length % PAGE_BYTES == 0 && FEWEST_PAGES <= n && n <= MOST_PAGES;
-    return fits ? (uint32_t)n : 0;
+/* 24, as a number or as the FF of an older image. */
+static inline bool names_24(uint32_t capacity) {
+    return capacity == MOST_ENTRIES || capacity == UNUSED;
+}
+
+/* Whether so many bytes are pages of this length, as many as an image may have; if so, how many. */
+static inline bool are_pages(size_t image_length, size_t page_bytes, uint32_t *n) {
+    size_t pages = image_length / page_bytes;
+    *n = (uint32_t)pages;
+    return image_length % page_bytes == 0 && FEWEST_PAGES <= pages && pages <= MOST_PAGES;
+}
+
+/*
+ * What every call judges first: the capacity, and by it the length. ACCEPTED and the number of pages, or the status that
+ * turns the image back. What is measured has 24, so that no division waits for a page length that is only read here.
+ */
+static inline uint32_t judge(const uint8_t *image, size_t image_length, uint32_t *n) {
+    if (image_length < HEAD_BYTES) {
+        return IMAGE_LENGTH;
+    }
+    uint32_t capacity = load32(image + offsetof(struct head, capacity));
+    if (names_24(capacity)) {
+        return are_pages(image_length, PAGE_BYTES, n) ? ACCEPTED : IMAGE_LENGTH;
+    }
+    if (capacity < LEAST_CAPACITY || capacity > MOST_ENTRIES || capacity % 2 != 0) {
+        return UNSOUND;
+    }
+    return are_pages(image_length, STARTS_AT + (START_BYTES + ENTRY_BYTES) * capacity, n) ? ACCEPTED : IMAGE_LENGTH;
 }
 
 /* ------------------------------------------------------------ tree pages */
@@ -201,7 +231,7 @@ struct place {
     uint64_t sum_limit;
 };
 
-/* Whether the head is fit in an image of n pages; if so, its numbers. */
+/* Whether the head is fit in an image of n pages of 24 entries; if so, its numbers. */
 bool head_fits(const uint8_t *image, uint32_t n, struct head *head);
 
 /* The root's place. */

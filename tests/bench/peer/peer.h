@@ -2,7 +2,9 @@
  * The peer: the same index in plain C, unproved and written for speed, so that the proved library can be held against it.
  *
  * The calls, statuses and answers are those of include/luwhenoka.h, with peer_ for luw_; images are made elsewhere. Every
- * check that the library makes is made here too, and no other. The host is little-endian, as the pages are.
+ * check that the library makes is made here too, and no other. Pages have 24 entries, a number that the compiler knows: an
+ * image with pages of another capacity, which the library takes, counts as unfit here. The host is little-endian, as the
+ * pages are.
  */
 #ifndef PEER_H
 #define PEER_H

@@ -14,9 +14,10 @@ static struct peer_instant_answer no_instant(uint32_t status, uint32_t pages) {
  * bytes allow: so the processor knows the next page, and can begin with it, while it still checks this one.
  */
 struct peer_instant_answer peer_instant(const uint8_t *image, size_t image_length, uint32_t t) {
-    uint32_t n = number_of_pages(image_length);
-    if (n == 0) {
-        return no_instant(IMAGE_LENGTH, 0);
+    uint32_t n;
+    uint32_t status = judge(image, image_length, &n);
+    if (status != ACCEPTED) {
+        return no_instant(status, 0);
     }
     if (t == END) {
         return no_instant(INSTANT_END, 0);
@@ -217,9 +218,10 @@ static const struct pair no_run = {0, INT32_MIN};
 
 struct peer_listing_answer peer_listing(const uint8_t *image, size_t image_length, uint32_t a, uint32_t b,
                                         uint8_t *output, size_t output_length) {
-    uint32_t n = number_of_pages(image_length);
-    if (n == 0) {
-        return listed(IMAGE_LENGTH, 0);
+    uint32_t n;
+    uint32_t status = judge(image, image_length, &n);
+    if (status != ACCEPTED) {
+        return listed(status, 0);
     }
     if (a >= b) {
         return listed(SPAN_EMPTY, 0);

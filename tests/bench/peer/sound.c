@@ -65,9 +65,10 @@ bool is_sound(const uint8_t *image, uint32_t n, struct head *head) {
 }
 
 uint32_t peer_audit(const uint8_t *image, size_t image_length, uint8_t *scratch, size_t scratch_length) {
-    uint32_t n = number_of_pages(image_length);
-    if (n == 0) {
-        return IMAGE_LENGTH;
+    uint32_t n;
+    uint32_t status = judge(image, image_length, &n);
+    if (status != ACCEPTED) {
+        return status;
     }
     if (scratch_length < n) {
         return SCRATCH_SHORT;

@@ -1,8 +1,13 @@
-//! What is measured: images that the plain version made, and the same runs in a map.
+//! What is measured: images with pages of 24 entries, formatted by the library and filled by the plain version, and the same
+//! runs in a map.
 
 use std::collections::BTreeMap;
 
+use luwhenoka::raw;
 use plain::END;
+
+/// The capacity of all pages: document 01's, which the peer is written for. A page has 512 bytes.
+pub const CAPACITY: u32 = 24;
 
 pub struct Random(u64);
 
@@ -41,7 +46,7 @@ pub fn instants(number: usize, seed: u64) -> Vec<u32> {
 
 pub fn formatted(n: usize, kind: u32, window: u32) -> Vec<u8> {
     let mut image = vec![0; 512 * n];
-    assert_eq!(plain::format(&mut image, kind, window), 0);
+    assert_eq!(raw::format(&mut image, kind, window, CAPACITY), 0);
     image
 }
 

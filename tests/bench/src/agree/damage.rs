@@ -3,6 +3,7 @@
 use plain::END;
 
 use super::both::{Both, Call};
+use super::capacity::{CAPACITY_AT, FIELDS};
 use super::loads::listings;
 use crate::subjects::{formatted, height};
 
@@ -103,14 +104,14 @@ fn number(both: &mut Both, image: &[u8], page: usize) -> (usize, Vec<u8>) {
     let count = changes.wrapping_add(near).wrapping_sub(1);
     let sum = 1_000_000 * i64::from(changes) + i64::from(near) - 1;
     let small = both.random.below(n + 2);
-    match both.random.below(13) {
+    match both.random.below(15) {
         0 => (32, both.random.below(40).to_le_bytes().to_vec()),
         1 => (32, both.random.below(changes.max(1)).to_le_bytes().to_vec()),
         2 => (entry, pick(both, &[sum, -sum, i64::MIN, i64::MAX, 0, 1_000_001, -1_000_000]).to_le_bytes().to_vec()),
         3 => (entry + 8, pick(both, &[count, count.wrapping_neg(), 1 << 31, 2, 0, 1]).to_le_bytes().to_vec()),
         4 => (entry + 12, pick(both, &[0, 1, n - 1, n, u32::MAX, small]).to_le_bytes().to_vec()),
         5 => (512 * page + 4, pick(both, &[0, 1, 2, 11, 12, 13, 23, 24, 25, u32::MAX]).to_le_bytes().to_vec()),
-        6 => (512 * page, pick(both, &[0, 1, 2, 3, 4, 255, u32::MAX]).to_le_bytes().to_vec()),
+        6 => (512 * page, pick(both, &[0, 1, 2, 3, 4, 9, 255, u32::MAX]).to_le_bytes().to_vec()),
         7 => (4 * pick(both, &[1, 2, 3, 4, 5, 6]), small.to_le_bytes().to_vec()),
         8 => (4 * pick(both, &[1, 2, 3, 4, 5, 6, 7, 8]), pick(both, &[0, n, n - 1, u32::MAX]).to_le_bytes().to_vec()),
         9 => {
@@ -119,6 +120,8 @@ fn number(both: &mut Both, image: &[u8], page: usize) -> (usize, Vec<u8>) {
         }
         10 => (512 * page, shortened(&image[512 * page..][..512], pick(both, &[0, 1, 2, 11, 12, 13]))),
         11 => (512 * page, image[512 * small.min(n - 1) as usize..][..512].to_vec()),
+        12 => (CAPACITY_AT, pick(both, &FIELDS).to_le_bytes().to_vec()),
+        13 => (4, pick(both, &[4u32, 5, 9, 10, 11]).to_le_bytes().to_vec()),
         _ => (512 * page, vec![0xFF; 512]),
     }
 }

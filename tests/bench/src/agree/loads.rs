@@ -3,11 +3,14 @@
 use plain::END;
 
 use super::both::{Both, Call};
+use super::capacity::CAPACITY_AT;
 use crate::subjects::{formatted, height};
 
 /// An image, how many bookings are entered in it, and the height that it is to reach.
 struct Load {
     pages: usize,
+    /// An image from before the capacity was stored, with FF there.
+    older: bool,
     window: u32,
     bookings: usize,
     range: u32,
@@ -17,14 +20,22 @@ struct Load {
 }
 
 const LOADS: [Load; 8] = [
-    Load { pages: 2, window: 0, bookings: 40, range: 60, in_order: false, height: 1 },
-    Load { pages: 3, window: 5, bookings: 60, range: 200, in_order: false, height: 1 },
-    Load { pages: 7, window: 0, bookings: 300, range: 500, in_order: false, height: 2 },
-    Load { pages: 40, window: 1_000_000_000, bookings: 500, range: 3_000_000_000, in_order: false, height: 2 },
-    Load { pages: 64, window: 0, bookings: 800, range: END, in_order: false, height: 3 },
-    Load { pages: 200, window: 3, bookings: 1_500, range: 20_000, in_order: false, height: 3 },
-    Load { pages: 1_024, window: 40, bookings: 4_000, range: 1_000_000_000, in_order: false, height: 3 },
-    Load { pages: 1_024, window: 0, bookings: 4_400, range: 2_000_000_000, in_order: true, height: 4 },
+    Load { pages: 2, older: false, window: 0, bookings: 40, range: 60, in_order: false, height: 1 },
+    Load { pages: 3, older: true, window: 5, bookings: 60, range: 200, in_order: false, height: 1 },
+    Load { pages: 7, older: false, window: 0, bookings: 300, range: 500, in_order: false, height: 2 },
+    Load {
+        pages: 40,
+        older: true,
+        window: 1_000_000_000,
+        bookings: 500,
+        range: 3_000_000_000,
+        in_order: false,
+        height: 2,
+    },
+    Load { pages: 64, older: false, window: 0, bookings: 800, range: END, in_order: false, height: 3 },
+    Load { pages: 200, older: true, window: 3, bookings: 1_500, range: 20_000, in_order: false, height: 3 },
+    Load { pages: 1_024, older: false, window: 40, bookings: 4_000, range: 1_000_000_000, in_order: false, height: 3 },
+    Load { pages: 1_024, older: true, window: 0, bookings: 4_400, range: 2_000_000_000, in_order: true, height: 4 },
 ];
 
 /// All loads for each kind; the images at their fullest and as they are left.
@@ -33,8 +44,12 @@ pub fn changes(both: &mut Both) -> Vec<Vec<u8>> {
     for load in &LOADS {
         for kind in 1..=3 {
             both.lend(&formatted(load.pages, kind, load.window));
+            if load.older {
+                both.set(CAPACITY_AT, &[0xFF; 4]);
+            }
             images.push(both.image().to_vec());
             let booked = enter(both, load);
+            assert_eq!(both.image()[CAPACITY_AT] == 0xFF, load.older, "a change keeps the capacity");
             assert!(height(both.image()) >= load.height, "height {} of {}", height(both.image()), load.height);
             images.push(both.image().to_vec());
             if kind == 1 {

@@ -2,6 +2,7 @@
 //! does the same work, then.
 
 mod both;
+mod capacity;
 mod damage;
 mod loads;
 mod refusals;
@@ -14,6 +15,8 @@ pub fn compare() {
     let images = loads::changes(&mut both);
     loads::without_spare_pages(&mut both);
     refusals::refusals(&mut both);
+    capacity::fields(&mut both);
+    capacity::heights(&mut both);
     damage::bounds(&mut both);
     for image in &images {
         damage::bytes(&mut both, image);

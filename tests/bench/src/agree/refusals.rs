@@ -3,6 +3,7 @@
 use plain::END;
 
 use super::both::{Both, Call};
+use super::capacity::CAPACITY_AT;
 use crate::subjects::formatted;
 
 /// The head's count of changes.
@@ -12,7 +13,7 @@ pub fn refusals(both: &mut Both) {
     for kind in 1..=3 {
         for pages in [2, 3, 5] {
             let image = filled(both, pages, kind);
-            for choice in 0..128 {
+            for choice in 0..256 {
                 refused(both, &image, choice);
             }
         }
@@ -29,7 +30,7 @@ fn filled(both: &mut Both, pages: usize, kind: u32) -> Vec<u8> {
     both.image().to_vec()
 }
 
-/// All calls with some of seven reasons to be refused, a bit for each.
+/// All calls with some of eight reasons to be refused, a bit for each.
 fn refused(both: &mut Both, image: &[u8], choice: u32) {
     let has = |bit: u32| choice >> bit & 1 == 1;
     both.lend(&image[..image.len() - usize::from(has(0))]);
@@ -40,6 +41,9 @@ fn refused(both: &mut Both, image: &[u8], choice: u32) {
     }
     if has(3) {
         both.set(500, &[0]);
+    }
+    if has(7) {
+        both.set(CAPACITY_AT, &23u32.to_le_bytes());
     }
     let (s, e) = if has(4) { (5_001, 5_001) } else { (5_001, 5_003) };
     let v = if has(5) { -1_000_001 } else { 1_000_000 };
@@ -57,7 +61,7 @@ fn lengths(both: &mut Both, kind: u32) {
     let longest = formatted(1_024, kind, 0);
     let mut bytes = longest.clone();
     bytes.extend_from_slice(&longest[..1_024]);
-    for length in [0, 1, 511, 512, 513, 1_023, 1_024, 1_025, 524_287, 524_288, 524_289, 524_800] {
+    for length in [0, 1, 39, 40, 41, 511, 512, 513, 1_023, 1_024, 1_025, 524_287, 524_288, 524_289, 524_800] {
         both.lend(&bytes[..length]);
         both.ask(Call::Audit, 2_000, 0);
         both.ask(Call::Instant { t: 3 }, 0, 0);
