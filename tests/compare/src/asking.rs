@@ -2,11 +2,17 @@
 
 use crate::calls::{Answer, Call};
 use crate::comparer::Comparer;
-use crate::images::instant_of;
+use crate::images::{capacity, instant_of};
 
 impl Comparer {
+    /// With the K of the image at hand.
     pub fn format(&mut self, kind: u32, window: u32) -> Answer {
-        self.ask(Call::Format { kind, window }, 0, 0)
+        let capacity = capacity(self.image()) as u32;
+        self.ask(Call::Format { kind, window, capacity }, 0, 0)
+    }
+
+    pub fn format_of(&mut self, k: usize, kind: u32, window: u32) -> Answer {
+        self.ask(Call::Format { kind, window, capacity: k as u32 }, 0, 0)
     }
 
     pub fn instant(&mut self, t: u32) -> Answer {
@@ -23,7 +29,7 @@ impl Comparer {
 
     /// With an output that has room for every run an image of so many pages can show.
     pub fn listing(&mut self, a: u32, b: u32) -> Answer {
-        let plenty = 384 * self.pages();
+        let plenty = 16 * capacity(self.image()) * self.pages();
         self.ask(Call::Listing { a, b }, 0, plenty)
     }
 
@@ -58,7 +64,7 @@ impl Comparer {
     pub fn changes_and_back(&mut self) {
         for withdrawal in [false, true] {
             let before = self.image().to_vec();
-            let page = self.random.below(self.pages());
+            let page = self.random.below(self.pages().max(1));
             let s = match self.random.below(2) {
                 0 => self.random.below(300) as u32,
                 _ => instant_of(&before, page, &mut self.random),

@@ -5,7 +5,7 @@ use plain::{Average, RecordedChange};
 
 #[derive(Clone, Copy, PartialEq, Eq, Debug)]
 pub enum Call {
-    Format { kind: u32, window: u32 },
+    Format { kind: u32, window: u32, capacity: u32 },
     Instant { t: u32 },
     Average { t: u32 },
     AverageOf { kind: u32, sum: i64, count: i32 },
@@ -104,7 +104,7 @@ pub fn by_plain(call: Call, lent: Lent) -> (Answer, Option<RecordedChange>) {
 fn without_steps(call: Call, lent: Lent) -> Answer {
     let Lent { image, scratch, output } = lent;
     match call {
-        Call::Format { kind, window } => Answer::status(plain::format(image, kind, window)),
+        Call::Format { kind, window, capacity } => Answer::status(plain::format(image, kind, window, capacity)),
         Call::Instant { t } => {
             let plain::Instant { status, sum, count, pages } = plain::instant(image, t);
             Answer { status, pages, sum, count, ..Answer::default() }
@@ -142,7 +142,9 @@ pub fn by_library(call: Call, lent: Lent, null: bool) -> Answer {
     let (output, output_length) = parts(lent.output, null);
     unsafe {
         match call {
-            Call::Format { kind, window } => Answer::status(ffi::luw_format(image, image_length, kind, window)),
+            Call::Format { kind, window, capacity } => {
+                Answer::status(ffi::luw_format(image, image_length, kind, window, capacity))
+            }
             Call::Instant { t } => {
                 let answer = ffi::luw_instant(image, image_length, t);
                 Answer { status: answer.status, ..Answer::pair(answer.sum, answer.count, answer.pages) }

@@ -9,6 +9,7 @@ use plain::RecordedChange;
 
 use crate::calls::{by_library, by_plain, Answer, Call, Lent};
 use crate::guarded::Guarded;
+use crate::images::pages_of;
 use crate::random::Random;
 use crate::steps::Change;
 use crate::tally::Tally;
@@ -80,8 +81,9 @@ impl Comparer {
         &self.image
     }
 
+    /// The pages of the image, by the K that it names.
     pub fn pages(&self) -> usize {
-        self.image.len() / 512
+        pages_of(&self.image)
     }
 
     /// Sets bytes of the image that both have.
@@ -118,7 +120,7 @@ impl Comparer {
         if let Some(difference) = difference {
             self.end(&difference);
         }
-        self.tally.add(call, &answer);
+        self.tally.add(call, &answer, if call.writes() { &self.before } else { &self.image });
         answer
     }
 
@@ -145,7 +147,10 @@ impl Comparer {
         if call.writes() && answer.status != 0 {
             return (before != after).then(|| "image: written by a refused call".to_string());
         }
-        recorded.and_then(|recorded| self.tally.steps.add(&Change { before, after, recorded: &recorded }))
+        let recorded = recorded?;
+        let change = Change { before, after, recorded: &recorded };
+        self.tally.capacities.add_change(&change);
+        self.tally.steps.add(&change)
     }
 
     /// Tells the difference and how to see it again, keeps the image beside the program, and ends.

@@ -7,6 +7,7 @@
 
 mod asking;
 mod calls;
+mod capacities;
 mod comparer;
 mod groups;
 mod guarded;

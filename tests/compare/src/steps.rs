@@ -3,10 +3,12 @@
 
 use plain::RecordedChange;
 
-use crate::images::{head, level, u32_at, ENTRY_COUNT_AT, FREE_LENGTH, HEIGHT, HIGH_MARK, KIND};
+use crate::images::{
+    head, level, page_bytes, pages_of, u32_at, CAPACITY, ENTRY_COUNT_AT, FREE_LENGTH, HEIGHT, HIGH_MARK, KIND,
+};
 
 /// What the steps of a change do: each has to occur for every kind.
-const WHAT: [&str; 15] = [
+pub const WHAT: [&str; 15] = [
     "leaf entries cut",
     "leaf entries healed",
     "splits of leaves",
@@ -33,7 +35,7 @@ pub struct Change<'a> {
 
 impl Change<'_> {
     /// How often the change did each of [`WHAT`].
-    fn counts(&self) -> [u64; WHAT.len()] {
+    pub fn counts(&self) -> [u64; WHAT.len()] {
         let mut counts = [0; WHAT.len()];
         for step in &self.recorded.steps {
             let gives = step.gives_from_left + step.gives_from_right;
@@ -68,7 +70,8 @@ impl Change<'_> {
 
     /// The pages whose bytes differ.
     fn written(&self) -> Vec<u32> {
-        let pages = self.before.chunks(512).zip(self.after.chunks(512)).enumerate();
+        let length = page_bytes(self.before);
+        let pages = self.before.chunks(length).zip(self.after.chunks(length)).enumerate();
         pages.filter(|(_, (before, after))| before != after).map(|(page, _)| page as u32).collect()
     }
 
@@ -77,6 +80,9 @@ impl Change<'_> {
         let named = self.recorded.named_pages();
         if let Some(page) = written.iter().find(|page| !named.contains(page)) {
             return Some(format!("write set: page {page} is written, the steps name {named:?}"));
+        }
+        if head(self.before, CAPACITY) != head(self.after, CAPACITY) {
+            return Some("the field of the capacity is changed".to_string());
         }
         let recorded = self.counts().map(|count| count as i64);
         let [cut, healed, .., raised, lowered, from_chain, at_mark, given_back] = recorded;
@@ -96,7 +102,7 @@ impl Change<'_> {
 }
 
 fn leaf_entries(image: &[u8]) -> i64 {
-    let leaves = (1..image.len() / 512).filter(|page| level(image, *page) == 0);
+    let leaves = (1..pages_of(image)).filter(|page| level(image, *page) == 0);
     leaves.map(|page| i64::from(u32_at(image, page, ENTRY_COUNT_AT))).sum()
 }
 

@@ -1,9 +1,13 @@
-//! How often each call returned each status, and what changes did.
+//! How often each call returned each status, at each K, and what changes did.
 
 use crate::calls::{Answer, Call, NAMES};
+use crate::capacities::Capacities;
 use crate::steps::Steps;
 
 const STATUSES: usize = 25;
+
+/// The greatest height that a head may have.
+const MOST_PAGES_READ: usize = 10;
 
 /// A comparison of all groups does at least so many calls, and accepts at least so many changes.
 const FEWEST_CALLS: u64 = 2_000_000;
@@ -13,10 +17,11 @@ const FEWEST_CHANGES: u64 = 150_000;
 pub struct Tally {
     statuses: Vec<[u64; STATUSES]>,
     /// Tree pages read by instants that were answered, and by those refused with 21.
-    answered_pages: [u64; 5],
-    refused_pages: [u64; 5],
+    answered_pages: [u64; MOST_PAGES_READ + 1],
+    refused_pages: [u64; MOST_PAGES_READ + 1],
     /// Averages by their case: none, hundredths, beyond.
     averages: [u64; 3],
+    pub capacities: Capacities,
     /// Of the changes that were accepted.
     pub steps: Steps,
 }
@@ -25,16 +30,19 @@ impl Default for Tally {
     fn default() -> Tally {
         Tally {
             statuses: vec![[0; STATUSES]; NAMES.len()],
-            answered_pages: [0; 5],
-            refused_pages: [0; 5],
+            answered_pages: [0; MOST_PAGES_READ + 1],
+            refused_pages: [0; MOST_PAGES_READ + 1],
             averages: [0; 3],
+            capacities: Capacities::default(),
             steps: Steps::default(),
         }
     }
 }
 
 impl Tally {
-    pub fn add(&mut self, call: Call, answer: &Answer) {
+    /// Counts a call in, with the image that it found.
+    pub fn add(&mut self, call: Call, answer: &Answer, image: &[u8]) {
+        self.capacities.add_call(call, answer, image);
         self.statuses[call.place()][answer.status as usize] += 1;
         match call {
             Call::Instant { .. } if answer.status == 0 => self.answered_pages[answer.pages as usize] += 1,
@@ -51,6 +59,7 @@ impl Tally {
         add(&mut self.answered_pages, &other.answered_pages);
         add(&mut self.refused_pages, &other.refused_pages);
         add(&mut self.averages, &other.averages);
+        self.capacities.add_all(&other.capacities);
         self.steps.add_all(&other.steps);
     }
 
@@ -75,6 +84,7 @@ impl Tally {
             self.averages[0], self.averages[1], self.averages[2]
         );
         self.steps.print();
+        self.capacities.print();
     }
 
     /// What should have occurred and didn't.
@@ -83,7 +93,7 @@ impl Tally {
         for ((name, possible), statuses) in NAMES.iter().zip(&self.statuses) {
             lacking.extend(possible.iter().filter(|i| statuses[**i as usize] == 0).map(|i| format!("{name} with {i}")));
         }
-        for pages in 0..=4 {
+        for pages in 0..=MOST_PAGES_READ {
             if pages > 0 && self.answered_pages[pages] == 0 {
                 lacking.push(format!("an instant answered from {pages} pages"));
             }
@@ -96,6 +106,7 @@ impl Tally {
             cases.iter().zip(self.averages).filter(|(_, n)| *n == 0).map(|(case, _)| format!("an average {case}")),
         );
         lacking.extend(self.steps.lacking());
+        lacking.extend(self.capacities.lacking());
         if self.calls() < FEWEST_CALLS || self.steps.changes() < FEWEST_CHANGES {
             lacking.push(format!("{FEWEST_CALLS} calls and {FEWEST_CHANGES} accepted changes"));
         }
@@ -109,6 +120,6 @@ fn add<const N: usize>(mine: &mut [u64; N], theirs: &[u64; N]) {
     }
 }
 
-fn row(counts: &[u64; 5]) -> String {
+fn row(counts: &[u64; MOST_PAGES_READ + 1]) -> String {
     counts.iter().enumerate().map(|(pages, count)| format!("{pages}: {count}")).collect::<Vec<_>>().join(", ")
 }

@@ -3,11 +3,17 @@
 //! "The order is 16, 17, 11 or 12, 13, 14, 21, 22, 23, 24, and 15 last." "An accepted call returns 0, with its answer if
 //! it has one. A refusal returns its number and zeros (instant: the pages read too). Image and output keep their bytes;
 //! scratch is untouched at 16 and 17, also at 11 and 13, else its n bytes are 0."
+//!
+//! Document 02, (xi), puts a 14 and a 21 ahead of that: "An odd K or one outside its range gives 14 at format, ahead of 16. In
+//! an image K is read before the length is judged: under 40 bytes gives 16, a bad K 21 ahead of 16, scratch untouched".
 
 use std::collections::BTreeSet;
 
+use crate::capacity::Capacity;
 use crate::fit::{child_place, fit_head, fit_page, root_place, Place};
-use crate::page::{number_of_pages, read_head, write_head, write_page, Entry, Head, Page, UNUSED};
+use crate::page::{
+    number_of_pages, read_capacity, read_head, write_head, write_page, Entry, Head, Page, HEAD_BYTES, UNUSED,
+};
 use crate::sound::is_sound;
 use crate::steps::{five_steps, Effect, StepRecord};
 use crate::value::{
@@ -22,15 +28,15 @@ pub const BAD_SPAN: u32 = 11;
 pub const BAD_INSTANT: u32 = 12;
 /// "value outside its range"
 pub const BAD_VALUE: u32 = 13;
-/// "kind or window outside its range"
-pub const BAD_KIND_OR_WINDOW: u32 = 14;
+/// "kind or window outside its range"; by document 02 also "An odd K or one outside its range"
+pub const FORMAT_RANGE: u32 = 14;
 /// "output shorter than the runs"
 pub const SHORT_OUTPUT: u32 = 15;
-/// "image length not 512 × n for an n in range"
+/// "image length not 512 × n for an n in range", 512 being the bytes of a page of the K at hand
 pub const BAD_LENGTH: u32 = 16;
 /// "scratch shorter than n bytes"
 pub const SHORT_SCRATCH: u32 = 17;
-/// "instant, listing: a page it meets is unfit; audit, change: image not sound"
+/// "instant, listing: a page it meets is unfit; audit, change: image not sound"; by document 02 also "a bad K"
 pub const UNFIT: u32 = 21;
 /// "withdrawal, kind 2 or 3"
 pub const NO_WITHDRAWAL: u32 = 22;
@@ -41,17 +47,41 @@ pub const PAGES_LACK: u32 = 24;
 
 // ---------------------------------------------------------------- format
 
-/// "Format leaves height 1, changes 0, high mark 2, no chain and root 1, a leaf with entry 0, (0, 0)."
-pub fn format(image: &mut [u8], kind: u32, window: u32) -> u32 {
-    let Some(n) = number_of_pages(image) else { return BAD_LENGTH };
+/// "Format leaves height 1, changes 0, high mark 2, no chain and root 1, a leaf with entry 0, (0, 0)." Document 02, (xi): "An
+/// odd K or one outside its range gives 14 at format, ahead of 16." The length is judged by the K that is asked for, never by
+/// the bytes that are there; 14 for kind and window comes behind, in document 01's order. The field is written, also for 24.
+pub fn format(image: &mut [u8], kind: u32, window: u32, capacity: u32) -> u32 {
+    let Some(capacity) = Capacity::new(capacity) else { return FORMAT_RANGE };
+    let Some(n) = number_of_pages(image.len(), capacity) else { return BAD_LENGTH };
     if !kind_in_range(kind) || !window_in_range(window) {
-        return BAD_KIND_OR_WINDOW;
+        return FORMAT_RANGE;
     }
-    image.fill(UNUSED);
-    let head = Head { n, height: 1, root: 1, first_free: 0, free_length: 0, high_mark: 2, kind, window, changes: 0 };
-    write_head(image, &head);
-    write_page(image, 1, &Page { level: 0, entries: vec![Entry { start: 0, pair: NOTHING, child: 0 }] });
+    lay_fresh(image, n, kind, window, capacity.number());
     ACCEPTED
+}
+
+/// What a format leaves, with a field that names the K by which the image has n pages.
+pub(crate) fn lay_fresh(image: &mut [u8], n: u32, kind: u32, window: u32, capacity_field: u32) {
+    image.fill(UNUSED);
+    let (root, high_mark) = (1, 2);
+    let (first_free, free_length) = (0, 0);
+    let (height, changes) = (1, 0);
+    let head = Head { n, height, root, first_free, free_length, high_mark, kind, window, changes, capacity_field };
+    write_head(image, &head);
+    let leaf = Page { level: 0, entries: vec![Entry { start: 0, pair: NOTHING, child: 0 }] };
+    write_page(image, head.capacity(), 1, &leaf);
+}
+
+// ---------------------------------------------------------------- judging an image
+
+/// n, or the number that turns the image back ahead of everything else. Document 02, (xi): "In an image K is read before the
+/// length is judged: under 40 bytes gives 16, a bad K 21 ahead of 16, scratch untouched".
+pub fn judge(image: &[u8]) -> Result<u32, u32> {
+    if image.len() < HEAD_BYTES {
+        return Err(BAD_LENGTH);
+    }
+    let capacity = read_capacity(image).ok_or(UNFIT)?;
+    number_of_pages(image.len(), capacity).ok_or(BAD_LENGTH)
 }
 
 // ---------------------------------------------------------------- changes
@@ -98,10 +128,13 @@ pub fn withdraw_recorded(image: &mut [u8], scratch: &mut [u8], v: i64, s: u32, e
     change(image, scratch, Change::Withdraw, v, s, e)
 }
 
-/// 16, 17, 11 and 13 leave the scratch untouched; then, whatever comes, "those n bytes are 0 afterwards, any beyond keep
+/// The judging, 17, 11 and 13 leave the scratch untouched; then, whatever comes, "those n bytes are 0 afterwards, any beyond keep
 /// theirs".
 fn change(image: &mut [u8], scratch: &mut [u8], which: Change, v: i64, s: u32, e: u32) -> RecordedChange {
-    let Some(n) = number_of_pages(image) else { return RecordedChange::refused(BAD_LENGTH) };
+    let n = match judge(image) {
+        Ok(n) => n,
+        Err(status) => return RecordedChange::refused(status),
+    };
     if scratch.len() < n as usize {
         return RecordedChange::refused(SHORT_SCRATCH);
     }
@@ -165,8 +198,8 @@ impl Instant {
 /// "An instant's answer combines the pairs on its way from root to leaf. It reports the tree pages read: the height if
 /// answered, or if a page is unfit, the pages up to and including it (0 for the head and at other refusals)."
 pub fn instant(image: &[u8], t: u32) -> Instant {
-    if number_of_pages(image).is_none() {
-        return Instant::refused(BAD_LENGTH, 0);
+    if let Err(status) = judge(image) {
+        return Instant::refused(status, 0);
     }
     if t == END {
         return Instant::refused(BAD_INSTANT, 0);
@@ -224,8 +257,8 @@ pub const RUN_BYTES: usize = 16;
 /// "Runs over [a, b), the first starting at a: joined as long as the pair is equal [...] Bytes past the last run keep
 /// what they held. The answer is the number of runs."
 pub fn listing(image: &[u8], a: u32, b: u32, out: &mut [u8]) -> Listing {
-    if number_of_pages(image).is_none() {
-        return Listing { status: BAD_LENGTH, runs: 0 };
+    if let Err(status) = judge(image) {
+        return Listing { status, runs: 0 };
     }
     if a >= b {
         return Listing { status: BAD_SPAN, runs: 0 };
@@ -288,7 +321,10 @@ fn join_or_open_run(runs: &mut Vec<Run>, next: Run) {
 
 /// "Audit and changes borrow a scratch of n bytes; those n bytes are 0 afterwards, any beyond keep theirs."
 pub fn audit(image: &[u8], scratch: &mut [u8]) -> u32 {
-    let Some(n) = number_of_pages(image) else { return BAD_LENGTH };
+    let n = match judge(image) {
+        Ok(n) => n,
+        Err(status) => return status,
+    };
     if scratch.len() < n as usize {
         return SHORT_SCRATCH;
     }

@@ -1,27 +1,33 @@
-//! Document 01, "The page": which head is fit, and which page is fit at its place.
+//! Document 01, "The page", over document 02's capacity: which head is fit, and which page is fit at its place.
 
+use crate::capacity::Capacity;
 use crate::page::{
-    head_rest_is_unused, number_of_pages, page_rest_is_unused, read_head, read_page, Entry, Head, Page, FEWEST_ENTRIES,
-    MOST_ENTRIES,
+    head_rest_is_unused, number_of_pages, page_rest_is_unused, read_capacity, read_head, read_page, Entry, Head, Page,
 };
 use crate::value::{
     kind_in_range, value_in_range, window_in_range, Span, END, GREATEST_VALUE, MOST_CHANGES, NOTHING, TOTALS,
 };
 
+/// "the head's range becomes 1 to 10 at every K"
+pub const GREATEST_HEIGHT: u32 = 10;
+
 /// "The head is fit if n matches the length, changes ≤ 1,000,000,000, the root lies in 1 to n−1, the chain's first page
 /// is 0 or there, the other fields keep the ranges named, and its rest is FF." The free chain length has no range (R1).
+/// Document 02, (xi), of the height: "the head's range becomes 1 to 10 at every K". K is good, since the length is judged
+/// by it.
 pub fn fit_head(image: &[u8]) -> Option<Head> {
+    let capacity = read_capacity(image)?;
+    let n = number_of_pages(image.len(), capacity)?;
     let head = read_head(image);
-    let n = number_of_pages(image)?;
     let fit = head.n == n
-        && (1..=4).contains(&head.height)
+        && (1..=GREATEST_HEIGHT).contains(&head.height)
         && (1..n).contains(&head.root)
         && (head.first_free == 0 || (1..n).contains(&head.first_free))
         && (2..=n).contains(&head.high_mark)
         && kind_in_range(head.kind)
         && window_in_range(head.window)
         && head.changes <= MOST_CHANGES
-        && head_rest_is_unused(image);
+        && head_rest_is_unused(image, capacity);
     fit.then_some(head)
 }
 
@@ -74,23 +80,24 @@ fn absolute_count(entry: &Entry) -> i128 {
 
 /// The page at a place if it is "fit at its place", else none. A page is fit as a whole: every entry counts (R4).
 pub fn fit_page(image: &[u8], head: &Head, place: &Place) -> Option<Page> {
-    let page = read_page(image, place.page)?;
+    let capacity = head.capacity();
+    let page = read_page(image, capacity, place.page)?;
     let fit = page.level == place.level
-        && number_of_entries_is_fit(place, &page)
+        && number_of_entries_is_fit(capacity, place, &page)
         && starts_are_fit(place, &page)
-        && page_rest_is_unused(image, place.page, page.entries.len())
+        && page_rest_is_unused(image, capacity, place.page, page.entries.len())
         && page.entries.iter().all(|entry| child_is_fit(head, &page, entry) && pair_is_fit(head, place, entry));
     fit.then_some(page)
 }
 
-/// "it has 12 to 24 entries (root leaf 1 to 24, inner root 2 to 24)"
-fn number_of_entries_is_fit(place: &Place, page: &Page) -> bool {
+/// "it has 12 to 24 entries (root leaf 1 to 24, inner root 2 to 24)": K/2 to K by document 02's "Half is K/2".
+fn number_of_entries_is_fit(capacity: Capacity, place: &Place, page: &Page) -> bool {
     let fewest = match (place.is_root, page.is_leaf()) {
         (true, true) => 1,
         (true, false) => 2,
-        (false, _) => FEWEST_ENTRIES,
+        (false, _) => capacity.half(),
     };
-    (fewest..=MOST_ENTRIES).contains(&page.entries.len())
+    (fewest..=capacity.most_entries()).contains(&page.entries.len())
 }
 
 /// "starts rise strictly, the first is the parent entry's start (root: 0), the last lies below that entry's end (root:

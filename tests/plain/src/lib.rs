@@ -1,15 +1,17 @@
-//! The plain version of document 01, the Lent-Block Time Index.
+//! The plain version of document 01, the Lent-Block Time Index, with request (xi) of document 02, pages of any capacity.
 //!
-//! Written from the paper alone and plain before fast: this is what the proved library is compared with, byte for byte.
-//! Each function carries the sentence of document 01 that it follows, in quotation marks. `R1` to `R27` are the
+//! Written from the papers alone and plain before fast: this is what the proved library is compared with, byte for byte.
+//! Each function carries the sentence of document 01 or 02 that it follows, in quotation marks. `R1` to `R27` are the
 //! readings that docs/DECISIONS.md lists.
 //!
 //! - [`value`]: instants, spans, pairs, kinds, the average ("Time and value")
+//! - [`capacity`]: K, the capacity of a page (document 02)
 //! - [`page`]: the bytes of the head, of tree pages and of free pages ("The page")
 //! - [`fit`]: which pages are fit at their place
 //! - [`sound`]: which images are sound, by the definition and by counting
 //! - [`steps`]: the five steps of a change, and the pages that they name
 //! - [`calls`]: the public calls, with every refusal in its order
+//! - [`making`]: images that no call leaves, for tests: document 01's own fresh image, and trees of a chosen height
 //! - [`book`]: the plain book of demand 3
 //! - [`program`]: the program on lines of text
 
@@ -17,7 +19,9 @@
 
 pub mod book;
 pub mod calls;
+pub mod capacity;
 pub mod fit;
+pub mod making;
 pub mod page;
 pub mod program;
 pub mod sound;
@@ -29,5 +33,6 @@ pub use calls::{
     audit, average, enter, enter_recorded, format, instant, listing, withdraw, withdraw_recorded, Instant, Listing,
     RecordedChange,
 };
+pub use capacity::Capacity;
 pub use program::run;
 pub use value::{average_of, Average, Pair, END};

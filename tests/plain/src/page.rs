@@ -1,32 +1,37 @@
-//! Document 01, "The page": the bytes of the head, of tree pages and of free pages.
+//! Document 01, "The page", over document 02's capacity: the bytes of the head, of tree pages and of free pages.
 //!
-//! "Numbers are little-endian. The image is n pages of 512 bytes, n from 2 to 1,024. Unused bytes are FF (hexadecimal)."
+//! "Numbers are little-endian. The image is n pages of 512 bytes, n from 2 to 1,024. Unused bytes are FF (hexadecimal)." By
+//! document 02 "a page has 32 + 20 × K bytes and each array K places": 512 where K is 24.
 
+use crate::capacity::Capacity;
 use crate::value::{Pair, Span};
 
-pub const PAGE_BYTES: usize = 512;
 pub const FEWEST_PAGES: usize = 2;
 pub const MOST_PAGES: usize = 1_024;
 pub const UNUSED: u8 = 0xFF;
-
-/// "two parallel arrays of 24"
-pub const MOST_ENTRIES: usize = 24;
-/// "it has 12 to 24 entries"
-pub const FEWEST_ENTRIES: usize = 12;
+/// The bytes of a page of the greatest K.
+const LONGEST_PAGE: usize = 512;
 
 /// "Tree page: level (u32, leaf 0), number of entries (u32), 24 bytes FF; then two parallel arrays of 24: starts (u32),
-/// and entries of 16 bytes: sum (i64), count (i32), child page (u32, 0 in a leaf)."
+/// and entries of 16 bytes: sum (i64), count (i32), child page (u32, 0 in a leaf)." The 24 bytes stay 24; of the arrays
+/// document 02 says "each array K places".
 const LEVEL_AT: usize = 0;
 const ENTRY_COUNT_AT: usize = 4;
 const GAP_AT: usize = 8;
 const STARTS_AT: usize = 32;
-const ENTRIES_AT: usize = 128;
 const START_BYTES: usize = 4;
 const ENTRY_BYTES: usize = 16;
 
+/// The second array begins behind the K places of the first.
+fn entries_at(capacity: Capacity) -> usize {
+    STARTS_AT + START_BYTES * capacity.most_entries()
+}
+
 /// "Page 0, the head, u32 each: n, height (1 to 4), root page, first free page (0 none), free chain length, high mark
-/// (lowest page never used, 2 to n), kind, window, changes. Rest FF."
-const HEAD_BYTES: usize = 36;
+/// (lowest page never used, 2 to n), kind, window, changes. Rest FF." And document 02: K is "stored in the head after
+/// changes", so that the rest begins at byte 40.
+pub const HEAD_BYTES: usize = 40;
+const CAPACITY_AT: usize = 36;
 
 /// "Free page: level field 255, next free page (0 ends the chain), rest FF." The u32 255 (R19).
 const FREE_LEVEL: u32 = 255;
@@ -52,29 +57,37 @@ fn put(bytes: &mut [u8], at: usize, number: &[u8]) {
 
 /// Whether these bytes of a page are all FF.
 pub fn all_unused(bytes: &[u8]) -> bool {
-    *bytes == [UNUSED; PAGE_BYTES][..bytes.len()]
+    *bytes == [UNUSED; LONGEST_PAGE][..bytes.len()]
 }
 
 // ---------------------------------------------------------------- pages in the image
 
-/// n, or none where the "image length [is] not 512 × n for an n in range".
-pub fn number_of_pages(image: &[u8]) -> Option<u32> {
-    let n = image.len() / PAGE_BYTES;
-    if image.len() == PAGE_BYTES * n && (FEWEST_PAGES..=MOST_PAGES).contains(&n) {
+/// The K that the image's head names; none where the image has no such field or a bad one.
+pub fn read_capacity(image: &[u8]) -> Option<Capacity> {
+    if image.len() < HEAD_BYTES {
+        return None;
+    }
+    Capacity::named_by(get_u32(image, CAPACITY_AT))
+}
+
+/// n, or none where the "image length [is] not 512 × n for an n in range", 512 being the bytes of a page of this K.
+pub fn number_of_pages(length: usize, capacity: Capacity) -> Option<u32> {
+    let n = length / capacity.page_bytes();
+    if length == capacity.page_bytes() * n && (FEWEST_PAGES..=MOST_PAGES).contains(&n) {
         Some(n as u32)
     } else {
         None
     }
 }
 
-pub fn page_bytes(image: &[u8], page: u32) -> &[u8] {
-    let at = page as usize * PAGE_BYTES;
-    &image[at..at + PAGE_BYTES]
+pub fn page_bytes(image: &[u8], capacity: Capacity, page: u32) -> &[u8] {
+    let at = page as usize * capacity.page_bytes();
+    &image[at..at + capacity.page_bytes()]
 }
 
-fn page_bytes_mut(image: &mut [u8], page: u32) -> &mut [u8] {
-    let at = page as usize * PAGE_BYTES;
-    &mut image[at..at + PAGE_BYTES]
+fn page_bytes_mut(image: &mut [u8], capacity: Capacity, page: u32) -> &mut [u8] {
+    let at = page as usize * capacity.page_bytes();
+    &mut image[at..at + capacity.page_bytes()]
 }
 
 // ---------------------------------------------------------------- the head
@@ -82,7 +95,7 @@ fn page_bytes_mut(image: &mut [u8], page: u32) -> &mut [u8] {
 #[derive(Clone, Copy, PartialEq, Eq, Debug)]
 pub struct Head {
     pub n: u32,
-    /// "height (1 to 4)"
+    /// "height (1 to 4)"; by document 02 "the head's range becomes 1 to 10 at every K"
     pub height: u32,
     pub root: u32,
     /// "first free page (0 none)"
@@ -93,25 +106,34 @@ pub struct Head {
     pub kind: u32,
     pub window: u32,
     pub changes: u32,
+    /// The field as it stands, not the K that it names: "a change keeps the field's bytes".
+    pub capacity_field: u32,
+}
+
+impl Head {
+    /// The K that the field names.
+    pub fn capacity(&self) -> Capacity {
+        Capacity::named_by(self.capacity_field).expect("a bad K is turned back before the head is read")
+    }
 }
 
 pub fn read_head(image: &[u8]) -> Head {
-    let bytes = page_bytes(image, 0);
     Head {
-        n: get_u32(bytes, 0),
-        height: get_u32(bytes, 4),
-        root: get_u32(bytes, 8),
-        first_free: get_u32(bytes, 12),
-        free_length: get_u32(bytes, 16),
-        high_mark: get_u32(bytes, 20),
-        kind: get_u32(bytes, 24),
-        window: get_u32(bytes, 28),
-        changes: get_u32(bytes, 32),
+        n: get_u32(image, 0),
+        height: get_u32(image, 4),
+        root: get_u32(image, 8),
+        first_free: get_u32(image, 12),
+        free_length: get_u32(image, 16),
+        high_mark: get_u32(image, 20),
+        kind: get_u32(image, 24),
+        window: get_u32(image, 28),
+        changes: get_u32(image, 32),
+        capacity_field: get_u32(image, CAPACITY_AT),
     }
 }
 
 pub fn write_head(image: &mut [u8], head: &Head) {
-    let bytes = page_bytes_mut(image, 0);
+    let bytes = page_bytes_mut(image, head.capacity(), 0);
     bytes.fill(UNUSED);
     put(bytes, 0, &head.n.to_le_bytes());
     put(bytes, 4, &head.height.to_le_bytes());
@@ -122,11 +144,12 @@ pub fn write_head(image: &mut [u8], head: &Head) {
     put(bytes, 24, &head.kind.to_le_bytes());
     put(bytes, 28, &head.window.to_le_bytes());
     put(bytes, 32, &head.changes.to_le_bytes());
+    put(bytes, CAPACITY_AT, &head.capacity_field.to_le_bytes());
 }
 
 /// "its rest is FF"
-pub fn head_rest_is_unused(image: &[u8]) -> bool {
-    all_unused(&page_bytes(image, 0)[HEAD_BYTES..])
+pub fn head_rest_is_unused(image: &[u8], capacity: Capacity) -> bool {
+    all_unused(&page_bytes(image, capacity, 0)[HEAD_BYTES..])
 }
 
 // ---------------------------------------------------------------- tree pages
@@ -169,20 +192,20 @@ impl Page {
     }
 }
 
-/// The level and the entries of a page, or none where its number of entries is above 24: "Trusting a page's number of
-/// entries before comparing it with 24" is a fault we have seen made.
-pub fn read_page(image: &[u8], page: u32) -> Option<Page> {
-    let bytes = page_bytes(image, page);
+/// The level and the entries of a page, or none where its number of entries is above K: "Trusting a page's number of
+/// entries before comparing it with 24" is a fault we have seen made, and a number from K + 1 to 24 is its new form.
+pub fn read_page(image: &[u8], capacity: Capacity, page: u32) -> Option<Page> {
+    let bytes = page_bytes(image, capacity, page);
     let entry_count = get_u32(bytes, ENTRY_COUNT_AT);
-    if entry_count > MOST_ENTRIES as u32 {
+    if entry_count > capacity.number() {
         return None;
     }
-    let entries = (0..entry_count as usize).map(|i| read_entry(bytes, i)).collect();
+    let entries = (0..entry_count as usize).map(|i| read_entry(bytes, capacity, i)).collect();
     Some(Page { level: get_u32(bytes, LEVEL_AT), entries })
 }
 
-fn read_entry(bytes: &[u8], i: usize) -> Entry {
-    let at = ENTRIES_AT + i * ENTRY_BYTES;
+fn read_entry(bytes: &[u8], capacity: Capacity, i: usize) -> Entry {
+    let at = entries_at(capacity) + i * ENTRY_BYTES;
     Entry {
         start: get_u32(bytes, STARTS_AT + i * START_BYTES),
         pair: Pair { sum: get_i64(bytes, at), count: get_i32(bytes, at + 8) },
@@ -190,14 +213,14 @@ fn read_entry(bytes: &[u8], i: usize) -> Entry {
     }
 }
 
-pub fn write_page(image: &mut [u8], page: u32, contents: &Page) {
-    assert!(contents.entries.len() <= MOST_ENTRIES, "a page is split before it is written");
-    let bytes = page_bytes_mut(image, page);
+pub fn write_page(image: &mut [u8], capacity: Capacity, page: u32, contents: &Page) {
+    assert!(contents.entries.len() <= capacity.most_entries(), "a page is split before it is written");
+    let bytes = page_bytes_mut(image, capacity, page);
     bytes.fill(UNUSED);
     put(bytes, LEVEL_AT, &contents.level.to_le_bytes());
     put(bytes, ENTRY_COUNT_AT, &(contents.entries.len() as u32).to_le_bytes());
     for (i, entry) in contents.entries.iter().enumerate() {
-        let at = ENTRIES_AT + i * ENTRY_BYTES;
+        let at = entries_at(capacity) + i * ENTRY_BYTES;
         put(bytes, STARTS_AT + i * START_BYTES, &entry.start.to_le_bytes());
         put(bytes, at, &entry.pair.sum.to_le_bytes());
         put(bytes, at + 8, &entry.pair.count.to_le_bytes());
@@ -206,18 +229,18 @@ pub fn write_page(image: &mut [u8], page: u32, contents: &Page) {
 }
 
 /// "24 bytes FF"; "Places past the number are FF."
-pub fn page_rest_is_unused(image: &[u8], page: u32, entry_count: usize) -> bool {
-    let bytes = page_bytes(image, page);
+pub fn page_rest_is_unused(image: &[u8], capacity: Capacity, page: u32, entry_count: usize) -> bool {
+    let bytes = page_bytes(image, capacity, page);
     all_unused(&bytes[GAP_AT..STARTS_AT])
-        && all_unused(&bytes[STARTS_AT + entry_count * START_BYTES..ENTRIES_AT])
-        && all_unused(&bytes[ENTRIES_AT + entry_count * ENTRY_BYTES..])
+        && all_unused(&bytes[STARTS_AT + entry_count * START_BYTES..entries_at(capacity)])
+        && all_unused(&bytes[entries_at(capacity) + entry_count * ENTRY_BYTES..])
 }
 
 // ---------------------------------------------------------------- free pages
 
 /// The next free page if this page reads as a free one: "level field 255, next free page (0 ends the chain), rest FF".
-pub fn read_free_page(image: &[u8], page: u32) -> Option<u32> {
-    let bytes = page_bytes(image, page);
+pub fn read_free_page(image: &[u8], capacity: Capacity, page: u32) -> Option<u32> {
+    let bytes = page_bytes(image, capacity, page);
     if get_u32(bytes, LEVEL_AT) == FREE_LEVEL && all_unused(&bytes[FREE_BYTES..]) {
         Some(get_u32(bytes, 4))
     } else {
@@ -225,8 +248,8 @@ pub fn read_free_page(image: &[u8], page: u32) -> Option<u32> {
     }
 }
 
-pub fn write_free_page(image: &mut [u8], page: u32, next: u32) {
-    let bytes = page_bytes_mut(image, page);
+pub fn write_free_page(image: &mut [u8], capacity: Capacity, page: u32, next: u32) {
+    let bytes = page_bytes_mut(image, capacity, page);
     bytes.fill(UNUSED);
     put(bytes, LEVEL_AT, &FREE_LEVEL.to_le_bytes());
     put(bytes, 4, &next.to_le_bytes());

@@ -4,9 +4,11 @@
 //! `line K refused N` for a refused line K (from 1), `line K unread` for any other form (fields one space apart, 1 to 10
 //! digits, s and e at most END, v may have a minus; the last newline may be missing), then `runs` with their number, and
 //! each run as start, end, sum, count, average (two decimals, a minus if below zero, zero without one, `-` for none)."
+//!
+//! Document 02, (xi): "The program and document 01's cases keep K = 24."
 
 use crate::calls::{enter, format, listing, withdraw, ACCEPTED, RUN_BYTES};
-use crate::page::PAGE_BYTES;
+use crate::capacity::OF_DOCUMENT_01;
 use crate::value::{average_of, Average, END, TOTALS};
 
 const PAGES: usize = 64;
@@ -17,8 +19,8 @@ const MOST_RUNS: usize = 1_416;
 
 /// What the program prints for a text.
 pub fn run(text: &[u8]) -> Vec<u8> {
-    let mut image = vec![0; PAGES * PAGE_BYTES];
-    format(&mut image, TOTALS, WINDOW);
+    let mut image = vec![0; PAGES * OF_DOCUMENT_01.page_bytes()];
+    format(&mut image, TOTALS, WINDOW, OF_DOCUMENT_01.number());
     let mut printed = String::new();
     for (i, line) in lines_of(text).iter().enumerate() {
         printed.push_str(&answer_to_line(&mut image, i + 1, line));

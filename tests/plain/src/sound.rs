@@ -16,7 +16,7 @@ struct Occurrences {
     in_chain: Vec<u32>,
 }
 
-/// Whether the image is sound. Its length must be 512 × n for an n in range.
+/// Whether the image is sound. One with a bad K, or of a length that its K doesn't allow, isn't.
 pub fn is_sound(image: &[u8]) -> bool {
     let Some(head) = fit_head(image) else { return false };
     let n = head.n as usize;
@@ -55,7 +55,7 @@ fn audit_chain(image: &[u8], head: &Head, met: &mut Occurrences) -> bool {
         if met.in_chain[page as usize] > 1 {
             return false;
         }
-        let Some(next) = read_free_page(image, page) else { return false };
+        let Some(next) = read_free_page(image, head.capacity(), page) else { return false };
         length += 1;
         page = next;
     }
@@ -69,7 +69,7 @@ fn each_page_once(head: &Head, met: &Occurrences) -> bool {
 
 /// "From the high mark on, pages are all FF."
 fn never_used_pages_are_unused(image: &[u8], head: &Head) -> bool {
-    (head.high_mark..head.n).all(|page| all_unused(page_bytes(image, page)))
+    (head.high_mark..head.n).all(|page| all_unused(page_bytes(image, head.capacity(), page)))
 }
 
 // ---------------------------------------------------------------- by counting
@@ -103,7 +103,7 @@ fn chain_ends_after_its_length(image: &[u8], head: &Head) -> bool {
         if page == 0 || page >= head.n {
             return false;
         }
-        let Some(next) = read_free_page(image, page) else { return false };
+        let Some(next) = read_free_page(image, head.capacity(), page) else { return false };
         page = next;
     }
     page == 0

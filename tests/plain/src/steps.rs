@@ -1,4 +1,5 @@
-//! Document 01, "One change in five steps".
+//! Document 01, "One change in five steps", over document 02's capacity: "Half is K/2, a split keeps K/2 and moves K/2 + 1, and
+//! a neighbour gives from K/2 + 1 up."
 //!
 //! "A. Cut at s. B. Cut at e′. C. Combine the effect into [s, e′). D. Heal at s. E. Heal at e′. Then changes rises by 1."
 //!
@@ -7,10 +8,8 @@
 
 use std::collections::BTreeSet;
 
-use crate::page::{
-    read_free_page, read_head, read_page, write_free_page, write_head, write_page, Entry, Head, Page, FEWEST_ENTRIES,
-    MOST_ENTRIES,
-};
+use crate::capacity::Capacity;
+use crate::page::{read_free_page, read_head, read_page, write_free_page, write_head, write_page, Entry, Head, Page};
 use crate::value::{combine, Pair, Span, END, NOTHING};
 
 /// What a change brings: its pair, into its span [s, e′).
@@ -86,7 +85,8 @@ pub fn five_steps(image: &mut [u8], effect: &Effect) -> Result<Vec<StepRecord>, 
     Ok(steps)
 }
 
-/// "Then changes rises by 1."
+/// "Then changes rises by 1." And document 02, (xi): "a change keeps the field's bytes", K's: every write of the head puts
+/// back the field that was read.
 pub fn count_the_change(image: &mut [u8]) {
     let mut head = read_head(image);
     head.changes += 1;
@@ -95,7 +95,7 @@ pub fn count_the_change(image: &mut [u8]) {
 
 /// One of the five steps; its ways are taken in the image as the step before it left it (R11).
 pub fn one_step(image: &mut [u8], step: Step, effect: &Effect) -> Result<StepRecord, PagesLack> {
-    let kind = read_head(image).kind;
+    let head = read_head(image);
     let Span { start, end } = effect.span;
     let ways = match step {
         Step::CutAtStart | Step::HealAtStart => vec![way_to(image, start)],
@@ -103,7 +103,7 @@ pub fn one_step(image: &mut [u8], step: Step, effect: &Effect) -> Result<StepRec
         Step::Combine => vec![way_to(image, start), way_to(image, end)],
     };
     let record = StepRecord { ways, ..StepRecord::default() };
-    let mut work = Work { image, kind, record };
+    let mut work = Work { image, capacity: head.capacity(), kind: head.kind, record };
     match step {
         Step::CutAtStart => work.cut(start)?,
         Step::CutAtEnd => work.cut(end)?,
@@ -120,9 +120,10 @@ pub fn way_to(image: &[u8], t: u32) -> Vec<u32> {
     if t == END {
         return Vec::new();
     }
-    let mut way = vec![read_head(image).root];
+    let head = read_head(image);
+    let mut way = vec![head.root];
     loop {
-        let page = tree_page(image, way[way.len() - 1]);
+        let page = tree_page(image, head.capacity(), way[way.len() - 1]);
         if page.is_leaf() {
             return way;
         }
@@ -130,13 +131,14 @@ pub fn way_to(image: &[u8], t: u32) -> Vec<u32> {
     }
 }
 
-fn tree_page(image: &[u8], page: u32) -> Page {
-    read_page(image, page).expect("a tree page of a sound image has at most 24 entries")
+fn tree_page(image: &[u8], capacity: Capacity, page: u32) -> Page {
+    read_page(image, capacity, page).expect("a tree page of a sound image has at most K entries")
 }
 
 /// The image that a step works on, with the record of the step.
 struct Work<'a> {
     image: &'a mut [u8],
+    capacity: Capacity,
     kind: u32,
     record: StepRecord,
 }
@@ -147,11 +149,11 @@ impl Work<'_> {
     }
 
     fn page(&self, page: u32) -> Page {
-        tree_page(self.image, page)
+        tree_page(self.image, self.capacity, page)
     }
 
     fn write(&mut self, page: u32, contents: &Page) {
-        write_page(self.image, page, contents);
+        write_page(self.image, self.capacity, page, contents);
     }
 
     // ------------------------------------------------------------ the free list
@@ -162,7 +164,8 @@ impl Work<'_> {
         let page;
         if head.first_free != 0 {
             page = head.first_free;
-            head.first_free = read_free_page(self.image, page).expect("a page in the chain reads as free");
+            head.first_free =
+                read_free_page(self.image, self.capacity, page).expect("a page in the chain reads as free");
             head.free_length -= 1;
         } else if head.high_mark < head.n {
             page = head.high_mark;
@@ -178,7 +181,7 @@ impl Work<'_> {
     /// "given back to the front". The high mark never falls (R10).
     fn give_back_page(&mut self, page: u32) {
         let mut head = self.head();
-        write_free_page(self.image, page, head.first_free);
+        write_free_page(self.image, self.capacity, page, head.first_free);
         head.first_free = page;
         head.free_length += 1;
         write_head(self.image, &head);
@@ -205,18 +208,18 @@ impl Work<'_> {
         self.write_or_split(&way, leaf)
     }
 
-    /// Writes the last page of a way with new contents of up to 25 entries.
+    /// Writes the last page of a way with new contents of up to K + 1 entries.
     ///
-    /// "25 entries split: the page keeps 12, a taken page gets 13, the parent gains an entry with the same pair." That
-    /// is the pair of the parent's entry for the page that was split (R8). "Lower pages take first": by level, the new
-    /// root last (R7).
+    /// "25 entries split: the page keeps 12, a taken page gets 13, the parent gains an entry with the same pair." By
+    /// document 02 "a split keeps K/2 and moves K/2 + 1". The pair is that of the parent's entry for the page that was
+    /// split (R8). "Lower pages take first": by level, the new root last (R7).
     fn write_or_split(&mut self, way: &[u32], mut left: Page) -> Result<(), PagesLack> {
         let left_page = way[way.len() - 1];
-        if left.entries.len() <= MOST_ENTRIES {
+        if left.entries.len() <= self.capacity.most_entries() {
             self.write(left_page, &left);
             return Ok(());
         }
-        let right = Page { level: left.level, entries: left.entries.split_off(FEWEST_ENTRIES) };
+        let right = Page { level: left.level, entries: left.entries.split_off(self.capacity.half()) };
         let right_start = right.entries[0].start;
         let right_page = self.take_page()?;
         self.write(left_page, &left);
@@ -297,13 +300,13 @@ impl Work<'_> {
         let is_root = way.len() == 1;
         if is_root && !page.is_leaf() && page.entries.len() == 1 {
             self.lose_root();
-        } else if !is_root && page.entries.len() < FEWEST_ENTRIES {
+        } else if !is_root && page.entries.len() < self.capacity.half() {
             self.turn_to_sibling(way);
         }
     }
 
-    /// "A page other than the root left with 11 turns to its left neighbour under the same parent, else the right." Left
-    /// if there is one, else right (R9).
+    /// "A page other than the root left with 11 turns to its left neighbour under the same parent, else the right." K/2 − 1
+    /// by document 02's half. Left if there is one, else right (R9).
     fn turn_to_sibling(&mut self, way: &[u32]) {
         let page = way[way.len() - 1];
         let way_to_parent = &way[..way.len() - 1];
@@ -321,9 +324,10 @@ impl Work<'_> {
         self.combine_parent_pair(&mut parent.entries[at_left], &mut left);
         self.combine_parent_pair(&mut parent.entries[at_right], &mut right);
 
-        let spare = if sibling_is_left { left.entries.len() } else { right.entries.len() } > FEWEST_ENTRIES;
+        let spare = if sibling_is_left { left.entries.len() } else { right.entries.len() } > self.capacity.half();
         if spare {
-            // "A neighbour with 13 or more gives its nearest entry, and the right page's parent start follows".
+            // "A neighbour with 13 or more gives its nearest entry, and the right page's parent start follows": "a neighbour
+            // gives from K/2 + 1 up".
             if sibling_is_left {
                 let given = left.entries.remove(left.entries.len() - 1);
                 right.entries.insert(0, given);

@@ -7,12 +7,14 @@ use plain::END;
 
 use crate::calls::{Answer, Call};
 use crate::comparer::Comparer;
-use crate::images::{fresh, Pool};
+use crate::images::{bytes_of, fresh, fresh_of, Pool};
 
 pub fn buffer_lengths(comparer: &mut Comparer, pool: &Pool, _: usize) {
     for null in [false, true] {
         comparer.lend_null(null);
-        images(comparer);
+        for k in [24, 4, 14] {
+            images(comparer, k);
+        }
         scratches(comparer, pool);
         outputs(comparer, pool);
     }
@@ -20,14 +22,15 @@ pub fn buffer_lengths(comparer: &mut Comparer, pool: &Pool, _: usize) {
     above_32_bits();
 }
 
-/// Lengths around multiples of 512, those in range among them; bytes that begin like a fresh image.
-fn images(comparer: &mut Comparer) {
-    let mut lengths = vec![0, 1, 2, 511, 512, 513, 1_000];
+/// Lengths around multiples of a page, those in range among them; bytes that begin like a fresh image.
+fn images(comparer: &mut Comparer, k: usize) {
+    let page = bytes_of(k);
+    let mut lengths = vec![0, 1, 2, 39, 40, 41, page - 1, page, page + 1, 2 * page - 24];
     for n in [2, 3, 4, 5, 64, 255, 256, 257, 1_023, 1_024, 1_025, 2_048] {
-        lengths.extend([512 * n - 1, 512 * n, 512 * n + 1, 512 * n + 256]);
+        lengths.extend([page * n - 1, page * n, page * n + 1, page * n + page / 2]);
     }
     for length in lengths {
-        let mut bytes = fresh((length / 512).clamp(2, 1_024), 1, 0);
+        let mut bytes = fresh_of(k, (length / page).clamp(2, 1_024), 1, 0);
         bytes.resize(length, 0xFF);
         comparer.lend(&bytes);
         for t in [0, END] {
@@ -38,12 +41,12 @@ fn images(comparer: &mut Comparer) {
             comparer.ask(Call::Listing { a, b }, 0, 0);
             comparer.ask(Call::Listing { a, b }, 0, 16);
         }
-        for scratch in [0, 1, length / 512, length / 512 + 1] {
+        for scratch in [0, 1, length / page, length / page + 1] {
             comparer.ask(Call::Audit, scratch, 0);
         }
         changes(comparer);
-        comparer.format(1, 0);
-        comparer.format(0, 0);
+        comparer.format_of(k, 1, 0);
+        comparer.format_of(k, 0, 0);
     }
 }
 
@@ -72,7 +75,7 @@ fn scratches(comparer: &mut Comparer, pool: &Pool) {
 
 /// Every length of the output for a listing of some runs.
 fn outputs(comparer: &mut Comparer, pool: &Pool) {
-    for image in &pool.small {
+    for image in pool.small.iter().chain(&pool.other[..2]) {
         comparer.lend(image);
         for (a, b) in [(0, END), (12, 38), (7, 8)] {
             let needed = 16 * comparer.listing(a, b).runs as usize;
@@ -123,7 +126,9 @@ fn above_32_bits() {
     assert_eq!(raw::average(vast.lent(), 0).status, 16);
     assert_eq!(raw::listing(vast.lent(), 0, END, &mut [0; 16]).status, 16);
     assert_eq!(raw::audit(vast.lent(), &mut [0; 2]), 16);
-    assert_eq!(raw::format(vast.lent(), 2, 0), 16);
+    assert_eq!(raw::format(vast.lent(), 2, 0, 24), 16);
+    assert_eq!(raw::format(vast.lent(), 2, 0, 4), 16);
+    assert_eq!(raw::format(vast.lent(), 2, 0, 5), 14);
     assert_eq!(vast.lent()[..1_024], image);
     drop(vast);
 

@@ -4,8 +4,8 @@ use plain::END;
 
 use crate::comparer::Comparer;
 use crate::images::{
-    child_at, fresh, head, inner_pages, instant_of, level, put, start_at, u32_at, Pool, ENTRY_COUNT_AT, FIRST_FREE,
-    FREE_LENGTH, HEIGHT, HIGH_MARK, ROOT,
+    capacity, child_at, fresh_of, head, inner_pages, instant_of, level, page_bytes, pages_of, put, start_at, sum_at,
+    u32_at, Pool, ENTRY_COUNT_AT, FIRST_FREE, FREE_LENGTH, HEIGHT, HIGH_MARK, ROOT,
 };
 use crate::random::Random;
 
@@ -13,16 +13,23 @@ use crate::random::Random;
 
 pub fn cycles(comparer: &mut Comparer, pool: &Pool, part: usize) {
     if part == 0 {
-        for height in 1..=4 {
-            for pages in 2..=6 {
-                comparer.lend(&one_above_the_other(height, pages));
-                calls(comparer);
+        for (k, heights) in [(24, 1..=10), (4, 1..=10), (10, 4..=7)] {
+            for height in heights {
+                for pages in [2, 3, 4, 5, 6, 9, 12] {
+                    comparer.lend(&one_above_the_other(k, height, pages));
+                    calls(comparer);
+                }
             }
         }
     }
     let images: Vec<&Vec<u8>> = pool.all().filter(|image| head(image, HEIGHT) > 1).collect();
     for (i, whole) in images.iter().enumerate() {
-        let rounds = if whole.len() > 100_000 { 25 } else { 120 };
+        let rounds = match (whole.len() > 100_000, capacity(whole)) {
+            (true, 24) => 25,
+            (false, 24) => 120,
+            (true, _) => 5,
+            (false, _) => 30,
+        };
         for _ in 0..rounds {
             let mut image = whole.to_vec();
             turn_back(&mut image, &mut comparer.random);
@@ -34,21 +41,21 @@ pub fn cycles(comparer: &mut Comparer, pool: &Pool, part: usize) {
 }
 
 /// Inner pages of any level, each with all its children at the next page, the last one's at the first again.
-fn one_above_the_other(height: u32, pages: usize) -> Vec<u8> {
-    let mut image = fresh(pages, 1, 0);
+fn one_above_the_other(k: usize, height: u32, pages: usize) -> Vec<u8> {
+    let mut image = fresh_of(k, pages, 1, 0);
     put(&mut image, 0, 4 * HEIGHT, &height.to_le_bytes());
     put(&mut image, 0, 4 * HIGH_MARK, &(pages as u32).to_le_bytes());
     for page in 1..pages {
         let level = height.saturating_sub(page as u32);
         let next = if level == 0 { 0 } else { 1 + page % (pages - 1) };
         put(&mut image, page, 0, &level.to_le_bytes());
-        put(&mut image, page, ENTRY_COUNT_AT, &24u32.to_le_bytes());
-        for i in 0..24u32 {
+        put(&mut image, page, ENTRY_COUNT_AT, &(k as u32).to_le_bytes());
+        for i in 0..k {
             // The first entry of each page spans the whole page below.
-            let start = if i == 0 { 0 } else { (1 << 20 >> (4 * page)) + i };
-            put(&mut image, page, start_at(i as usize), &start.to_le_bytes());
-            put(&mut image, page, 128 + 16 * i as usize, &[0; 12]);
-            put(&mut image, page, child_at(i as usize), &(next as u32).to_le_bytes());
+            let start = if i == 0 { 0 } else { (1 << 30 >> (2 * page)) + i as u32 };
+            put(&mut image, page, start_at(i), &start.to_le_bytes());
+            put(&mut image, page, sum_at(k, i), &[0; 12]);
+            put(&mut image, page, child_at(k, i), &(next as u32).to_le_bytes());
         }
     }
     image
@@ -56,6 +63,7 @@ fn one_above_the_other(height: u32, pages: usize) -> Vec<u8> {
 
 /// Some children of an inner page become the page itself, the root, the page above, one neighbour, or any page.
 fn turn_back(image: &mut [u8], random: &mut Random) {
+    let k = capacity(image);
     let inner = inner_pages(image);
     let page = inner[random.below(inner.len())];
     let entries = u32_at(image, page, ENTRY_COUNT_AT) as usize;
@@ -64,19 +72,19 @@ fn turn_back(image: &mut [u8], random: &mut Random) {
         0 => page as u32,
         1 => head(image, ROOT),
         2 => above.unwrap_or(page) as u32,
-        3 => u32_at(image, page, child_at(random.below(entries))),
+        3 => u32_at(image, page, child_at(k, random.below(entries))),
         4 => head(image, FIRST_FREE),
-        _ => random.below(image.len() / 512) as u32,
+        _ => random.below(pages_of(image)) as u32,
     };
     let (one, all) = (random.below(entries), random.one_in(3));
     for i in (0..entries).filter(|i| all || *i == one) {
-        put(image, page, child_at(i), &to.to_le_bytes());
+        put(image, page, child_at(k, i), &to.to_le_bytes());
     }
 }
 
 /// The chain of free pages turned back to itself, into the tree, made longer and shorter.
 fn chains(comparer: &mut Comparer, whole: &[u8]) {
-    let n = (whole.len() / 512) as u32;
+    let n = pages_of(whole) as u32;
     let first = head(whole, FIRST_FREE);
     for to in [0, 1, first, head(whole, ROOT), head(whole, HIGH_MARK), n - 1, n, u32::MAX] {
         comparer.lend(whole);
@@ -84,7 +92,7 @@ fn chains(comparer: &mut Comparer, whole: &[u8]) {
         calls(comparer);
         if first != 0 && first < n {
             comparer.lend(whole);
-            comparer.set(512 * first as usize + 4, &to.to_le_bytes());
+            comparer.set(page_bytes(whole) * first as usize + 4, &to.to_le_bytes());
             calls(comparer);
         }
     }
@@ -102,7 +110,7 @@ fn calls(comparer: &mut Comparer) {
         comparer.instant(t);
     }
     for _ in 0..4 {
-        let page = comparer.random.below(comparer.pages());
+        let page = comparer.random.below(comparer.pages().max(1));
         let t = instant_of(comparer.image(), page, &mut comparer.random.clone());
         comparer.instant(t);
         comparer.average(t);
@@ -127,7 +135,7 @@ pub fn moved_pages(comparer: &mut Comparer, pool: &Pool, _: usize) {
 }
 
 fn change_links(image: &mut [u8], random: &mut Random) {
-    let n = image.len() / 512;
+    let (n, k, length) = (pages_of(image).max(1), capacity(image), page_bytes(image));
     let (page, other) = (random.below(n), random.below(n));
     match random.below(8) {
         0 => {
@@ -135,17 +143,18 @@ fn change_links(image: &mut [u8], random: &mut Random) {
             put(image, 0, 4 * field, &(random.below(n + 2) as u32).to_le_bytes());
         }
         1 => put(image, page, 4, &(other as u32).to_le_bytes()),
-        2 => put(image, page, child_at(random.below(24)), &(other as u32).to_le_bytes()),
-        3 => image.copy_within(512 * page..512 * page + 512, 512 * other),
+        2 => put(image, page, child_at(k, random.below(k)), &(other as u32).to_le_bytes()),
+        3 => image.copy_within(length * page..length * page + length, length * other),
         4 => swap_pages(image, page as u32, other as u32),
         5 => lay_free(image, page, other as u32),
-        6 => put(image, page, 0, &[0xFF; 512]),
+        6 => put(image, page, 0, &vec![0xFF; length]),
         _ => lengthen_chain(image),
     }
 }
 
 fn lay_free(image: &mut [u8], page: usize, next: u32) {
-    put(image, page, 0, &[0xFF; 512]);
+    let length = page_bytes(image);
+    image[length * page..length * page + length].fill(0xFF);
     put(image, page, 0, &255u32.to_le_bytes());
     put(image, page, 4, &next.to_le_bytes());
 }
@@ -153,7 +162,7 @@ fn lay_free(image: &mut [u8], page: usize, next: u32) {
 /// The page at the high mark goes to the chain's front: the image stays sound.
 fn lengthen_chain(image: &mut [u8]) {
     let (first, mark) = (head(image, FIRST_FREE), head(image, HIGH_MARK));
-    if (mark as usize) < image.len() / 512 {
+    if (mark as usize) < pages_of(image) {
         lay_free(image, mark as usize, first);
         put(image, 0, 4 * FIRST_FREE, &mark.to_le_bytes());
         put(image, 0, 4 * HIGH_MARK, &(mark + 1).to_le_bytes());
@@ -163,12 +172,13 @@ fn lengthen_chain(image: &mut [u8]) {
 }
 
 /// Swaps two pages and renames them in every link: a sound image stays sound.
-fn swap_pages(image: &mut [u8], one: u32, other: u32) {
+pub fn swap_pages(image: &mut [u8], one: u32, other: u32) {
     if one == 0 || other == 0 || one == other {
         return;
     }
-    for k in 0..512 {
-        image.swap(512 * one as usize + k, 512 * other as usize + k);
+    let (k, length) = (capacity(image), page_bytes(image));
+    for at in 0..length {
+        image.swap(length * one as usize + at, length * other as usize + at);
     }
     let renamed = |page: u32| match page {
         _ if page == one => other,
@@ -176,11 +186,12 @@ fn swap_pages(image: &mut [u8], one: u32, other: u32) {
         _ => page,
     };
     let mut links = vec![(0, 4 * ROOT), (0, 4 * FIRST_FREE)];
-    for page in 1..image.len() / 512 {
+    for page in 1..pages_of(image) {
         match level(image, page) {
             255 => links.push((page, 4)),
-            1..=3 => {
-                links.extend((0..u32_at(image, page, ENTRY_COUNT_AT).min(24) as usize).map(|i| (page, child_at(i))))
+            1..=9 => {
+                let entries = (u32_at(image, page, ENTRY_COUNT_AT) as usize).min(k);
+                links.extend((0..entries).map(|i| (page, child_at(k, i))))
             }
             _ => {}
         }

@@ -1,5 +1,7 @@
-//! Answers that a document tells: document 01's marks from the test rack, and 000's examples.
+//! Answers that a document tells: document 01's marks from the test rack, and 000's examples. Document 02, (xi): "document 01's
+//! cases keep K = 24".
 
+use plain::making::fresh_without_field;
 use plain::END;
 
 use crate::calls::{Answer, Call};
@@ -43,20 +45,33 @@ impl Comparer {
 pub fn marks(comparer: &mut Comparer, _: &Pool, _: usize) {
     for n in [2, 3, 64, 1_024] {
         enter_and_withdraw(comparer, n);
-        ends_of_ranges(comparer, n);
-        greatest_within_a_window(comparer, n);
+        // The same on document 01's own fresh image, which has no field for K.
+        for without in [false, true] {
+            ends_of_ranges(comparer, &fresh_or_without(n, 1, 0, without));
+            greatest_within_a_window(comparer, &fresh_or_without(n, 2, 20, without));
+        }
     }
     comparer.expect(Call::AverageOf { kind: 1, sum: -1, count: 8 }, 0, 0, Answer::hundredths(-13));
     comparer.expect(Call::AverageOf { kind: 1, sum: 5, count: -1 }, 0, 0, Answer::default());
-    twelfth_booking(comparer);
-    six_runs(comparer);
+    for without in [false, true] {
+        twelfth_booking(comparer, without);
+        six_runs(comparer, without);
+    }
+}
+
+fn fresh_or_without(n: usize, kind: u32, window: u32, without: bool) -> Vec<u8> {
+    if without {
+        fresh_without_field(n as u32, kind, window)
+    } else {
+        fresh(n, kind, window)
+    }
 }
 
 /// "Fresh: instant 0 gives (0, 0), 1 page read." "Enter 6 on [10, 40): instant 9 (0, 0); 10 and 39 (6, 1); 40 (0, 0)." "Then
 /// withdraw it: one run, one leaf entry."
 fn enter_and_withdraw(comparer: &mut Comparer, n: usize) {
     comparer.lend(&vec![0x5A; 512 * n]);
-    comparer.expect(Call::Format { kind: 1, window: 0 }, 0, 0, Answer::status(0));
+    comparer.expect(Call::Format { kind: 1, window: 0, capacity: 24 }, 0, 0, Answer::status(0));
     comparer.expect(Call::Audit, n, 0, Answer::status(0));
     comparer.expect_pair(0, 0, 0);
     comparer.expect_booked(0, 6, 10, 40);
@@ -69,8 +84,8 @@ fn enter_and_withdraw(comparer: &mut Comparer, n: usize) {
 }
 
 /// "1,000,000 passes, 1,000,001 gives 13. [5, 5) gives 11 even with a value too large. [0, END) needs no cut."
-fn ends_of_ranges(comparer: &mut Comparer, n: usize) {
-    comparer.lend(&fresh(n, 1, 0));
+fn ends_of_ranges(comparer: &mut Comparer, image: &[u8]) {
+    comparer.lend(image);
     comparer.expect_booked(0, 1_000_000, 1, 2);
     comparer.expect_booked(13, 1_000_001, 1, 2);
     comparer.expect_booked(13, -1_000_001, 1, 2);
@@ -83,8 +98,8 @@ fn ends_of_ranges(comparer: &mut Comparer, n: usize) {
 }
 
 /// "Kind 2, w = 20, enter 4 on [35, 45): 64 gives (4, 1), 65 (0, 0); withdrawing gives 22."
-fn greatest_within_a_window(comparer: &mut Comparer, n: usize) {
-    comparer.lend(&fresh(n, 2, 20));
+fn greatest_within_a_window(comparer: &mut Comparer, image: &[u8]) {
+    comparer.lend(image);
     comparer.expect_booked(0, 4, 35, 45);
     comparer.expect_runs(0, END, &[(0, 0, 0), (35, 4, 1), (65, 0, 0)]);
     comparer.expect_average(64, None);
@@ -93,9 +108,9 @@ fn greatest_within_a_window(comparer: &mut Comparer, n: usize) {
 
 /// "Value 1 on [10, 15), [20, 25) and so on: 11 leave 23 leaf entries; the twelfth takes two pages: 24 at n = 3, height 2 at
 /// n = 4."
-fn twelfth_booking(comparer: &mut Comparer) {
+fn twelfth_booking(comparer: &mut Comparer, without: bool) {
     for (n, status, pages) in [(3, 24, 1), (4, 0, 2)] {
-        let mut image = fresh(n, 1, 0);
+        let mut image = fresh_or_without(n, 1, 0, without);
         enter_in_order(&mut image, 11);
         comparer.lend(&image);
         assert_eq!(crate::images::u32_at(&image, 1, 4), 23);
@@ -108,8 +123,8 @@ fn twelfth_booking(comparer: &mut Comparer) {
 }
 
 /// The program's example.
-fn six_runs(comparer: &mut Comparer) {
-    comparer.lend(&fresh(64, 1, 0));
+fn six_runs(comparer: &mut Comparer, without: bool) {
+    comparer.lend(&fresh_or_without(64, 1, 0, without));
     for (v, s, e) in [(6, 10, 40), (3, 20, 50), (5, 20, 25)] {
         comparer.expect_booked(0, v, s, e);
     }

@@ -3,7 +3,7 @@
 use plain::END;
 
 use crate::comparer::Comparer;
-use crate::images::Pool;
+use crate::images::{bytes_of, Pool, CAPACITIES};
 
 const KINDS: [u32; 9] = [0, 1, 2, 3, 4, 255, 257, 1 << 31, u32::MAX];
 const WINDOWS: [u32; 8] = [0, 1, 20, 999_999_999, 1_000_000_000, 1_000_000_001, 1 << 31, u32::MAX];
@@ -13,17 +13,24 @@ pub fn formats(comparer: &mut Comparer, _: &Pool, part: usize) {
         let bytes = comparer.random.bytes(512 * n);
         comparer.lend(&bytes);
         let kind = 1 + (n % 3) as u32;
-        comparer.format(kind, 4);
-        comparer.format(kind, 1_000_000_000);
+        comparer.format_of(24, kind, 4);
+        comparer.format_of(24, kind, 1_000_000_000);
         comparer.audit();
         comparer.instant(END - 1);
         comparer.listings(0, END);
+        // The same number of pages at another K.
+        let k = CAPACITIES[n % CAPACITIES.len()];
+        let bytes = comparer.random.bytes(bytes_of(k) * n);
+        comparer.lend(&bytes);
+        assert_eq!(comparer.format_of(k, kind, 7).status, 0);
+        comparer.audit();
+        comparer.instant(n as u32);
     }
     if part == 0 {
         comparer.lend(&[0x11; 1_024]);
         for kind in KINDS {
             for window in WINDOWS {
-                comparer.format(kind, window);
+                comparer.format_of(24, kind, window);
                 comparer.audit();
                 comparer.average(0);
             }

@@ -6,7 +6,7 @@ use std::collections::BTreeSet;
 use plain::END;
 
 use crate::comparer::Comparer;
-use crate::images::{fresh, head, Pool, CHANGES, HEIGHT};
+use crate::images::{fresh, head, pages_of, Pool, CHANGES, HEIGHT, KIND};
 
 /// A booking: value, start and end.
 type Booking = (i64, u32, u32);
@@ -21,7 +21,13 @@ pub fn split_merge(comparer: &mut Comparer, _: &Pool, part: usize) {
     let n = SIZES[part / 3 % SIZES.len()];
     let kind = 1 + part as u32 % 3;
     let range = comparer.random.pick(&RANGES);
-    comparer.lend(&fresh(n, kind, 0));
+    alternate(comparer, &fresh(n, kind, 0), range, 2_500);
+}
+
+/// On a fresh image of any K, so many changes.
+pub fn alternate(comparer: &mut Comparer, image: &[u8], range: usize, changes: u32) {
+    let kind = head(image, KIND);
+    comparer.lend(image);
     let mut live = Vec::new();
     // Entries that no heal finds can pile up until every change is refused: hence a bound on the rounds.
     for round in 0..400 {
@@ -35,7 +41,7 @@ pub fn split_merge(comparer: &mut Comparer, _: &Pool, part: usize) {
             live.push((v, s, e));
         }
         live = taken_back(comparer, kind, round, live);
-        if head(comparer.image(), CHANGES) >= 2_500 {
+        if head(comparer.image(), CHANGES) >= changes {
             return;
         }
     }
@@ -97,7 +103,13 @@ fn order<T>(comparer: &mut Comparer, list: &mut [T]) {
 pub fn grow_shrink(comparer: &mut Comparer, _: &Pool, part: usize) {
     let kind = 1 + part as u32 % 3;
     let height = 2 + part as u32 / 3 % 3;
-    comparer.lend(&fresh(1_024, kind, 0));
+    up_and_down(comparer, &fresh(1_024, kind, 0), height);
+}
+
+/// On a fresh image of any K.
+pub fn up_and_down(comparer: &mut Comparer, image: &[u8], height: u32) {
+    let kind = head(image, KIND);
+    comparer.lend(image);
     let mut live = Vec::new();
     while head(comparer.image(), HEIGHT) < height {
         let s = 20 * (live.len() as u32 + 1);
@@ -119,7 +131,13 @@ pub fn fill_empty(comparer: &mut Comparer, _: &Pool, part: usize) {
     let kind = 1 + part as u32 % 3;
     // The largest takes some seconds: once among the first parts, of another kind each further time.
     let n = if part % 97 == 0 { 1_024 } else { FILLED[part / 3 % FILLED.len()] };
-    comparer.lend(&fresh(n, kind, 0));
+    fill_and_empty(comparer, &fresh(n, kind, 0));
+}
+
+/// On a fresh image of any K.
+pub fn fill_and_empty(comparer: &mut Comparer, image: &[u8]) {
+    let (n, kind) = (pages_of(image), head(image, KIND));
+    comparer.lend(image);
     for round in 0..if n > 64 { 1 } else { 3 } {
         let mut live = filled(comparer, kind, round, n);
         for _ in 0..3 {

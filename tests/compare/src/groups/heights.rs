@@ -1,4 +1,4 @@
-//! Sound images of heights 1 to 4: instants at starts and their neighbours, averages, listings, audits.
+//! Sound images of heights 1 to 10, at every K: instants at starts and their neighbours, averages, listings, audits.
 
 use plain::END;
 

@@ -2,19 +2,22 @@
 
 mod averages;
 mod buffer_lengths;
+mod capacity;
 mod cycles;
 mod damage;
 mod documented;
+mod every_capacity;
 mod formats;
 mod grow_shrink;
 mod heights;
+mod made;
 mod pair_bounds;
 mod random_bookings;
 mod random_bytes;
 mod refusals;
 
 use crate::comparer::Comparer;
-use crate::images::{Pool, IMAGES, SMALL};
+use crate::images::{Pool, IMAGES, OTHER, OTHER_BY_BYTES, SMALL};
 
 pub struct Group {
     pub name: &'static str,
@@ -38,20 +41,34 @@ pub const GROUPS: &[Group] = &[
     Group {
         name: "damaged_bytes",
         what: "each byte of small images set to several values",
-        parts: SMALL,
+        parts: SMALL + OTHER,
         random: false,
         run: damage::damaged_bytes,
     },
     Group {
         name: "damaged_words",
         what: "each word of small images at the ends of ranges",
-        parts: SMALL,
+        parts: SMALL + OTHER_BY_BYTES,
         random: false,
         run: damage::damaged_words,
     },
     Group {
+        name: "every_capacity",
+        what: "long lists of changes at every K and without the field",
+        parts: every_capacity::PARTS,
+        random: true,
+        run: every_capacity::every_capacity,
+    },
+    Group {
+        name: "made_heights",
+        what: "reads and changes of sound images made up to height 10",
+        parts: made::MADE_HEIGHTS,
+        random: true,
+        run: made::made_heights,
+    },
+    Group {
         name: "heights",
-        what: "sound images of heights 1 to 4, all kinds",
+        what: "sound images of heights 1 to 10, all kinds",
         parts: 2 * IMAGES,
         random: true,
         run: heights::heights,
@@ -65,8 +82,8 @@ pub const GROUPS: &[Group] = &[
     },
     Group {
         name: "damaged_fields",
-        what: "damaged pages of images of heights 3 and 4",
-        parts: 36,
+        what: "damaged pages of images of heights 3 to 10",
+        parts: damage::DAMAGED_FIELDS,
         random: true,
         run: damage::damaged_fields,
     },
@@ -120,6 +137,41 @@ pub const GROUPS: &[Group] = &[
         random: true,
         run: random_bytes::random_bytes,
     },
+    Group {
+        name: "one_ways",
+        what: "one fit way, up to height 10 at every K",
+        parts: 10,
+        random: true,
+        run: made::one_ways,
+    },
+    Group {
+        name: "bad_capacities",
+        what: "bad capacities and images of under 40 bytes, to every call",
+        parts: 1,
+        random: false,
+        run: capacity::bad_capacities,
+    },
+    Group {
+        name: "other_lengths",
+        what: "lengths that are right for another capacity",
+        parts: 1,
+        random: false,
+        run: capacity::other_lengths,
+    },
+    Group {
+        name: "entry_counts",
+        what: "numbers of entries above K and below half, of every page",
+        parts: 1,
+        random: false,
+        run: capacity::entry_counts,
+    },
+    Group {
+        name: "capacity_formats",
+        what: "format with every K, good and bad",
+        parts: 1,
+        random: false,
+        run: capacity::capacity_formats,
+    },
     Group { name: "formats", what: "every number of pages", parts: 4, random: false, run: formats::formats },
     Group {
         name: "buffer_lengths",
@@ -130,7 +182,7 @@ pub const GROUPS: &[Group] = &[
     },
     Group {
         name: "refusals",
-        what: "every set of refusals that can meet, in document 01's order",
+        what: "every set of refusals that can meet, in the documents' order",
         parts: 1,
         random: false,
         run: refusals::refusals,

@@ -3,7 +3,8 @@
 
 use crate::comparer::Comparer;
 use crate::images::{
-    child_at, count_at, head, start_at, sum_at, u32_at, Pool, CHANGES, ENTRY_COUNT_AT, HEIGHT, KIND, ROOT,
+    capacity, child_at, count_at, head, page_bytes, start_at, sum_at, u32_at, Pool, CHANGES, ENTRY_COUNT_AT, HEIGHT,
+    KIND, ROOT,
 };
 use crate::random::Random;
 
@@ -23,7 +24,7 @@ fn way(image: &[u8], t: u32) -> Vec<Step> {
         let i =
             (0..entries).rfind(|i| u32_at(image, page, start_at(*i)) <= t).expect("the first starts at t or before");
         way.push(Step { page, i, entries });
-        page = u32_at(image, page, child_at(i)) as usize;
+        page = u32_at(image, page, child_at(capacity(image), i)) as usize;
     }
     way
 }
@@ -31,7 +32,11 @@ fn way(image: &[u8], t: u32) -> Vec<Step> {
 pub fn pair_bounds(comparer: &mut Comparer, pool: &Pool, _: usize) {
     let images: Vec<&Vec<u8>> = pool.all().filter(|image| head(image, KIND) == 1).collect();
     for whole in images {
-        let rounds = if whole.len() > 100_000 { 60 } else { 250 };
+        let rounds = match (whole.len() > 100_000, capacity(whole)) {
+            (true, _) => 60,
+            (false, 24) => 250,
+            (false, _) => 120,
+        };
         for round in 0..rounds {
             comparer.lend(whole);
             let changes = comparer.random.pick(&[0, 1, 5, head(whole, CHANGES), 999_999_999, 1_000_000_000]);
@@ -52,6 +57,7 @@ pub fn pair_bounds(comparer: &mut Comparer, pool: &Pool, _: usize) {
 
 /// Sets all pairs of the pages on the way to nothing but for one entry each, mostly the way's own.
 fn lay_way(comparer: &mut Comparer, t: u32, changes: u32) {
+    let (k, length) = (capacity(comparer.image()), page_bytes(comparer.image()));
     let steps = way(comparer.image(), t);
     let over = comparer.random.pick(&[0, 0, 0, 1, -1]);
     let sums = shares(1_000_000 * i64::from(changes) + over, steps.len(), &mut comparer.random);
@@ -61,8 +67,8 @@ fn lay_way(comparer: &mut Comparer, t: u32, changes: u32) {
         let chosen = if comparer.random.one_in(6) { comparer.random.below(step.entries) } else { step.i };
         for i in 0..step.entries {
             let (sum, count) = if i == chosen { (sum, count as i32) } else { (0, 0) };
-            comparer.set(512 * step.page + sum_at(i), &sum.to_le_bytes());
-            comparer.set(512 * step.page + count_at(i), &count.to_le_bytes());
+            comparer.set(length * step.page + sum_at(k, i), &sum.to_le_bytes());
+            comparer.set(length * step.page + count_at(k, i), &count.to_le_bytes());
         }
     }
 }

@@ -3,7 +3,7 @@
 use plain::END;
 
 use crate::comparer::Comparer;
-use crate::images::{fresh, Pool};
+use crate::images::{fresh, head, pages_of, Pool, KIND, WINDOW};
 
 /// How a load draws its spans: starts are below `range`, spans at most `longest`, but for a few.
 #[derive(Clone, Copy)]
@@ -25,11 +25,17 @@ const SIZES: [usize; 20] = [2, 3, 4, 5, 6, 7, 8, 9, 11, 14, 17, 21, 25, 30, 36, 
 pub fn random_bookings(comparer: &mut Comparer, _: &Pool, part: usize) {
     let n = SIZES[part % SIZES.len()];
     let kind = 1 + (part / SIZES.len() + part) as u32 % 3;
-    let (window, times) = (comparer.random.pick(&WINDOWS), comparer.random.pick(&TIMES));
-    comparer.lend(&fresh(n, kind, window));
+    let window = comparer.random.pick(&WINDOWS);
+    load(comparer, &fresh(n, kind, window), if n > 64 { 250 } else { 500 });
+}
+
+/// On a fresh image of any K, so many changes.
+pub fn load(comparer: &mut Comparer, image: &[u8], changes: usize) {
+    let (kind, window) = (head(image, KIND), head(image, WINDOW));
+    let times = comparer.random.pick(&TIMES);
+    comparer.lend(image);
     let mut live = Vec::new();
     let mut growing = true;
-    let changes = if n > 64 { 250 } else { 500 };
     for _ in 0..changes {
         growing = growing != comparer.random.one_in(25);
         let (s, e) = change(comparer, kind, times, growing, &mut live);
@@ -108,12 +114,15 @@ fn value(comparer: &mut Comparer) -> i64 {
 
 /// Full images of the pool: some changes find pages, some don't.
 pub fn full_images(comparer: &mut Comparer, pool: &Pool, _: usize) {
-    use crate::images::{head, CHANGES};
+    use crate::images::CHANGES;
     let full = pool.tall.iter().filter(|image| image.len() < 100_000 && head(image, CHANGES) > 250);
-    for image in full {
+    // Of the other capacities those that are filled in the same way.
+    let other = pool.high.iter().filter(|image| image.len() < 100_000 && head(image, CHANGES) < 1_000);
+    for image in full.chain(other) {
         comparer.lend(image);
+        let range = 2_000 * pages_of(image);
         for _ in 0..300 {
-            let (s, long) = (comparer.random.below(130_000) as u32, 1 + comparer.random.below(130) as u32);
+            let (s, long) = (comparer.random.below(range) as u32, 1 + comparer.random.below(130) as u32);
             let withdrawal = comparer.random.one_in(2);
             let v = value(comparer);
             comparer.book(withdrawal, v, s, s + long);

@@ -1,12 +1,15 @@
 //! Every set of refusals that can meet in one call: the status is that of the first by document 01's order, worked out here.
 //!
-//! "The order is 16, 17, 11 or 12, 13, 14, 21, 22, 23, 24, and 15 last."
+//! "The order is 16, 17, 11 or 12, 13, 14, 21, 22, 23, 24, and 15 last." Document 02, (xi), puts ahead of it: "under 40 bytes gives 16,
+//! a bad K 21 ahead of 16", and at format a 14 for K "ahead of 16".
 
 use plain::END;
 
 use crate::calls::{Answer, Call};
 use crate::comparer::Comparer;
-use crate::images::{enter_in_order, fresh, Pool, KIND};
+use crate::images::{
+    capacity, enter_in_order, fresh, fresh_of, head, page_bytes, pages_of, Pool, CAPACITY, CHANGES, KIND,
+};
 
 const ORDER: [u32; 12] = [16, 17, 11, 12, 13, 14, 21, 22, 23, 24, 15, 0];
 
@@ -21,8 +24,10 @@ fn choices<const N: usize>() -> impl Iterator<Item = [bool; N]> {
 }
 
 pub fn refusals(comparer: &mut Comparer, _: &Pool, _: usize) {
-    for image in [fresh(2, 1, 0), filled(1), filled(2), filled(3)] {
-        for cut in [1, 511, 512 * (image.len() / 512 - 1), image.len()] {
+    let others = [fresh_of(4, 2, 1, 0), filled(4, 1), filled(4, 3), filled(18, 2)];
+    for image in [fresh(2, 1, 0), filled(24, 1), filled(24, 2), filled(24, 3)].into_iter().chain(others) {
+        let page = page_bytes(&image);
+        for cut in [1, page - 1, page * (pages_of(&image) - 1), image.len() - 40, image.len() - 39, image.len()] {
             formats(comparer, &image, cut);
             instants(comparer, &image, cut);
             listings(comparer, &image, cut);
@@ -32,50 +37,81 @@ pub fn refusals(comparer: &mut Comparer, _: &Pool, _: usize) {
     }
 }
 
-/// A leaf of 23 entries in three pages: the next cuts lack pages.
-fn filled(kind: u32) -> Vec<u8> {
-    let mut image = fresh(3, kind, 0);
-    enter_in_order(&mut image, 11);
+/// A leaf of K − 1 entries in three pages: the next cuts lack pages.
+fn filled(k: usize, kind: u32) -> Vec<u8> {
+    let mut image = fresh_of(k, 3, kind, 0);
+    enter_in_order(&mut image, k as u32 / 2 - 1);
     image
 }
 
-/// The image, cut short, with a damaged head, with a damaged root.
-fn lend(comparer: &mut Comparer, image: &[u8], cut: Option<usize>, bad_head: bool, bad_page: bool) {
-    let mut image = image.to_vec();
-    if bad_head {
-        image[4 * KIND] = 0;
+/// What may be wrong with an image: bytes cut off, a bad K, a damaged head, a damaged root.
+#[derive(Clone, Copy)]
+struct Wrong {
+    cut: Option<usize>,
+    capacity: bool,
+    head: bool,
+    page: bool,
+}
+
+/// Lends the image with all that is wrong with it; the number that turns it back ahead of everything else, or 0.
+fn lend(comparer: &mut Comparer, image: &[u8], wrong: Wrong) -> u32 {
+    let mut bytes = image.to_vec();
+    if wrong.capacity {
+        bytes[4 * CAPACITY] += 1;
     }
-    if bad_page {
-        image[512 + 4] = 25;
+    if wrong.head {
+        bytes[4 * KIND] = 0;
     }
-    image.truncate(image.len() - cut.unwrap_or(0));
-    comparer.lend(&image);
+    if wrong.page {
+        bytes[page_bytes(image) + 4] = capacity(image) as u8 + 1;
+    }
+    bytes.truncate(image.len() - wrong.cut.unwrap_or(0));
+    comparer.lend(&bytes);
+    match wrong {
+        _ if bytes.len() < 40 => 16,
+        Wrong { capacity: true, .. } => 21,
+        Wrong { cut: Some(_), .. } => 16,
+        _ => 0,
+    }
+}
+
+/// The judging comes ahead of the order.
+fn judged(by_judging: u32, refusals: &[(u32, bool)]) -> u32 {
+    if by_judging != 0 {
+        by_judging
+    } else {
+        first(refusals)
+    }
 }
 
 fn formats(comparer: &mut Comparer, image: &[u8], cut: usize) {
-    for [short, kind, window, damaged] in choices() {
-        lend(comparer, image, short.then_some(cut), damaged, damaged);
-        let status = first(&[(16, short), (14, kind | window)]);
-        let call = Call::Format { kind: if kind { 4 } else { 2 }, window: if window { 1_000_000_001 } else { 7 } };
-        comparer.expect(call, 0, 0, Answer::status(status));
+    for [short, bad, kind, window, damaged] in choices() {
+        let wrong = Wrong { cut: short.then_some(cut), capacity: damaged, head: damaged, page: damaged };
+        lend(comparer, image, wrong);
+        let status = if bad { 14 } else { first(&[(16, short), (14, kind | window)]) };
+        let (kind, window) = (if kind { 4 } else { 2 }, if window { 1_000_000_001 } else { 7 });
+        let capacity = capacity(image) as u32 + u32::from(bad);
+        comparer.expect(Call::Format { kind, window, capacity }, 0, 0, Answer::status(status));
     }
 }
 
 fn instants(comparer: &mut Comparer, image: &[u8], cut: usize) {
-    for [short, end, bad_head, bad_page] in choices() {
-        lend(comparer, image, short.then_some(cut), bad_head, bad_page);
-        let status = first(&[(16, short), (12, end), (21, bad_head | bad_page)]);
+    for [short, bad, end, bad_head, bad_page] in choices() {
+        let wrong = Wrong { cut: short.then_some(cut), capacity: bad, head: bad_head, page: bad_page };
+        let by_judging = lend(comparer, image, wrong);
+        let status = judged(by_judging, &[(12, end), (21, bad_head | bad_page)]);
         let t = if end { END } else { 3 };
-        let pages = u32::from(status == 0 || status == 21 && !bad_head);
+        let pages = u32::from(by_judging == 0 && (status == 0 || status == 21 && !bad_head));
         comparer.expect(Call::Instant { t }, 0, 0, Answer { pages, ..Answer::status(status) });
         comparer.expect(Call::Average { t }, 0, 0, Answer::status(status));
     }
 }
 
 fn listings(comparer: &mut Comparer, image: &[u8], cut: usize) {
-    for [short, empty, bad_head, bad_page, no_room] in choices() {
-        lend(comparer, image, short.then_some(cut), bad_head, bad_page);
-        let status = first(&[(16, short), (11, empty), (21, bad_head | bad_page), (15, no_room)]);
+    for [short, bad, empty, bad_head, bad_page, no_room] in choices() {
+        let wrong = Wrong { cut: short.then_some(cut), capacity: bad, head: bad_head, page: bad_page };
+        let by_judging = lend(comparer, image, wrong);
+        let status = judged(by_judging, &[(11, empty), (21, bad_head | bad_page), (15, no_room)]);
         let call = Call::Listing { a: 3, b: if empty { 3 } else { 5 } };
         let expected = Answer { status, ..Answer::runs(u32::from(status == 0)) };
         comparer.expect(call, 0, if no_room { 15 } else { 16 }, expected);
@@ -83,29 +119,30 @@ fn listings(comparer: &mut Comparer, image: &[u8], cut: usize) {
 }
 
 fn audits(comparer: &mut Comparer, image: &[u8], cut: usize) {
-    for [short, little, bad_head, bad_page] in choices() {
-        lend(comparer, image, short.then_some(cut), bad_head, bad_page);
-        let status = first(&[(16, short), (17, little), (21, bad_head | bad_page)]);
-        let n = image.len() / 512;
+    for [short, bad, little, bad_head, bad_page] in choices() {
+        let wrong = Wrong { cut: short.then_some(cut), capacity: bad, head: bad_head, page: bad_page };
+        let by_judging = lend(comparer, image, wrong);
+        let status = judged(by_judging, &[(17, little), (21, bad_head | bad_page)]);
+        let n = pages_of(image);
         comparer.expect(Call::Audit, if little { n - 1 } else { n }, 0, Answer::status(status));
     }
 }
 
 fn changes(comparer: &mut Comparer, image: &[u8], cut: usize) {
-    use crate::images::{head, CHANGES};
-    let (n, kind) = (image.len() / 512, head(image, KIND));
-    for [short, little, empty, value, damaged, changes, wide] in choices() {
+    let (n, kind) = (pages_of(image), head(image, KIND));
+    for [short, bad, little, empty, value, damaged, changes, wide] in choices() {
         for withdrawal in [false, true] {
-            lend(comparer, image, short.then_some(cut), false, damaged);
+            let wrong = Wrong { cut: short.then_some(cut), capacity: bad, head: false, page: damaged };
+            let by_judging = lend(comparer, image, wrong);
             if changes && !short {
                 comparer.set(4 * CHANGES, &1_000_000_000u32.to_le_bytes());
             }
             // Two cuts lack a page in the filled images; the whole time needs none.
             let lacks = !wide && n == 3;
             let (s, e) = if wide { (0, END) } else { (1_000, 1_005) };
-            let refusals = [(16, short), (17, little), (11, empty), (13, value), (21, damaged)];
+            let refusals = [(17, little), (11, empty), (13, value), (21, damaged)];
             let later = [(22, withdrawal && kind != 1), (23, changes), (24, lacks)];
-            let status = first(&[&refusals[..], &later[..]].concat());
+            let status = judged(by_judging, &[&refusals[..], &later[..]].concat());
             let v = if value { 1_000_001 } else { -1_000_000 };
             let call = crate::asking::change(withdrawal, v, if empty { e } else { s }, e);
             comparer.expect(call, if little { n - 1 } else { n }, 0, Answer::status(status));

@@ -6,13 +6,23 @@ use plain::{enter_recorded, withdraw_recorded, RecordedChange, END};
 
 type HandEntry = (u32, i64, i32, u32);
 
+/// Of an image whose K is 24, which stands after changes.
 fn head(fields: [u32; 9]) -> Vec<u8> {
-    let mut bytes: Vec<u8> = fields.iter().flat_map(|field| field.to_le_bytes()).collect();
-    bytes.resize(512, 0xFF);
+    head_of(fields, 24)
+}
+
+fn head_of(fields: [u32; 9], k: u32) -> Vec<u8> {
+    let mut bytes: Vec<u8> = fields.iter().chain([&k]).flat_map(|field| field.to_le_bytes()).collect();
+    bytes.resize(32 + 20 * k as usize, 0xFF);
     bytes
 }
 
 fn tree_page(level: u32, entries: &[HandEntry]) -> Vec<u8> {
+    tree_page_of(24, level, entries)
+}
+
+/// "a page has 32 + 20 × K bytes and each array K places"
+fn tree_page_of(k: usize, level: u32, entries: &[HandEntry]) -> Vec<u8> {
     let mut bytes = Vec::new();
     bytes.extend_from_slice(&level.to_le_bytes());
     bytes.extend_from_slice(&(entries.len() as u32).to_le_bytes());
@@ -20,20 +30,24 @@ fn tree_page(level: u32, entries: &[HandEntry]) -> Vec<u8> {
     for (start, _, _, _) in entries {
         bytes.extend_from_slice(&start.to_le_bytes());
     }
-    bytes.resize(32 + 96, 0xFF);
+    bytes.resize(32 + 4 * k, 0xFF);
     for (_, sum, count, child) in entries {
         bytes.extend_from_slice(&sum.to_le_bytes());
         bytes.extend_from_slice(&count.to_le_bytes());
         bytes.extend_from_slice(&child.to_le_bytes());
     }
-    bytes.resize(512, 0xFF);
+    bytes.resize(32 + 20 * k, 0xFF);
     bytes
 }
 
 fn free_page(next: u32) -> Vec<u8> {
+    free_page_of(24, next)
+}
+
+fn free_page_of(k: usize, next: u32) -> Vec<u8> {
     let mut bytes = vec![0xFF, 0, 0, 0];
     bytes.extend_from_slice(&next.to_le_bytes());
-    bytes.resize(512, 0xFF);
+    bytes.resize(32 + 20 * k, 0xFF);
     bytes
 }
 
@@ -41,10 +55,12 @@ fn never_used() -> Vec<u8> {
     vec![0xFF; 512]
 }
 
+/// Pages of one length each.
 fn assert_image(image: &[u8], pages: &[Vec<u8>]) {
-    assert_eq!(image.len(), 512 * pages.len());
+    let length = pages[0].len();
+    assert_eq!(image.len(), length * pages.len());
     for (page, expected) in pages.iter().enumerate() {
-        assert!(image[512 * page..512 * page + 512] == expected[..], "page {page} differs");
+        assert!(image[length * page..length * page + length] == expected[..], "page {page} differs");
     }
 }
 
@@ -396,4 +412,93 @@ fn splits_up_to_a_new_root() {
     let second = get_u32(&image, mark + 1, start_at(0));
     let root = tree_page(2, &[(0, 0, 0, old_root), (second, 0, 0, mark + 1)]);
     assert!(image[512 * (mark as usize + 2)..512 * (mark as usize + 3)] == root[..]);
+}
+
+// ---------------------------------------------------------------- other capacities
+
+/// "a page has 32 + 20 × K bytes": each fresh image of two pages written out.
+#[test]
+fn fresh_images_of_every_capacity() {
+    for k in CAPACITIES {
+        for (kind, window) in [(1, 0), (3, 1_000_000_000)] {
+            let image = fresh_of(k, 2, kind, window);
+            let pages = [head_of([2, 1, 1, 0, 0, 2, kind, window, 0], k as u32), tree_page_of(k, 0, &[(0, 0, 0, 0)])];
+            assert_image(&image, &pages);
+        }
+    }
+}
+
+/// "an image of 512-byte pages without the field (FF there)": document 01's own fresh image, as document 01 writes it. "a change
+/// keeps the field's bytes".
+#[test]
+fn fresh_image_without_the_field() {
+    let mut image = plain::making::fresh_without_field(2, 1, 3);
+    let head_without = |changes: u32| {
+        let mut bytes = head([2, 1, 1, 0, 0, 2, 1, 3, changes]);
+        bytes[36..40].fill(0xFF);
+        bytes
+    };
+    assert_image(&image, &[head_without(0), tree_page(0, &[(0, 0, 0, 0)])]);
+    enter(&mut image, -6, 10, 40);
+    let leaf = tree_page(0, &[(0, 0, 0, 0), (10, -6, 1, 0), (43, 0, 0, 0)]);
+    assert_image(&image, &[head_without(1), leaf]);
+}
+
+/// K = 4, after bookings on [10, 20) and [30, 40): 0 and 10 stay, 20, 30 and 40 move.
+fn split_at_4() -> Vec<u8> {
+    let mut image = fresh_of(4, 8, 1, 0);
+    enter(&mut image, 1, 10, 20);
+    assert_eq!(taken(&enter(&mut image, 1, 30, 40)), [2, 3]);
+    image
+}
+
+/// "a split keeps K/2 and moves K/2 + 1"; the parent's entries take what spans their pages.
+#[test]
+fn split_at_capacity_4() {
+    let split = |pairs: [(i64, i32); 2], changes: u32| {
+        [
+            head_of([8, 2, 3, 0, 0, 4, 1, 0, changes], 4),
+            tree_page_of(4, 0, &[(0, 0, 0, 0), (10, 1, 1, 0)]),
+            tree_page_of(4, 0, &[(20, 0, 0, 0), (30, 1, 1, 0), (40, 0, 0, 0)]),
+            tree_page_of(4, 1, &[(0, pairs[0].0, pairs[0].1, 1), (20, pairs[1].0, pairs[1].1, 2)]),
+        ]
+    };
+    let mut image = split_at_4();
+    assert_image(&image[..4 * 112], &split([(0, 0), (0, 0)], 2));
+    assert!(image[4 * 112..].iter().all(|&byte| byte == 0xFF) && image.len() == 8 * 112);
+    enter(&mut image, 5, 0, 20);
+    enter(&mut image, 7, 20, END);
+    assert_image(&image[..4 * 112], &split([(5, 1), (7, 1)], 4));
+}
+
+/// "a neighbour gives from K/2 + 1 up": 10 goes, one entry is left, and the right neighbour gives its first of three. Then 40 goes
+/// next to a neighbour of two: both join, and the root is given back behind the right page.
+#[test]
+fn give_and_merge_at_capacity_4() {
+    let mut image = split_at_4();
+    enter(&mut image, 5, 0, 20);
+    enter(&mut image, 7, 20, END);
+    let recorded = withdraw(&mut image, 1, 10, 20);
+    assert_eq!((recorded.steps[3].gives_from_right, recorded.steps[4].entries_healed), (1, 0));
+    let given = [
+        head_of([8, 2, 3, 0, 0, 4, 1, 0, 5], 4),
+        tree_page_of(4, 0, &[(0, 5, 1, 0), (20, 7, 1, 0)]),
+        tree_page_of(4, 0, &[(30, 8, 2, 0), (40, 7, 1, 0)]),
+        tree_page_of(4, 1, &[(0, 0, 0, 1), (30, 0, 0, 2)]),
+    ];
+    assert_image(&image[..4 * 112], &given);
+
+    // 30 comes to (6, 2) like 20, but it is first in its page and stays; then 40 comes to (6, 2).
+    enter(&mut image, -1, 20, 40);
+    let recorded = withdraw(&mut image, 1, 30, 40);
+    assert_eq!(recorded.steps.iter().map(|step| step.entries_healed).sum::<u32>(), 0);
+    let recorded = enter(&mut image, -1, 40, END);
+    assert_eq!((recorded.steps[3].merges_with_left, given_back(&recorded)), (1, vec![2, 3]));
+    let merged = [
+        head_of([8, 1, 1, 3, 2, 4, 1, 0, 8], 4),
+        tree_page_of(4, 0, &[(0, 5, 1, 0), (20, 6, 2, 0), (30, 6, 2, 0)]),
+        free_page_of(4, 0),
+        free_page_of(4, 2),
+    ];
+    assert_image(&image[..4 * 112], &merged);
 }

@@ -95,7 +95,7 @@ fn head_fields() {
         (N, 8, UNFIT),
         (N, 0, UNFIT),
         (HEIGHT, 0, UNFIT),
-        (HEIGHT, 5, UNFIT),
+        (HEIGHT, 11, UNFIT),
         (HEIGHT, u32::MAX, UNFIT),
         (ROOT, 0, UNFIT),
         (ROOT, 7, UNFIT),
@@ -122,16 +122,23 @@ fn head_fields() {
         (CHANGES, 1_000_000_000, FIT),
         (CHANGES, 1_000_000_001, UNFIT),
         (CHANGES, u32::MAX, UNFIT),
+        (CAPACITY, u32::MAX, FIT),
+        (CAPACITY, 24, FIT),
+        (CAPACITY, 0, UNFIT),
+        (CAPACITY, 23, UNFIT),
+        (CAPACITY, 26, UNFIT),
+        (CAPACITY, u32::MAX - 1, UNFIT),
     ] {
         check_head(&with(field, to), fit);
     }
-    // "its rest is FF"
-    for at in [36, 37, 300, 511] {
+    // "its rest is FF", behind K's field from byte 40 on
+    for at in [40, 41, 300, 511] {
         check_head(&touched(1, |image| image[at] = 0xFE), UNFIT);
         check_head(&touched(1, |image| image[at] = 0), UNFIT);
     }
     // Another height or root: the head is fit, the page expected there isn't.
-    for (field, to) in [(HEIGHT, 1), (HEIGHT, 3), (HEIGHT, 4), (ROOT, 1), (ROOT, 2), (ROOT, 4), (ROOT, 6)] {
+    let heights = (3..=10).map(|height| (HEIGHT, height));
+    for (field, to) in heights.chain([(HEIGHT, 1), (ROOT, 1), (ROOT, 2), (ROOT, 4), (ROOT, 6)]) {
         let image = with(field, to);
         assert_eq!(status_and_pages(&image, 0), (21, 1));
         assert_eq!(list(&image, 0, 1), 21);

@@ -7,15 +7,15 @@ const WINDOWS: [u32; 8] = [0, 0, 1, 3, 7, 50, 1_000, 1_000_000_000];
 
 /// How a load draws its spans.
 #[derive(Clone, Copy)]
-struct Times {
+pub struct Times {
     /// Starts are below this, but for a few at the far end.
-    range: u64,
+    pub range: u64,
     /// Spans are at most this long, but for a few up to END.
-    longest: u64,
+    pub longest: u64,
 }
 
-struct Load {
-    rack: Rack,
+pub struct Load {
+    pub rack: Rack,
     random: Xorshift,
     times: Times,
     live: Vec<(i64, u32, u32)>,
@@ -24,7 +24,12 @@ struct Load {
 
 impl Load {
     fn new(n: usize, kind: u32, window: u32, times: Times, seed: u64) -> Load {
-        let rack = Rack::new(n, kind, window, seed);
+        Load::on(fresh(n, kind, window), times, seed)
+    }
+
+    /// On a fresh image of any K.
+    pub fn on(image: Vec<u8>, times: Times, seed: u64) -> Load {
+        let rack = Rack::on(image, seed);
         Load { rack, random: Xorshift::new(seed ^ 0xABCD), times, live: Vec::new(), growing: true }
     }
 
@@ -83,8 +88,16 @@ impl Load {
     /// A refused format in between keeps everything.
     fn refused_format(&mut self) {
         let before = self.rack.image.clone();
-        let (kind, window) = self.random.pick(&[(0, 0), (4, 7), (1, 1_000_000_001)]);
-        assert_eq!(format(&mut self.rack.image, kind, window), 14);
+        let k = capacity(&before) as u32;
+        let (kind, window, capacity) = self.random.pick(&[
+            (0, 0, k),
+            (4, 7, k),
+            (1, 1_000_000_001, k),
+            (1, 0, 2),
+            (1, 0, k + 1),
+            (1, 0, u32::MAX),
+        ]);
+        assert_eq!(format(&mut self.rack.image, kind, window, capacity), 14);
         assert!(self.rack.image == before);
         self.rack.tally.formats += 1;
     }
@@ -95,7 +108,7 @@ impl Load {
         self.rack.check_listing(a, b);
     }
 
-    fn run(mut self, changes: usize) -> Tally {
+    pub fn run(mut self, changes: usize) -> Tally {
         for _ in 0..changes {
             if self.random.one_in(25) {
                 self.growing = !self.growing;
@@ -112,7 +125,7 @@ impl Load {
     }
 }
 
-fn require_all(tally: &Tally) {
+pub fn require_all(tally: &Tally) {
     assert!(tally.splits > 0);
     assert!(tally.roots_gained > 0);
     assert!(tally.refused_24 > 0);

@@ -6,6 +6,7 @@ mod support;
 
 mod average;
 mod bytes;
+mod capacity;
 mod damage;
 mod fitness;
 mod heights;

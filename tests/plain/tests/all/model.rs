@@ -29,6 +29,7 @@ impl Pages {
 
 pub struct Model {
     kind: u32,
+    half: usize,
     tree: Node,
     pages: Pages,
 }
@@ -42,7 +43,7 @@ impl Model {
             page = word(image, page, 1);
         }
         let pages = Pages { chain, mark: word(image, 0, HIGH_MARK), n: word(image, 0, N) };
-        Model { kind: word(image, 0, KIND), tree: Node::of(image), pages }
+        Model { kind: word(image, 0, KIND), half: capacity(image) / 2, tree: Node::of(image), pages }
     }
 
     pub fn assert_is(&self, image: &[u8]) {
@@ -66,7 +67,7 @@ impl Model {
         if t == END {
             return;
         }
-        if let Some((start, right)) = cut_below(&mut self.tree, t, &mut self.pages) {
+        if let Some((start, right)) = cut_below(&mut self.tree, t, self.half, &mut self.pages) {
             let page = self.pages.take();
             let nothing = Pair { sum: 0, count: 0 };
             let left = std::mem::replace(&mut self.tree, Node::Leaf { page: 0, entries: Vec::new() });
@@ -75,7 +76,7 @@ impl Model {
     }
 
     fn heal(&mut self, t: u32) {
-        heal_below(&mut self.tree, t, self.kind, &mut self.pages);
+        heal_below(&mut self.tree, t, self.kind, self.half, &mut self.pages);
         if let Node::Inner { page, entries } = &mut self.tree {
             if entries.len() == 1 {
                 let (_, pair, mut child) = entries.remove(0);
@@ -112,7 +113,7 @@ fn both(kind: u32, one: Pair, other: Pair) -> Pair {
 }
 
 /// The right half, if the page had to split.
-fn cut_below(node: &mut Node, t: u32, pages: &mut Pages) -> Option<(u32, Node)> {
+fn cut_below(node: &mut Node, t: u32, half: usize, pages: &mut Pages) -> Option<(u32, Node)> {
     match node {
         Node::Leaf { entries, .. } => {
             let at = entries.iter().take_while(|(start, _)| *start <= t).count();
@@ -121,19 +122,19 @@ fn cut_below(node: &mut Node, t: u32, pages: &mut Pages) -> Option<(u32, Node)> 
                 return None;
             }
             entries.insert(at, (t, pair));
-            if entries.len() == 25 {
-                let right = entries.drain(12..).collect::<Vec<_>>();
+            if entries.len() == 2 * half + 1 {
+                let right = entries.drain(half..).collect::<Vec<_>>();
                 return Some((right[0].0, Node::Leaf { page: pages.take(), entries: right }));
             }
             None
         }
         Node::Inner { entries, .. } => {
             let at = entries.iter().take_while(|(start, _, _)| *start <= t).count();
-            let (start, right) = cut_below(&mut entries[at - 1].2, t, pages)?;
+            let (start, right) = cut_below(&mut entries[at - 1].2, t, half, pages)?;
             let pair = entries[at - 1].1;
             entries.insert(at, (start, pair, right));
-            if entries.len() == 25 {
-                let right = entries.drain(12..).collect::<Vec<_>>();
+            if entries.len() == 2 * half + 1 {
+                let right = entries.drain(half..).collect::<Vec<_>>();
                 return Some((right[0].0, Node::Inner { page: pages.take(), entries: right }));
             }
             None
@@ -164,7 +165,7 @@ fn combine_into(node: &mut Node, kind: u32, pair: Pair, s: u32, end: u32, node_e
     }
 }
 
-fn heal_below(node: &mut Node, t: u32, kind: u32, pages: &mut Pages) {
+fn heal_below(node: &mut Node, t: u32, kind: u32, half: usize, pages: &mut Pages) {
     match node {
         Node::Leaf { entries, .. } => {
             let at = entries.iter().position(|(start, _)| *start == t);
@@ -176,23 +177,31 @@ fn heal_below(node: &mut Node, t: u32, kind: u32, pages: &mut Pages) {
         }
         Node::Inner { entries, .. } => {
             let at = entries.iter().take_while(|(start, _, _)| *start <= t).count() - 1;
-            heal_below(&mut entries[at].2, t, kind, pages);
-            if entry_count(&entries[at].2) == 11 {
+            heal_below(&mut entries[at].2, t, kind, half, pages);
+            if entry_count(&entries[at].2) == half - 1 {
                 let left = if at == 0 { 0 } else { at - 1 };
-                rebalance(entries, left, at, kind, pages);
+                let neighbour = if at == 0 { 1 } else { at - 1 };
+                let gives = entry_count(&entries[neighbour].2) > half;
+                rebalance(entries, left, at, gives, kind, pages);
             }
         }
     }
 }
 
-/// The child `short` of 11 entries and its neighbour are `left` and `left + 1`.
-fn rebalance(entries: &mut Vec<(u32, Pair, Node)>, left: usize, short: usize, kind: u32, pages: &mut Pages) {
+/// The child `short`, which is one entry below half, and its neighbour are `left` and `left + 1`.
+fn rebalance(
+    entries: &mut Vec<(u32, Pair, Node)>,
+    left: usize,
+    short: usize,
+    gives: bool,
+    kind: u32,
+    pages: &mut Pages,
+) {
     for (_, pair, below) in &mut entries[left..left + 2] {
         combine_all(below, kind, *pair);
         *pair = Pair { sum: 0, count: 0 };
     }
-    let neighbour = if short == left { left + 1 } else { left };
-    if entry_count(&entries[neighbour].2) >= 13 {
+    if gives {
         let (first, second) = entries.split_at_mut(left + 1);
         let new_start = give(&mut first[left].2, &mut second[0].2, short != left);
         second[0].0 = new_start;

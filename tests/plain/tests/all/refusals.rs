@@ -108,10 +108,13 @@ fn lengths() {
     let bad = [0, 1, 511, 512, 513, 1_023, 1_025, 1_535, 512 * 1_024 - 1, 512 * 1_024 + 1, 512 * 1_025, 512 * 2_048];
     for length in bad {
         let mut image = random.bytes(length);
+        if length >= 40 {
+            image[36..40].fill(0xFF);
+        }
         let before = image.clone();
         let mut out = [1; 64];
-        assert_eq!(format(&mut image, 1, 0), 16);
-        assert_eq!(format(&mut image, 9, u32::MAX), 16);
+        assert_eq!(format(&mut image, 1, 0, 24), 16);
+        assert_eq!(format(&mut image, 9, u32::MAX, 24), 16);
         assert_eq!(enter(&mut image, &mut [], 1_000_001, 5, 5), 16);
         assert_eq!(withdraw(&mut image, &mut [], 1_000_001, 5, 5), 16);
         assert_eq!((instant(&image, END).status, instant(&image, END).pages), (16, 0));
@@ -122,7 +125,7 @@ fn lengths() {
     }
     for n in [2, 3, 500, 1_023, 1_024] {
         let mut image = random.bytes(512 * n);
-        assert_eq!(format(&mut image, 1, 0), 0);
+        assert_eq!(format(&mut image, 1, 0, 24), 0);
         assert_eq!(audit(&image, &mut vec![0; n]), 0);
     }
 }
@@ -131,12 +134,12 @@ fn lengths() {
 fn formats() {
     let mut image = vec![3; 1_024];
     for (kind, window) in [(0, 0), (4, 0), (u32::MAX, 0), (1, 1_000_000_001), (3, u32::MAX), (0, u32::MAX)] {
-        assert_eq!(format(&mut image, kind, window), 14);
+        assert_eq!(format(&mut image, kind, window, 24), 14);
         assert!(image == vec![3; 1_024]);
     }
     for kind in 1..=3 {
         for window in [0, 1, 1_000_000_000] {
-            assert_eq!(format(&mut image, kind, window), 0);
+            assert_eq!(format(&mut image, kind, window, 24), 0);
             assert_eq!((word(&image, 0, KIND), word(&image, 0, WINDOW)), (kind, window));
         }
     }

@@ -188,9 +188,52 @@ impl Xorshift {
 
 // ---------------------------------------------------------------- a second reader of the bytes
 
+/// K as the bytes behind changes name it, FF there being 24; 24 also where they name none, so that damaged images can be read.
+pub fn capacity(image: &[u8]) -> usize {
+    match image[36..40] {
+        [k, 0, 0, 0] if good_capacity(u32::from(k)) => k as usize,
+        _ => 24,
+    }
+}
+
+/// "an even number from 4 to 24"
+pub fn good_capacity(k: u32) -> bool {
+    [4, 6, 8, 10, 12, 14, 16, 18, 20, 22, 24].contains(&k)
+}
+
+/// All of them.
+pub const CAPACITIES: [usize; 11] = [4, 6, 8, 10, 12, 14, 16, 18, 20, 22, 24];
+
+/// "a page has 32 + 20 × K bytes"
+pub fn page_bytes(image: &[u8]) -> usize {
+    32 + 20 * capacity(image)
+}
+
+/// The number of pages of an image whose K and length are in order.
+pub fn pages_of(image: &[u8]) -> usize {
+    image.len() / page_bytes(image)
+}
+
+/// The number that turns an image back ahead of everything else, or 0: "under 40 bytes gives 16, a bad K 21 ahead of 16".
+pub fn judged(image: &[u8]) -> u32 {
+    if image.len() < 40 {
+        return 16;
+    }
+    let field = u32::from_le_bytes(image[36..40].try_into().unwrap());
+    if field != u32::MAX && !good_capacity(field) {
+        return 21;
+    }
+    let whole = image.len().is_multiple_of(page_bytes(image));
+    if whole && (2..=1_024).contains(&pages_of(image)) {
+        0
+    } else {
+        16
+    }
+}
+
 /// Byte offsets written out again here, so that a mistaken one in the crate shows.
 pub fn word(image: &[u8], page: u32, field: usize) -> u32 {
-    let at = page as usize * 512 + field * 4;
+    let at = page as usize * page_bytes(image) + field * 4;
     u32::from(image[at])
         | u32::from(image[at + 1]) << 8
         | u32::from(image[at + 2]) << 16
@@ -198,7 +241,7 @@ pub fn word(image: &[u8], page: u32, field: usize) -> u32 {
 }
 
 pub fn set_word(image: &mut [u8], page: u32, field: usize, to: u32) {
-    let at = page as usize * 512 + field * 4;
+    let at = page as usize * page_bytes(image) + field * 4;
     image[at..at + 4].copy_from_slice(&to.to_le_bytes());
 }
 
@@ -211,8 +254,9 @@ pub const HIGH_MARK: usize = 5;
 pub const KIND: usize = 6;
 pub const WINDOW: usize = 7;
 pub const CHANGES: usize = 8;
+pub const CAPACITY: usize = 9;
 
-/// Byte positions in a tree page.
+/// Byte positions in a tree page; those of entries where K is 24.
 pub const LEVEL_AT: usize = 0;
 pub const ENTRY_COUNT_AT: usize = 4;
 pub fn start_at(i: usize) -> usize {
@@ -228,13 +272,18 @@ pub fn child_at(i: usize) -> usize {
     140 + 16 * i
 }
 
+/// Where entry i begins at any K: behind K starts.
+pub fn entry_in(k: usize, i: usize) -> usize {
+    32 + 4 * k + 16 * i
+}
+
 pub fn set(image: &mut [u8], page: u32, at: usize, bytes: &[u8]) {
-    let at = page as usize * 512 + at;
+    let at = page as usize * page_bytes(image) + at;
     image[at..at + bytes.len()].copy_from_slice(bytes);
 }
 
 pub fn get_u32(image: &[u8], page: u32, at: usize) -> u32 {
-    let at = page as usize * 512 + at;
+    let at = page as usize * page_bytes(image) + at;
     u32::from_le_bytes(image[at..at + 4].try_into().unwrap())
 }
 
@@ -255,10 +304,11 @@ impl Node {
     }
 
     fn at(image: &[u8], page: u32) -> Node {
+        let k = capacity(image);
         let entry_count = get_u32(image, page, ENTRY_COUNT_AT) as usize;
         let start = |i: usize| get_u32(image, page, start_at(i));
         let pair = |i: usize| {
-            let at = page as usize * 512 + sum_at(i);
+            let at = page as usize * page_bytes(image) + entry_in(k, i);
             Pair {
                 sum: i64::from_le_bytes(image[at..at + 8].try_into().unwrap()),
                 count: i32::from_le_bytes(image[at + 8..at + 12].try_into().unwrap()),
@@ -267,7 +317,7 @@ impl Node {
         if get_u32(image, page, LEVEL_AT) == 0 {
             Node::Leaf { page, entries: (0..entry_count).map(|i| (start(i), pair(i))).collect() }
         } else {
-            let child = |i: usize| Node::at(image, get_u32(image, page, child_at(i)));
+            let child = |i: usize| Node::at(image, get_u32(image, page, entry_in(k, i) + 12));
             Node::Inner { page, entries: (0..entry_count).map(|i| (start(i), pair(i), child(i))).collect() }
         }
     }
@@ -382,27 +432,27 @@ impl Shape {
     }
 
     /// Adds t; the second half if this page had to split.
-    fn add(&mut self, t: u32, taken: &mut u64) -> Option<(u32, Shape)> {
+    fn add(&mut self, k: usize, t: u32, taken: &mut u64) -> Option<(u32, Shape)> {
         match self {
             Shape::Leaf(starts) => {
                 let Err(at) = starts.binary_search(&t) else { return None };
                 starts.insert(at, t);
-                if starts.len() < 25 {
+                if starts.len() < k + 1 {
                     return None;
                 }
                 *taken += 1;
-                let right = starts.split_off(12);
+                let right = starts.split_off(k / 2);
                 Some((right[0], Shape::Leaf(right)))
             }
             Shape::Inner(entries) => {
                 let at = entries.partition_point(|(start, _)| *start <= t);
-                let gained = entries[at - 1].1.add(t, taken)?;
+                let gained = entries[at - 1].1.add(k, t, taken)?;
                 entries.insert(at, gained);
-                if entries.len() < 25 {
+                if entries.len() < k + 1 {
                     return None;
                 }
                 *taken += 1;
-                let right = entries.split_off(12);
+                let right = entries.split_off(k / 2);
                 Some((right[0].0, Shape::Inner(right)))
             }
         }
@@ -417,7 +467,7 @@ pub fn pages_wanted(image: &[u8], s: u32, end: u32) -> u64 {
         if t == END {
             continue;
         }
-        if let Some(right) = shape.add(t, &mut taken) {
+        if let Some(right) = shape.add(capacity(image), t, &mut taken) {
             taken += 1;
             shape = Shape::Inner(vec![(0, shape), right]);
         }
@@ -498,17 +548,28 @@ pub struct Rack {
     pub audit_each: bool,
 }
 
+/// "document 01's cases keep K = 24"
 pub fn fresh(n: usize, kind: u32, window: u32) -> Vec<u8> {
-    let mut image = vec![0xA5; n * 512];
-    assert_eq!(format(&mut image, kind, window), 0);
+    fresh_of(24, n, kind, window)
+}
+
+pub fn fresh_of(k: usize, n: usize, kind: u32, window: u32) -> Vec<u8> {
+    let mut image = vec![0xA5; n * (32 + 20 * k)];
+    assert_eq!(format(&mut image, kind, window, k as u32), 0);
     image
 }
 
 impl Rack {
     pub fn new(n: usize, kind: u32, window: u32, seed: u64) -> Rack {
+        Rack::on(fresh(n, kind, window), seed)
+    }
+
+    /// On a fresh image of any K.
+    pub fn on(image: Vec<u8>, seed: u64) -> Rack {
+        let (kind, window) = (word(&image, 0, KIND), word(&image, 0, WINDOW));
         let tally = Tally { formats: 1, greatest_height: 1, ..Tally::default() };
         Rack {
-            image: fresh(n, kind, window),
+            image,
             book: Book::new(kind, window),
             timeline: Timeline::new(kind, window),
             tally,
@@ -519,7 +580,7 @@ impl Rack {
     }
 
     pub fn n(&self) -> usize {
-        self.image.len() / 512
+        pages_of(&self.image)
     }
 
     pub fn enter(&mut self, v: i64, s: u32, e: u32) -> u32 {
@@ -579,6 +640,7 @@ impl Rack {
             assert!(named.contains(&page), "page {page} changed, named are {named:?}");
         }
         assert_eq!(word(&self.image, 0, CHANGES), word(&before, 0, CHANGES) + 1);
+        assert_eq!(self.image[36..40], before[36..40], "a change keeps the field's bytes");
         let taken: u64 = recorded.steps.iter().map(|step| step.taken.len() as u64).sum();
         assert_eq!(taken, wanted);
         let given_back: u64 = recorded.steps.iter().map(|step| step.given_back.len() as u64).sum();
@@ -683,7 +745,8 @@ impl Rack {
 }
 
 pub fn changed_pages(before: &[u8], after: &[u8]) -> Vec<u32> {
-    let pages = before.chunks(512).zip(after.chunks(512)).enumerate();
+    let length = page_bytes(before);
+    let pages = before.chunks(length).zip(after.chunks(length)).enumerate();
     pages.filter(|(_, (old, new))| old != new).map(|(page, _)| page as u32).collect()
 }
 
@@ -727,12 +790,19 @@ fn check_by_step(before: &[u8], effect: &Effect, records: &[StepRecord], after: 
     assert!(image == after, "the five steps one by one make the change");
 }
 
-/// Audit by the definition and by counting agree; whether the image is sound.
+/// Audit by the definition and by counting agree; whether the image is sound. One that is turned back by its K or its length
+/// isn't, and keeps the scratch.
 pub fn audit_both_ways(image: &[u8]) -> bool {
     let sound = is_sound(image);
     assert_eq!(sound, is_sound_by_counting(image), "the definition and the counting shortcut agree");
-    let mut scratch = vec![1; image.len() / 512];
-    assert_eq!(audit(image, &mut scratch), if sound { 0 } else { 21 });
+    let mut scratch = vec![1; pages_of(image)];
+    let status = audit(image, &mut scratch);
+    if judged(image) != 0 {
+        assert!(!sound && status == judged(image));
+        assert!(scratch.iter().all(|&byte| byte == 1));
+        return false;
+    }
+    assert_eq!(status, if sound { 0 } else { 21 });
     assert!(scratch.iter().all(|&byte| byte == 0));
     sound
 }
