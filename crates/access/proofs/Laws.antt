@@ -30,15 +30,6 @@ unfolding pages-in
 pages-counted half img e = ap (λ k. length img / k) e
 
 module _ (half : ℕ) (img : List ℕ) where
-  pub opening-fit : {h : Head} → head-fit half (pages-in half img) (page-at half img 0) ≡ true → h ≡ head-of (page-at half img 0)
-      → Fit h ≡ head-check half img
-  unfolding head-check
-  opening-fit e s = rw (e, s) refl
-
-  pub opening-unfit : head-fit half (pages-in half img) (page-at half img 0) ≡ false → Unfit ≡ head-check half img
-  unfolding head-check
-  opening-unfit e = rw e refl
-
   -- a head that is fit for its own number of pages, which the length has: so it is fit for the length
   pub own-pages : length-ok half img ≡ true
       → (eqb (page-size half * head-of (page-at half img 0) .pages) (length img)

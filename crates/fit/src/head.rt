@@ -1,5 +1,5 @@
 // Is the head fit?
-use fields::fill::eights_ff;
+use fields::fill::all_ff;
 use page::Head;
 use page::capacities::capacity_named;
 use page::heads::read_head;
@@ -49,6 +49,6 @@ pub fn head_fit(half: usize, s: &[u8], pages: u32) -> bool
     ensures { λ r. ⌜ r ≡ head-fit half pages (now (s .entry)) ⌝ }
 {
     let h = read_head(s);
-    let rest = (page_size(half) - HEAD_BYTES) / 8;
-    ranges_ok(h, pages) & (field_ok(half, h.capacity) & eights_ff(s, HEAD_BYTES, rest))
+    let rest = page_size(half) - HEAD_BYTES;
+    ranges_ok(h, pages) & (field_ok(half, h.capacity) & all_ff(s, HEAD_BYTES, rest))
 }

@@ -13,11 +13,20 @@ use Rattle.page.specs.Fit.{head-fit}
 use Rattle.page.proofs.Laws.Capacities.{Capacity, capacity-is, half-capacity, field-is, head-field}
 use Rattle.image.specs.Images.{capacity-field, half-of, page-at}
 
+-- the head's numbers stand in the image where they stand in its first page
+number-read : (half : ℕ) (img : List ℕ) (o : ℕ) → 1 ≤ half → o ≤ 36 → u32-at (page-at half img 0) o ≡ u32-at img o
+unfolding page-at u32-at
+number-read half img o some l =
+    let first : page-size half * 0 + o ≡ o = omega arith in
+    ap num (part-part img (page-size half * 0) (page-size half) o 4 (omega arith) ∙ ap (λ k. part img k 4) first)
+
 pub field-read : (half : ℕ) (img : List ℕ) → 1 ≤ half → head-of (page-at half img 0) .capacity ≡ capacity-field img
-unfolding head-of page-at capacity-field u32-at
-field-read half img some =
-    let first : page-size half * 0 + 36 ≡ 36 = omega arith in
-    ap num (part-part img (page-size half * 0) (page-size half) 36 4 (omega arith) ∙ ap (λ o. part img o 4) first)
+unfolding head-of capacity-field
+field-read half img some = number-read half img 36 some (omega arith)
+
+pub kind-read : (half : ℕ) (img : List ℕ) → 1 ≤ half → head-of (page-at half img 0) .kind ≡ u32-at img 24
+unfolding head-of
+kind-read half img some = number-read half img 24 some (omega arith)
 
 -- half of the capacity that an image names
 pub record Half (half : ℕ) (img : List ℕ) : Type 0 where

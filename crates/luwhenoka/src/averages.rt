@@ -2,23 +2,20 @@
 use crate::AverageAnswer;
 use crate::BEYOND;
 use crate::IN_HUNDREDTHS;
-use crate::Judged;
 use crate::NO_AVERAGE;
-use crate::instants::instant;
-use crate::judge::judge;
-use access::pages::page_at;
+use crate::instants::luw_instant;
 use calls::refusals::ACCEPTED;
-use page::heads::read_head;
+use fields::read::get_u32;
+use page::layout::HEAD_KIND;
 use rule::Average;
 use rule::Pair;
 use rule::averages::average;
 ghost use mathlib.Core.Path.{_≡_};
-ghost use mathlib.Core.Bool.{true};
-ghost use Rattle.rule.specs.declared.Average.the-variants.{Nothing};
-ghost use Rattle.image.specs.Images.{length-ok};
 ghost use Prim.Native.Nat.{_≤_};
-ghost use Rattle.calls.specs.Calls.{head, average-at};
-ghost use Rattle.luwhenoka.specs.Answers.{average-answer, averaged-answer};
+ghost use lib.ListN.{length};
+ghost use Rattle.rule.specs.declared.Average.the-variants.{Nothing};
+ghost use Rattle.fields.specs.Numbers.{u32-at};
+ghost use Rattle.luwhenoka.specs.Answers.{average-answer};
 ghost use Rattle.luwhenoka.specs.Promises.{Averages, Averages-of};
 
 // The cases of an average as numbers.
@@ -59,11 +56,11 @@ pub extern "C" fn luw_average_of(kind: u32, sum: i64, count: i32) -> AverageAnsw
 }
 
 // The kind that the head names.
-fn kind_of(half: usize, img: &[u8]) -> u32
-    requires { ⌜ (2 ≤ half) × (half ≤ 12) × (length-ok half (now img) ≡ true) ⌝ }
-    ensures { λ r. ⌜ r ≡ head half (now (img .entry)) .kind ⌝ }
+fn kind_of(img: &[u8]) -> u32
+    requires { ⌜ 40 ≤ length (now img) ⌝ }
+    ensures { λ r. ⌜ r ≡ u32-at (now (img .entry)) 24 ⌝ }
 {
-    read_head(page_at(half, img, 0)).kind
+    get_u32(img, HEAD_KIND)
 }
 
 // A refusal, which is no average.
@@ -77,25 +74,14 @@ fn refused(status: u32) -> AverageAnswer
     }
 }
 
-// "The average's pair is taken by an instant call": its refusals are that call's. By half the capacity.
-fn average_at(half: usize, img: &[u8], t: u32) -> AverageAnswer
-    requires { ⌜ (2 ≤ half) × (half ≤ 12) ⌝ }
-    ensures { λ r. ⌜ r ≡ averaged-answer (average-at half t (now (img .entry))) ⌝ }
-{
-    let r = instant(half, img, t);
-    if r.status == ACCEPTED {
-        return luw_average_of(kind_of(half, img), r.sum, r.count);
-    }
-    refused(r.status)
-}
-
-// The same by the capacity that the image names.
+// "The average's pair is taken by an instant call": its refusals are that call's.
 #[no_mangle]
 pub extern "C" fn luw_average(img: &[u8], t: u32) -> AverageAnswer
     ensures { λ r. ⌜ Averages t (now (img .entry)) r ⌝ }
 {
-    match judge(img) {
-        Judged::Half(half) => average_at(half, img, t),
-        Judged::Refused(status) => refused(status),
+    let r = luw_instant(img, t);
+    if r.status == ACCEPTED {
+        return luw_average_of(kind_of(img), r.sum, r.count);
     }
+    refused(r.status)
 }

@@ -44,7 +44,7 @@ fn accepted(pair: Pair, pages: u32) -> InstantAnswer
 }
 
 // The pair at t, and how many tree pages were read, by half the capacity. The order is 16, 12, 21.
-pub(crate) fn instant(half: usize, img: &[u8], t: u32) -> InstantAnswer
+fn instant(half: usize, img: &[u8], t: u32) -> InstantAnswer
     requires { ⌜ (2 ≤ half) × (half ≤ 12) ⌝ }
     ensures { λ r. ⌜ r ≡ instant-answer (instant half t (now (img .entry))) ⌝ }
 {

@@ -1,12 +1,11 @@
 -- `fit::head::head_fit` meets its contract: each part is its own. Assumes nothing.
-use mathlib.Core.Path.{_≡_, ap, ap₂, _∙_}
+use mathlib.Core.Path.{ap, ap₂, _∙_}
 use mathlib.Core.Bool.{_&&_}
-use Prim.Native.Nat.{_*_, _-_, _/_}
+use Prim.Native.Nat.{_-_}
 use native.Mathlib.Omega.{arith}
 use borrow.Author.Needs.{needs}
 use Rattle.fields.specs.Bytes.{part, all-are}
 use Rattle.page.specs.declared.Head.{Head}
-use Rattle.page.specs.Layout.{page-size}
 use Rattle.page.specs.Fit.{ranges-ok, field-ok, head-fit}
 use Rattle.fit.proofs.head.head_fit.Statement.{statement}
 use Rattle.fit.proofs.head.head_fit.Tie as tie
@@ -19,10 +18,9 @@ returns c =
     let sized = ranged .before in
     let read = sized .before in
     let args = read .before .before .args in
-    let whole : 8 * ((sized .page-size .result - 40) / 8) ≡ page-size (args .half) - 40 = omega (arith, sized .page-size .ensures) in
     ap₂ _&&_ (ranged .ranges-ok .ensures ∙ ap (ranges-ok (args .pages)) (read .read-head .ensures))
     (ap₂ _&&_ (named .field-ok .ensures ∙ ap (λ (h : Head). field-ok (args .half) (h .capacity)) (read .read-head .ensures))
-    (c .eights-ff .ensures ∙ ap (λ k. all-are 255 (part (args .s .now) 40 k)) whole))
+    (c .all-ff .ensures ∙ ap (λ k. all-are 255 (part (args .s .now) 40 (k - 40))) (sized .page-size .ensures)))
 
 pub head-fit-spec : {M : Type 1} → statement M
 head-fit-spec =
