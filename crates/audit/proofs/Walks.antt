@@ -22,7 +22,7 @@ use Rattle.audit.specs.declared.PageCount.{PageCount}
 use Rattle.audit.specs.declared.PageCount.the-variants.{Fit, Unfit}
 use Rattle.access.specs.Access.{Page-in, Open-image}
 use Rattle.access.proofs.Laws.{page-length, opened-ranges, opened-size}
-use Rattle.audit.specs.Walks.{Standing, Inner, page-count, page-count-below}
+use Rattle.audit.specs.Walks.{Standing, Inner, fit-below, page-count, page-count-below}
 use Rattle.lists.specs.Lists.{total}
 use Rattle.soundness.proofs.Tree.{top-fit, tree-parts, tree-length, tree-short}
 
@@ -218,6 +218,18 @@ module _ {half : ℕ} {img : List ℕ} {h : Head} {at : Page-context} {p n pages
       (λ t.
       counted-unfit half h img (context-below half (page-at half img p) at i) (child-at half (page-at half img p) i) (sym e ∙ f)
       (tree-parts half h img (at .level - 1) at p (ap (λ l. tree-fit half h img l at p) (sym level-is) ∙ t) .1 i (omega (arith, r .len))))
+
+  -- the page below the i-th entry is a leaf
+  pub passing-leaf : i < n → at .level ≡ 1 → fit-below half h img at p i ≡ true → Passing half img h at p n (pages + 1) (i + 1)
+  unfolding context-below
+  passing-leaf l z e =
+      let s : List ℕ = page-at half img p in
+      passing-more 1 l refl (sym (leaf-counted half h img (context-below half s at i) (child-at half s i) (omega (arith, z)) e))
+
+  pub passing-unfit : i < n → fit-below half h img at p i ≡ false → Unfit ≡ page-count half h img at p
+  passing-unfit l e =
+      let s : List ℕ = page-at half img p in
+      passing-stops l refl (sym (page-unfit half h img (context-below half s at i) (child-at half s i) e))
 
   pub passing-all : n ≤ i → Fit pages ≡ page-count half h img at p
   unfolding tree-fit

@@ -24,6 +24,12 @@ page-count-below half h img at p i =
     let s = page-at half img p in
     page-count half h img (context-below half s at i) (child-at half s i)
 
+-- the page below the i-th entry of page p is fit
+abbrev pub fit-below : ℕ → Head → List ℕ → Page-context → ℕ → ℕ → Bool
+fit-below half h img at p i =
+    let s = page-at half img p in
+    page-fit half h (context-below half s at i) (page-at half img (child-at half s i))
+
 -- page p, of n, is free
 unfoldable pub leads-to-free : ℕ → List ℕ → ℕ → ℕ → Bool
 leads-to-free half img n p = leb 1 p && (ltb p n && free-ok half (page-at half img p))

@@ -18,6 +18,7 @@ use Rattle.audit.proofs.walk.+audit_entry+audit_page.Lts-audit_entry as
 use Rattle.audit.proofs.walk.audit_page.Reads as audit-page
 use Rattle.audit.proofs.walk.audit_page.Kinds as audit-page-kinds
 use Rattle.audit.proofs.walk.+audit_entry+audit_page.Lts-audit_page as audit-page-lts
+use Rattle.audit.proofs.walk.audit_leaves.Reads as audit-leaves-reads
 use Rattle.access.proofs.pages.page_at.Reads as page-at-reads
 use Rattle.fit.proofs.contexts.context_below.Reads as context-below-reads
 use Rattle.fit.proofs.tree_page.page_fit.Reads as page-fit-reads
@@ -72,6 +73,8 @@ abbrev μ-loop : audit-page-lts.MeasureT-loop
 
 -- an entry more
 more : (t : ℕ) → audit-page-lts.Need-loop-again (
+  audit-leaves-reads.Asked,
+  audit-leaves-reads.Learnt,
   page-at-reads.Asked,
   page-at-reads.Learnt,
   entry-count-reads.Asked,
@@ -117,24 +120,19 @@ pub +audit-entry+audit-page-spec : {M : Type 1} → statement M
     let fit = c .before in
     page-unfit _ _ _ _ _ (tested _ _ _ _ _ (fit .before .page-at2 .ensures) (fit .page-fit .ensures) (not-true _ (c .if1 .taken)))
     ∙ found t (fit .before .before) .counted)
-    (λ c.
-    let tested-fit = c .before .before in
-    let fit = tested-fit .before in
-    leaf-counted _ _ _ _ _ (c .if2 .taken)
-    (tested _ _ _ _ _ (fit .before .page-at2 .ensures) (fit .page-fit .ensures) (not-false _ (tested-fit .if1 .left)))
-    ∙ found t (fit .before .before) .counted)
     (λ c κs.
-    let tested-fit = c .before .before in
-    let fit = tested-fit .before in
+    let fit = c .before in
     let child = fit .before .before in
     let start = child .before .before .before .before in
     let b = found t child in (
       omega (arith, start .pre .0, start .pre .1 .1 .level, b .level),
-      (b .standing, tested _ _ _ _ _ (fit .before .page-at2 .ensures) (fit .page-fit .ensures) (not-false _ (tested-fit .if1 .left))),
+      (b .standing, tested _ _ _ _ _ (fit .before .page-at2 .ensures) (fit .page-fit .ensures) (not-false _ (c .if1 .left))),
     ))
-    (λ c. let fit = c .before .before .before .before in c .audit-page .ensures ∙ found t (fit .before .before) .counted))
+    (λ c. let fit = c .before .before in c .audit-page .ensures ∙ found t (fit .before .before) .counted))
     (λ t.
     audit-page-lts.spec (
+      audit-leaves-reads.Asked,
+      audit-leaves-reads.Learnt,
       page-at-reads.Asked,
       page-at-reads.Learnt,
       entry-count-reads.Asked,
@@ -145,21 +143,23 @@ pub +audit-entry+audit-page-spec : {M : Type 1} → statement M
     (λ c.
     let start = c .before .before .before in
     leaf-counted _ _ _ _ _ (c .if1 .taken) (start .pre .1 .1))
-    (λ c κs. let start = c .before .before .before in standing-within (start .pre .1 .0))
+    (λ c κs. let start = c .before .before .before .before .before in (start .pre .1 .0, (start .pre .1 .1, c .if2 .taken)))
+    (λ c. c .audit-leaves .ensures)
+    (λ c κs. let start = c .before .before .before .before .before in standing-within (start .pre .1 .0))
     (λ c κs.
-    let start = c .before .before .before .before in
+    let start = c .before .before .before .before .before .before in
     omega (arith, standing-size (start .pre .1 .0) (c .page-at .ensures)))
     (λ c. search needs)
     (λ c.
     let lend = c .before in
-    let inner = lend .before in
+    let inner = lend .before .before .before in
     let start = inner .before .before .before in
     passing-none (start .pre .1 .0) (omega (arith, inner .if1 .left)) (start .pre .1 .1)
     (c .entry-count .ensures ∙ ap entry-count (lend .page-at .ensures)))
     (λ c κs.
     let inv = c .before .loop .inv in
     let lend = c .before .before .before in
-    let start = lend .before .before .before .before in
+    let start = lend .before .before .before .before .before .before in
     (omega (arith, start .pre .0), (inv .standing, passing-inner inv (c .loop-test .taken))))
     (λ c. search needs) (λ c. search needs)
     (λ c.
