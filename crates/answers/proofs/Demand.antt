@@ -22,7 +22,7 @@ use Rattle.image.specs.Images.{half-of, page-at, pages-in, length-ok, image-of}
 use Rattle.image.specs.Sound.{sound}
 use Rattle.image.specs.Instant.{look-up}
 use Rattle.steps.specs.Change.{lacks-pages}
-use Rattle.calls.specs.Refusals.{first, scratch-ok, cleared, scratch-after}
+use Rattle.calls.specs.Refusals.{first, borrowed, scratch-ok, cleared, scratch-after}
 use Rattle.calls.specs.Changes.{Side, withdraws}
 use Rattle.calls.specs.Calls.{Booked, Instant, Averaged, Listed, Audited}
 use Rattle.calls.specs.Calls.{head, head-ok, book-input-rows, book-status, book, instant, instant-status, average-at, listing}
@@ -96,21 +96,21 @@ never-beyond half t img = go (eqb (instant half t img .status) 0) refl
 
 module _ (half : ℕ) where
   book-leaves : (side : Side) (v : ℤ) (s e : ℕ) (img scratch : List ℕ)
-      → book half side v s e img scratch .scratch
-      ≡ cond (untouched-at (book half side v s e img scratch .status)) scratch (cleared (pages-in half img) scratch)
+      → book borrowed half side v s e img scratch .scratch
+      ≡ cond (untouched-at (book borrowed half side v s e img scratch .status)) scratch (cleared borrowed (pages-in half img) scratch)
   unfolding book book-input-rows book-status scratch-after
   book-leaves side v s e img scratch =
-      book-scratch (not (length-ok half img)) (not (scratch-ok (pages-in half img) scratch)) (not (span-ok s e)) (not (value-ok v))
+      book-scratch (not (length-ok half img)) (not (scratch-ok borrowed (pages-in half img) scratch)) (not (span-ok s e)) (not (value-ok v))
       (not (sound half img)) (withdraws side && not (eqb (head half img .kind) 1)) (eqb (head half img .changes) most-changes)
-      (lacks-pages half s (effect-end e (head half img .window)) (image-of half img)) scratch (cleared (pages-in half img) scratch)
+      (lacks-pages half s (effect-end e (head half img .window)) (image-of half img)) scratch (cleared borrowed (pages-in half img) scratch)
 
   audit-leaves : (img scratch : List ℕ)
-      → audit half img scratch .scratch
-      ≡ cond (untouched-at (audit half img scratch .status)) scratch (cleared (pages-in half img) scratch)
+      → audit borrowed half img scratch .scratch
+      ≡ cond (untouched-at (audit borrowed half img scratch .status)) scratch (cleared borrowed (pages-in half img) scratch)
   unfolding audit audit-input-rows scratch-after
   audit-leaves img scratch =
-      audit-scratch (not (length-ok half img)) (not (scratch-ok (pages-in half img) scratch)) (not (sound half img)) scratch
-      (cleared (pages-in half img) scratch)
+      audit-scratch (not (length-ok half img)) (not (scratch-ok borrowed (pages-in half img) scratch)) (not (sound half img)) scratch
+      (cleared borrowed (pages-in half img) scratch)
 
 module _ (img : List ℕ) where
   -- behind the rows ahead it goes by the status alone
@@ -132,16 +132,18 @@ module _ (img : List ℕ) where
   scratch-left : {A : Type 0} (refused call : ℕ → A) (status : A → ℕ) (left : A → List ℕ) (scratch : List ℕ)
       → status (refused (judge img)) ≡ judge img
       → left (refused (judge img)) ≡ scratch
-      → left (call (half-of img)) ≡ cond (untouched-at (status (call (half-of img)))) scratch (cleared (pages-in (half-of img) img) scratch)
+      → left (call (half-of img))
+      ≡ cond (untouched-at (status (call (half-of img)))) scratch (cleared borrowed (pages-in (half-of img) img) scratch)
       → left (judged refused call img)
-      ≡ cond (keeps-scratch img (status (judged refused call img))) scratch (cleared (pages-in (half-of img) img) scratch)
+      ≡ cond (keeps-scratch img (status (judged refused call img))) scratch (cleared borrowed (pages-in (half-of img) img) scratch)
   scratch-left refused call status left scratch told same leaves =
       by-judge refused call img
-      (λ r. left r ≡ cond (keeps-scratch img (status r)) scratch (cleared (pages-in (half-of img) img) scratch))
+      (λ r. left r ≡ cond (keeps-scratch img (status r)) scratch (cleared borrowed (pages-in (half-of img) img) scratch))
       (λ g. leaves
-      ∙ ap (λ b. cond b scratch (cleared (pages-in (half-of img) img) scratch)) (sym (goes-by-status g (status (call (half-of img))))))
+      ∙ ap (λ b. cond b scratch (cleared borrowed (pages-in (half-of img) img) scratch))
+      (sym (goes-by-status g (status (call (half-of img))))))
       (λ n. same
-      ∙ ap (λ b. cond b scratch (cleared (pages-in (half-of img) img) scratch)) (sym (ap (keeps-scratch img) told ∙ kept-ahead n)))
+      ∙ ap (λ b. cond b scratch (cleared borrowed (pages-in (half-of img) img) scratch)) (sym (ap (keeps-scratch img) told ∙ kept-ahead n)))
 
 -- ---- all of it
 
@@ -160,10 +162,10 @@ demand-1 =
           by-judge _ (λ half. listing half a b img out) img (λ (r : Listed). r .status ≢ 0 → (r .output ≡ out) × (r .runs ≡ 0))
           (λ g n. (kept _ _ out n, kept _ _ 0 n)) (λ r n. (refl, refl));
       of-scratch = λ side v s e img scratch. (
-        scratch-left img _ (λ half. book half side v s e img scratch) (λ (b : Booked). b .status) (λ (b : Booked). b .scratch) scratch refl
-            refl (book-leaves (half-of img) side v s e img scratch),
-        scratch-left img _ (λ half. audit half img scratch) (λ (a : Audited). a .status) (λ (a : Audited). a .scratch) scratch refl refl
-            (audit-leaves (half-of img) img scratch),
+        scratch-left img _ (λ half. book borrowed half side v s e img scratch) (λ (b : Booked). b .status) (λ (b : Booked). b .scratch)
+            scratch refl refl (book-leaves (half-of img) side v s e img scratch),
+        scratch-left img _ (λ half. audit borrowed half img scratch) (λ (a : Audited). a .status) (λ (a : Audited). a .scratch) scratch
+            refl refl (audit-leaves (half-of img) img scratch),
       );
       of-pages = λ t img.
           by-judge _ (λ half. instant half t img) img

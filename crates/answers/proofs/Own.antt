@@ -15,6 +15,7 @@ use Rattle.image.specs.Sound.{sound}
 use Rattle.image.proofs.Sizes.{sized}
 use Rattle.image.proofs.Capacity.{Half, own-half, fit-half}
 use Rattle.soundness.proofs.Sound.{sound-whole, sound-facts}
+use Rattle.calls.specs.Refusals.{borrowed}
 use Rattle.calls.specs.Changes.{Side}
 use Rattle.calls.specs.Calls.{book, instant, average-at, listing, audit}
 use Rattle.calls.specs.Index.{names-capacity, judge, judged, index-book, index-instant, index-average, index-listing, index-audit}
@@ -42,9 +43,10 @@ module _ {half : ℕ} {img : List ℕ} (o : Own half img) where
   own : {A : Type 0} (refused call : ℕ → A) → judged refused call img ≡ call half
   own refused call = judged-own refused call img (o .passes) ∙ ap call (o .named .is)
 
-  pub own-book : (side : Side) (v : ℤ) (s e : ℕ) (scratch : List ℕ) → index-book side v s e img scratch ≡ book half side v s e img scratch
+  pub own-book : (side : Side) (v : ℤ) (s e : ℕ) (scratch : List ℕ)
+      → index-book side v s e img scratch ≡ book borrowed half side v s e img scratch
   unfolding index-book
-  own-book side v s e scratch = own _ (λ half. book half side v s e img scratch)
+  own-book side v s e scratch = own _ (λ half. book borrowed half side v s e img scratch)
 
   pub own-instant : (t : ℕ) → index-instant t img ≡ instant half t img
   unfolding index-instant
@@ -58,6 +60,6 @@ module _ {half : ℕ} {img : List ℕ} (o : Own half img) where
   unfolding index-listing
   own-listing a b out = own _ (λ half. listing half a b img out)
 
-  pub own-audit : (scratch : List ℕ) → index-audit img scratch ≡ audit half img scratch
+  pub own-audit : (scratch : List ℕ) → index-audit img scratch ≡ audit borrowed half img scratch
   unfolding index-audit
-  own-audit scratch = own _ (λ half. audit half img scratch)
+  own-audit scratch = own _ (λ half. audit borrowed half img scratch)

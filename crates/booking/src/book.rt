@@ -3,11 +3,11 @@ use crate::StateCheck;
 use crate::changes::make_change;
 use crate::input::check_input;
 use crate::state::check_state;
-use access::lengths::page_count;
 use calls::refusals::ACCEPTED;
-use fields::fill::fill;
+use scratch::clear_scratch;
 ghost use mathlib.Core.Path.{_≡_};
 ghost use Prim.Native.Nat.{_≤_};
+ghost use Rattle.calls.specs.Refusals.{borrowed};
 ghost use Rattle.calls.specs.Calls.{book};
 ghost use Rattle.booking.specs.Sides.{side-of};
 
@@ -24,13 +24,13 @@ pub fn book(
 ) -> u32
     requires { ⌜ (2 ≤ half) × (half ≤ 12) ⌝ }
     ensures { λ r. ⌜ record { status = r; image = now (img .exit); scratch = now (scratch .exit) }
-        ≡ book half (side-of withdraws) v s e (now (img .entry)) (now (scratch .entry)) ⌝ }
+        ≡ book borrowed half (side-of withdraws) v s e (now (img .entry)) (now (scratch .entry)) ⌝ }
 {
     let status = check_input(half, img, scratch, v, s, e);
     if status != ACCEPTED {
         return status;
     }
-    fill(scratch, 0, page_count(half, img), 0);
+    clear_scratch(half, img, scratch);
     match check_state(half, img, withdraws, s, e) {
         StateCheck::Refused(row) => row,
         StateCheck::Accepted(h) => {

@@ -8,7 +8,7 @@ use native.Mathlib.Omega.{arith}
 use lib.ListN.{length, length-append, replicate}
 use lib.IntN.{pos}
 use Rattle.rule.specs.Time.{END}
-use Rattle.calls.specs.Refusals.{first, scratch-ok}
+use Rattle.calls.specs.Refusals.{first, borrowed, scratch-ok}
 use Rattle.calls.specs.Changes.{entering, withdrawing, Change}
 use Rattle.calls.specs.Calls.{Booked, head}
 use Rattle.calls.specs.Index.{index-book}
@@ -45,7 +45,7 @@ a-day =
 -- whatever the scratch, 3 on [20, 50) is refused on what the first booking left
 refused-booking : (scratch : List ℕ) → index-book entering (pos 3) 20 50 after-one scratch .status ≢ 0
 unfolding every-call fresh-image after-one
-refused-booking scratch = go (scratch-ok 2 scratch)
+refused-booking scratch = go (scratch-ok borrowed 2 scratch)
   where
     go : (x : Bool) → first ((17, not x) ∷ (24, true) ∷ []) ≢ 0
     go true e = omega arith

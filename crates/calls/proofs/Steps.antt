@@ -11,6 +11,7 @@ use borrow.Author.Tests.{ne-eqb}
 use Rattle.lists.proofs.Choices.{cond-one}
 use Rattle.page.specs.Layout.{capacity-ok}
 use Rattle.image.specs.Images.{half-of, pages-in, image-bytes, fresh}
+use Rattle.calls.specs.Refusals.{borrowed}
 use Rattle.calls.specs.Changes.{Side, Change}
 use Rattle.calls.specs.Calls.{Formatted, Booked, format, changed, book}
 use Rattle.calls.specs.Index.{index-format, index-book}
@@ -31,16 +32,16 @@ abbrev pub Keeps : List ℕ → ℕ → List ℕ → Type 0
 Keeps img number after = number ≢ 0 → after ≡ img
 
 pub book-keeps : (half : ℕ) (side : Side) (v : ℤ) (s e : ℕ) (img scratch : List ℕ)
-    → Keeps img (book half side v s e img scratch .status) (book half side v s e img scratch .image)
+    → Keeps img (book borrowed half side v s e img scratch .status) (book borrowed half side v s e img scratch .image)
 unfolding book
 book-keeps half side v s e img scratch n =
-    ap (λ x. cond x (changed half side v s e img) img) (ne-eqb (book half side v s e img scratch .status) 0 n)
+    ap (λ x. cond x (changed half side v s e img) img) (ne-eqb (book borrowed half side v s e img scratch .status) 0 n)
 
 pub index-book-keeps : (side : Side) (v : ℤ) (s e : ℕ) (img scratch : List ℕ) → index-book side v s e img scratch .status ≢ 0
     → index-book side v s e img scratch .image ≡ img
 unfolding index-book
 index-book-keeps side v s e img scratch =
-    by-judge _ (λ half. book half side v s e img scratch) img (λ (b : Booked). Keeps img (b .status) (b .image))
+    by-judge _ (λ half. book borrowed half side v s e img scratch) img (λ (b : Booked). Keeps img (b .status) (b .image))
     (λ g. book-keeps (half-of img) side v s e img scratch) (λ r n. refl)
 
 format-keeps : (half kind window field : ℕ) (img : List ℕ)

@@ -64,7 +64,7 @@ module _ (half : ℕ) (img : List ℕ) where
       (w .long ∙ ap (λ k. page-size half * k) (sym e), (omega (arith, w .least), omega (arith, w .most))))
       (both (is-equal _ _) (both (is-most 2 _) (is-most _ 1024)))
 
-  scratch-short : (scratch : List ℕ) → Reflects (length scratch < pages-in half img) (not (scratch-ok (pages-in half img) scratch))
+  scratch-short : (scratch : List ℕ) → Reflects (length scratch < pages-in half img) (not (scratch-ok borrowed (pages-in half img) scratch))
   unfolding scratch-ok borrowed
   scratch-short scratch = is-above (pages-in half img) (length scratch)
 
@@ -123,7 +123,7 @@ named-by-head half img f = fit-half half (pages-in half img) img f .named
 
 module _ (half : ℕ) where
   book-tested : (side : Side) (v : ℤ) (s e : ℕ) (img scratch : List ℕ)
-      → Exactly (book-cases half side v s e img scratch) (book half side v s e img scratch .status)
+      → Exactly (book-cases half side v s e img scratch) (book borrowed half side v s e img scratch .status)
   unfolding book-cases book book-status book-input-rows head first
   book-tested side v s e img scratch =
       (next-row 16 (is-not (whole-pages half img))
@@ -150,7 +150,7 @@ module _ (half : ℕ) where
       (next-row 21 (meets-unfit half img (listing-trail half a b img) (walk-over half img a b .fit) (walk-over-fit half img a b))
       (next-row 15 (is-less _ _) no-row)))) .exactly
 
-  audit-tested : (img scratch : List ℕ) → Exactly (audit-cases half img scratch) (audit half img scratch .status)
+  audit-tested : (img scratch : List ℕ) → Exactly (audit-cases half img scratch) (audit borrowed half img scratch .status)
   unfolding audit-cases audit audit-input-rows first
   audit-tested img scratch =
       (next-row 16 (is-not (whole-pages half img))
@@ -265,7 +265,7 @@ turned-back =
       of-format = format-tested;
       of-format-before = λ kind window img. format-tested-before 12 kind window no-field img;
       of-booking = λ side v s e img scratch.
-          judged-tested _ (λ half. book half side v s e img scratch) (λ (b : Booked). b .status) img refl _
+          judged-tested _ (λ half. book borrowed half side v s e img scratch) (λ (b : Booked). b .status) img refl _
           (book-tested (half-of img) side v s e img scratch);
       of-instant = λ t img.
           judged-tested _ (λ half. instant half t img) (λ (r : Instant). r .status) img refl _ (instant-tested (half-of img) t img);
@@ -275,5 +275,5 @@ turned-back =
       of-listing = λ a b img out.
           judged-tested _ (λ half. listing half a b img out) (λ (r : Listed). r .status) img refl _ (listing-tested (half-of img) a b img out);
       of-audit = λ img scratch.
-          judged-tested _ (λ half. audit half img scratch) (λ (r : Audited). r .status) img refl _ (audit-tested (half-of img) img scratch);
+          judged-tested _ (λ half. audit borrowed half img scratch) (λ (r : Audited). r .status) img refl _ (audit-tested (half-of img) img scratch);
     }

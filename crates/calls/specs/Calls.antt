@@ -1,6 +1,6 @@
 -- Every call of document 01 as a function of its inputs: the status returned (document 01's number), the answer, and every byte of image,
 -- output and scratch afterwards, on every image and argument. Over half the capacity of a page; where a call has that from is Index.antt.
--- Assumes nothing.
+-- Calls that take a scratch are over how many bytes of it they borrow for n pages. Assumes nothing.
 use Prim.Native.Nat.{ℕ, _*_}
 use mathlib.Core.Bool.{Bool, cond, not, _&&_}
 use mathlib.Core.List.{List, [], _∷_, _++_}
@@ -58,15 +58,6 @@ pub record Booked : Type 0 where
   pub image : List ℕ
   pub scratch : List ℕ
 
--- the rows before it goes to work on its image
-unfoldable pub book-input-rows : ℕ → ℤ → ℕ → ℕ → List ℕ → List ℕ → List Row
-book-input-rows half v s e img scratch =
-    (16, not (length-ok half img))
-    ∷ (17, not (scratch-ok (pages-in half img) scratch))
-    ∷ (11, not (span-ok s e))
-    ∷ (13, not (value-ok v))
-    ∷ []
-
 -- "Turned back by the state": the rows that need the whole image
 abbrev pub book-state-rows : ℕ → Side → ℕ → ℕ → List ℕ → List Row
 book-state-rows half side s e img =
@@ -77,25 +68,35 @@ book-state-rows half side s e img =
     ∷ (24, lacks-pages half s (effect-end e (h .window)) (image-of half img))
     ∷ []
 
--- the status of a booking, document 01's number: that of the first row that turns it back, else 0
-unfoldable pub book-status : ℕ → Side → ℤ → ℕ → ℕ → List ℕ → List ℕ → ℕ
-book-status half side v s e img scratch = first (book-input-rows half v s e img scratch ++ book-state-rows half side s e img)
-
 -- the image that an accepted change leaves
 unfoldable pub changed : ℕ → Side → ℤ → ℕ → ℕ → List ℕ → List ℕ
 changed half side v s e img =
     let h = head half img in
     image-bytes half (change half (combine (h .kind)) s (effect-end e (h .window)) (effect side v) (image-of half img))
 
-unfoldable pub book : ℕ → Side → ℤ → ℕ → ℕ → List ℕ → List ℕ → Booked
-book half side v s e img scratch =
-    let number = book-status half side v s e img scratch in
-    let done = changed half side v s e img in
-    record {
-      status = number;
-      image = cond (eqb number 0) done img;
-      scratch = scratch-after (book-input-rows half v s e img scratch) (pages-in half img) scratch;
-    }
+module _ (bytes-for : ℕ → ℕ) where
+  -- the rows before it goes to work on its image
+  unfoldable pub book-input-rows : ℕ → ℤ → ℕ → ℕ → List ℕ → List ℕ → List Row
+  book-input-rows half v s e img scratch =
+      (16, not (length-ok half img))
+      ∷ (17, not (scratch-ok bytes-for (pages-in half img) scratch))
+      ∷ (11, not (span-ok s e))
+      ∷ (13, not (value-ok v))
+      ∷ []
+
+  -- the status of a booking, document 01's number: that of the first row that turns it back, else 0
+  unfoldable pub book-status : ℕ → Side → ℤ → ℕ → ℕ → List ℕ → List ℕ → ℕ
+  book-status half side v s e img scratch = first (book-input-rows half v s e img scratch ++ book-state-rows half side s e img)
+
+  unfoldable pub book : ℕ → Side → ℤ → ℕ → ℕ → List ℕ → List ℕ → Booked
+  book half side v s e img scratch =
+      let number = book-status half side v s e img scratch in
+      let done = changed half side v s e img in
+      record {
+        status = number;
+        image = cond (eqb number 0) done img;
+        scratch = scratch-after bytes-for (book-input-rows half v s e img scratch) (pages-in half img) scratch;
+      }
 
 -- Instant
 
@@ -178,14 +179,15 @@ pub record Audited : Type 0 where
   pub status : ℕ
   pub scratch : List ℕ
 
--- the rows before it goes to work on its image
-unfoldable pub audit-input-rows : ℕ → List ℕ → List ℕ → List Row
-audit-input-rows half img scratch =
-    (16, not (length-ok half img)) ∷ (17, not (scratch-ok (pages-in half img) scratch)) ∷ []
+module _ (bytes-for : ℕ → ℕ) where
+  -- the rows before it goes to work on its image
+  unfoldable pub audit-input-rows : ℕ → List ℕ → List ℕ → List Row
+  audit-input-rows half img scratch =
+      (16, not (length-ok half img)) ∷ (17, not (scratch-ok bytes-for (pages-in half img) scratch)) ∷ []
 
-unfoldable pub audit : ℕ → List ℕ → List ℕ → Audited
-audit half img scratch =
-    record {
-      status = first (audit-input-rows half img scratch ++ ((21, not (sound half img)) ∷ []));
-      scratch = scratch-after (audit-input-rows half img scratch) (pages-in half img) scratch;
-    }
+  unfoldable pub audit : ℕ → List ℕ → List ℕ → Audited
+  audit half img scratch =
+      record {
+        status = first (audit-input-rows half img scratch ++ ((21, not (sound half img)) ∷ []));
+        scratch = scratch-after bytes-for (audit-input-rows half img scratch) (pages-in half img) scratch;
+      }

@@ -17,7 +17,7 @@ use Rattle.fields.specs.Bytes.{Bytes}
 use Rattle.page.specs.Fit.{most-changes}
 use Rattle.image.specs.Images.{capacity-field, half-of, pages-in}
 use Rattle.image.specs.Sound.{sound}
-use Rattle.calls.specs.Refusals.{first, scratch-ok, cleared}
+use Rattle.calls.specs.Refusals.{first, borrowed, scratch-ok, cleared}
 use Rattle.calls.specs.Changes.{Side, entering, withdrawing, withdraws, Change}
 use Rattle.calls.specs.Calls.{head}
 use Rattle.calls.specs.Index.{names-capacity, index-format, index-book, index-instant, index-average, index-listing, index-audit}
@@ -56,9 +56,9 @@ pub record Demand-1 : Type 0 where
   pub of-scratch :
       (side : Side) (v : ℤ) (s e : ℕ) (img scratch : List ℕ)
       → (index-book side v s e img scratch .scratch
-      ≡ cond (keeps-scratch img (index-book side v s e img scratch .status)) scratch (cleared (pages-in (half-of img) img) scratch))
+      ≡ cond (keeps-scratch img (index-book side v s e img scratch .status)) scratch (cleared borrowed (pages-in (half-of img) img) scratch))
       × (index-audit img scratch .scratch
-      ≡ cond (keeps-scratch img (index-audit img scratch .status)) scratch (cleared (pages-in (half-of img) img) scratch))
+      ≡ cond (keeps-scratch img (index-audit img scratch .status)) scratch (cleared borrowed (pages-in (half-of img) img) scratch))
   -- "It reports the tree pages read: the height if answered, or if a page is unfit, the pages up to and including it (0 for the
   -- head and at other refusals)."
   pub of-pages :
@@ -87,7 +87,7 @@ pub record Demand-2 (kind window : ℕ) (img : List ℕ) (cs : List Change) : Ty
 unfoldable pub fixed-status : ℕ → Side → ℤ → ℕ → ℕ → List ℕ → Book → ℕ
 fixed-status pages side v s e scratch B =
     first
-    ((17, not (scratch-ok pages scratch))
+    ((17, not (scratch-ok borrowed pages scratch))
     ∷ (11, not (span-ok s e))
     ∷ (13, not (value-ok v))
     ∷ (22, withdraws side && not (eqb (B .kind) 1))
@@ -108,7 +108,7 @@ pub record As-the-book (img : List ℕ) (B : Book) : Type 0 where
   -- them and keeps the rest"; and so the full one: "The full listing is that over [0, END)."
   pub listings : (a b : ℕ) (out : List ℕ) → index-listing a b img out ≡ listing-of (book-pair B) a b out
   -- "an audit 17 if its scratch is too short, else 0"
-  pub audits : (scratch : List ℕ) → index-audit img scratch .status ≡ first ((17, not (scratch-ok (pages-in (half-of img) img) scratch)) ∷ [])
+  pub audits : (scratch : List ℕ) → index-audit img scratch .status ≡ first ((17, not (scratch-ok borrowed (pages-in (half-of img) img) scratch)) ∷ [])
   -- a booking the status that is fixed, but where the pages may be too few
   pub bookings :
       (side : Side) (v : ℤ) (s e : ℕ) (scratch : List ℕ)

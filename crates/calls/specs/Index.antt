@@ -12,7 +12,7 @@ use Rattle.rule.specs.Pairs.{none}
 use Rattle.page.specs.Layout.{capacity-ok, capacity-named, no-field}
 use Rattle.image.specs.Images.{capacity-field, half-of}
 use Rattle.calls.specs.Changes.{Side}
-use Rattle.calls.specs.Refusals.{first}
+use Rattle.calls.specs.Refusals.{first, borrowed}
 use Rattle.calls.specs.Calls.{Formatted, Booked, Instant, Averaged, Listed, Audited, format, book, instant, average-at, listing, audit}
 
 -- the field names a capacity
@@ -39,7 +39,7 @@ format-before kind window img = format 12 kind window no-field img
 
 unfoldable pub index-book : Side → ℤ → ℕ → ℕ → List ℕ → List ℕ → Booked
 index-book side v s e img scratch =
-    judged (λ number. record { status = number; image = img; scratch = scratch }) (λ half. book half side v s e img scratch) img
+    judged (λ number. record { status = number; image = img; scratch = scratch }) (λ half. book borrowed half side v s e img scratch) img
 
 unfoldable pub index-instant : ℕ → List ℕ → Instant
 index-instant t img = judged (λ number. record { status = number; pair = none; pages = 0 }) (λ half. instant half t img) img
@@ -51,4 +51,4 @@ unfoldable pub index-listing : ℕ → ℕ → List ℕ → List ℕ → Listed
 index-listing a b img out = judged (λ number. record { status = number; runs = 0; output = out }) (λ half. listing half a b img out) img
 
 unfoldable pub index-audit : List ℕ → List ℕ → Audited
-index-audit img scratch = judged (λ number. record { status = number; scratch = scratch }) (λ half. audit half img scratch) img
+index-audit img scratch = judged (λ number. record { status = number; scratch = scratch }) (λ half. audit borrowed half img scratch) img

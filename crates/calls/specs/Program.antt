@@ -12,6 +12,7 @@ use Rattle.rule.specs.Time.{END}
 use Rattle.rule.specs.Averages.{average}
 use Rattle.page.specs.Layout.{capacity, page-size}
 use Rattle.image.specs.Listing.{Run}
+use Rattle.calls.specs.Refusals.{borrowed}
 use Rattle.calls.specs.Changes.{Side, entering, withdrawing}
 use Rattle.calls.specs.Calls.{format, book, runs-over}
 
@@ -138,7 +139,7 @@ pub record Ran : Type 0 where
 unfoldable pub ran-line : ℕ → ℕ → ℕ → Line → List ℕ → Ran
 ran-line half pages k unread img = record { written = unread-text k; image = img }
 ran-line half pages k (booking side v s e) img =
-    let r = book half side v s e img (replicate pages 0) in
+    let r = book borrowed half side v s e img (replicate pages 0) in
     record { written = cond (eqb (r .status) 0) [] (refused-text k (r .status)); image = r .image }
 
 unfoldable pub ran-lines : ℕ → ℕ → ℕ → List (List ℕ) → List ℕ → Ran

@@ -22,14 +22,16 @@ first (r ∷ rows) =
 unfoldable pub borrowed : ℕ → ℕ
 borrowed pages = pages
 
-unfoldable pub scratch-ok : ℕ → List ℕ → Bool
-scratch-ok pages scratch = leb (borrowed pages) (length scratch)
+-- Over how many bytes a call borrows of its scratch for n pages: in the index as many as `borrowed` says.
+module _ (bytes-for : ℕ → ℕ) where
+  unfoldable pub scratch-ok : ℕ → List ℕ → Bool
+  scratch-ok pages scratch = leb (bytes-for pages) (length scratch)
 
--- "those n bytes are 0 afterwards, any beyond keep theirs"
-unfoldable pub cleared : ℕ → List ℕ → List ℕ
-cleared pages scratch = patch scratch 0 (replicate (borrowed pages) 0)
+  -- "those n bytes are 0 afterwards, any beyond keep theirs"
+  unfoldable pub cleared : ℕ → List ℕ → List ℕ
+  cleared pages scratch = patch scratch 0 (replicate (bytes-for pages) 0)
 
--- "scratch is untouched at 16 and 17, also at 11 and 13, else its n bytes are 0": at the rows of a call that stand before it goes
--- to work on its image
-unfoldable pub scratch-after : List Row → ℕ → List ℕ → List ℕ
-scratch-after early pages scratch = cond (eqb (first early) 0) (cleared pages scratch) scratch
+  -- "scratch is untouched at 16 and 17, also at 11 and 13, else its n bytes are 0": at the rows of a call that stand before it goes
+  -- to work on its image
+  unfoldable pub scratch-after : List Row → ℕ → List ℕ → List ℕ
+  scratch-after early pages scratch = cond (eqb (first early) 0) (cleared pages scratch) scratch

@@ -13,6 +13,7 @@ use Rattle.rule.specs.Pairs.{combine}
 use Rattle.rule.proofs.Window.{covers-is}
 use Rattle.image.specs.Sound.{sound}
 use Rattle.image.specs.Instant.{look-up}
+use Rattle.calls.specs.Refusals.{borrowed}
 use Rattle.calls.specs.Changes.{Side, effect}
 use Rattle.image.specs.Images.{half-of}
 use Rattle.calls.specs.Calls.{Booked, Instant, head, book, instant}
@@ -96,7 +97,7 @@ module _ {half : ℕ} (side : Side) (v : ℤ) (s e : ℕ) {img img′ : List ℕ
 pub every-change : Every-change
 unfolding Every-change index-book
 every-change side v s e img scratch b =
-    by-judge _ (λ half. book half side v s e img scratch) img
+    by-judge _ (λ half. book borrowed half side v s e img scratch) img
     (λ (r : Booked). r .status ≡ 0 → Accepted-change (half-of img) side v s e img (r .image))
     (λ g n.
     let two = judged-half img g .named .least in

@@ -18,7 +18,7 @@ use Rattle.image.specs.Sound.{sound}
 use Rattle.image.specs.Instant.{look-up}
 use Rattle.steps.specs.Change.{lacks-pages}
 use Rattle.calls.specs.Changes.{Side, withdraws}
-use Rattle.calls.specs.Refusals.{first, scratch-ok}
+use Rattle.calls.specs.Refusals.{first, borrowed, scratch-ok}
 use Rattle.calls.specs.Calls.{head, book-input-rows, book-status, book, instant-status, instant, average-at, audit-input-rows, audit}
 use Rattle.calls.specs.Calls.{Instant, listing}
 use Rattle.calls.specs.Index.{index-book, index-instant, index-average, index-listing, index-audit}
@@ -72,12 +72,12 @@ module _ {half : ℕ} {img : List ℕ} {B : Book} (K : Trace-invariant half img 
   passes-16 = ap not (sound-whole half img (K .sound))
 
   booking-is : (side : Side) (v : ℤ) (s e : ℕ) (scratch : List ℕ)
-      → let number = book half side v s e img scratch .status in
+      → let number = book borrowed half side v s e img scratch .status in
       let fixed = fixed-status (pages-in half img) side v s e scratch B in
       (number ≡ fixed) ⊎ ((fixed ≡ 0) × (number ≡ 24))
   unfolding book book-status book-input-rows fixed-status
   booking-is side v s e scratch =
-      numbers (not (scratch-ok (pages-in half img) scratch)) (not (span-ok s e)) (not (value-ok v))
+      numbers (not (scratch-ok borrowed (pages-in half img) scratch)) (not (span-ok s e)) (not (value-ok v))
       (withdraws side && not (eqb (B .kind) 1))
       (eqb (length (B .items)) most-changes) (lacks-pages half s (effect-end e (head half img .window)) (image-of half img))
       passes-16 (ap not (K .sound)) (ap (λ k. withdraws side && not (eqb k 1)) (K .kind)) (ap (λ n. eqb n most-changes) (K .changes))
@@ -109,9 +109,10 @@ module _ {half : ℕ} {img : List ℕ} {B : Book} (K : Trace-invariant half img 
 
   -- ---- an audit
 
-  audit-is : (scratch : List ℕ) → audit half img scratch .status ≡ first ((17, not (scratch-ok (pages-in half img) scratch)) ∷ [])
+  audit-is : (scratch : List ℕ)
+      → audit borrowed half img scratch .status ≡ first ((17, not (scratch-ok borrowed (pages-in half img) scratch)) ∷ [])
   unfolding audit audit-input-rows
-  audit-is scratch = first-off 16 _ passes-16 ∙ go (not (scratch-ok (pages-in half img) scratch))
+  audit-is scratch = first-off 16 _ passes-16 ∙ go (not (scratch-ok borrowed (pages-in half img) scratch))
     where
       go : (x : Bool) → first ((17, x) ∷ (21, not (sound half img)) ∷ []) ≡ first ((17, x) ∷ [])
       go true = unfold first in refl
@@ -148,7 +149,7 @@ module _ {half : ℕ} {img : List ℕ} {B : Book} (K : Trace-invariant half img 
       rw (own-book o side v s e scratch, o .named .is) (booking-is side v s e scratch)
 
   audit-told : (scratch : List ℕ)
-      → index-audit img scratch .status ≡ first ((17, not (scratch-ok (pages-in (half-of img) img) scratch)) ∷ [])
+      → index-audit img scratch .status ≡ first ((17, not (scratch-ok borrowed (pages-in (half-of img) img) scratch)) ∷ [])
   audit-told scratch = rw (own-audit o scratch, o .named .is) (audit-is scratch)
 
   pub as-the-book : As-the-book img B

@@ -25,6 +25,7 @@ use Rattle.image.specs.Sound.{sound}
 use Rattle.image.specs.Instant.{Lookup, look-up}
 use Rattle.soundness.proofs.Sound.{the-head, sound-facts}
 use Rattle.steps.specs.Change.{change, change-names}
+use Rattle.calls.specs.Refusals.{borrowed}
 use Rattle.calls.specs.Changes.{Side, effect}
 use Rattle.calls.specs.Calls.{head, changed, book}
 use Rattle.calls.specs.Accepted.{named}
@@ -45,8 +46,8 @@ use Rattle.demands.proofs.Book.Accepted.{Passed, passed}
 
 -- ---- the image that it leaves
 
-image-accepted : (half : ℕ) (side : Side) (v : ℤ) (s e : ℕ) (img scratch : List ℕ) → book half side v s e img scratch .status ≡ 0
-    → book half side v s e img scratch .image ≡ changed half side v s e img
+image-accepted : (half : ℕ) (side : Side) (v : ℤ) (s e : ℕ) (img scratch : List ℕ) → book borrowed half side v s e img scratch .status ≡ 0
+    → book borrowed half side v s e img scratch .image ≡ changed half side v s e img
 unfolding book
 image-accepted half side v s e img scratch n = ap (λ k. cond (eqb k 0) (changed half side v s e img) img) n
 
@@ -188,8 +189,8 @@ module _ {half : ℕ} (two : 2 ≤ half) (side : Side) (v : ℤ) (s e : ℕ) (im
 
 -- by the status that it returned
 pub booked : {half : ℕ} → 2 ≤ half → (side : Side) (v : ℤ) (s e : ℕ) (img scratch : List ℕ) → Bytes img
-    → book half side v s e img scratch .status ≡ 0
-    → Left-by-change half side v s e img (book half side v s e img scratch .image)
+    → book borrowed half side v s e img scratch .status ≡ 0
+    → Left-by-change half side v s e img (book borrowed half side v s e img scratch .image)
 booked {half} two side v s e img scratch b n =
     rw (image-accepted half side v s e img scratch n)
     (change-leaves two side v s e img b (passed half side v s e img scratch n))

@@ -11,6 +11,7 @@ use Rattle.rule.specs.Pairs.{combine}
 use Rattle.fields.specs.Bytes.{Bytes}
 use Rattle.image.specs.Sound.{sound}
 use Rattle.image.specs.Instant.{look-up}
+use Rattle.calls.specs.Refusals.{borrowed}
 use Rattle.calls.specs.Changes.{Side, effect}
 use Rattle.calls.specs.Calls.{head, book}
 use Rattle.calls.specs.Book.{Book, entered, book-pair}
@@ -29,8 +30,8 @@ pub record Trace-invariant (half : ℕ) (img : List ℕ) (B : Book) : Type 0 whe
 
 module _ {half : ℕ} (two : 2 ≤ half) where
   module _ (side : Side) (v : ℤ) (s e : ℕ) {img : List ℕ} (scratch : List ℕ) {B : Book} (K : Trace-invariant half img B) where
-    pub kept-accepted : book half side v s e img scratch .status ≡ 0
-        → Trace-invariant half (book half side v s e img scratch .image) (entered 0 side v s e B)
+    pub kept-accepted : book borrowed half side v s e img scratch .status ≡ 0
+        → Trace-invariant half (book borrowed half side v s e img scratch .image) (entered 0 side v s e B)
     unfolding entered
     kept-accepted n =
         let c = booked two side v s e img scratch (K .bytes) n in

@@ -2,15 +2,16 @@
 use crate::Judged;
 use crate::judge::judge;
 use access::lengths::length_fits;
-use access::lengths::page_count;
 use audit::verdict::sound;
 use calls::refusals::ACCEPTED;
 use calls::refusals::IMAGE_LENGTH;
 use calls::refusals::SCRATCH_SHORT;
 use calls::refusals::UNSOUND;
-use fields::fill::fill;
+use scratch::clear_scratch;
+use scratch::scratch_ok;
 ghost use mathlib.Core.Path.{_≡_};
 ghost use Prim.Native.Nat.{_≤_};
+ghost use Rattle.calls.specs.Refusals.{borrowed};
 ghost use Rattle.calls.specs.Calls.{audit};
 ghost use Rattle.luwhenoka.specs.Promises.{Audits};
 
@@ -18,16 +19,16 @@ ghost use Rattle.luwhenoka.specs.Promises.{Audits};
 // the scratch is only cleared.
 fn audit(half: usize, img: &[u8], scratch: &mut [u8]) -> u32
     requires { ⌜ (2 ≤ half) × (half ≤ 12) ⌝ }
-    ensures { λ r. ⌜ record { status = r; scratch = now (scratch .exit) } ≡ audit half (now (img .entry)) (now (scratch .entry)) ⌝ }
+    ensures { λ r. ⌜ record { status = r; scratch = now (scratch .exit) }
+        ≡ audit borrowed half (now (img .entry)) (now (scratch .entry)) ⌝ }
 {
     if !length_fits(half, img) {
         return IMAGE_LENGTH;
     }
-    let n = page_count(half, img);
-    if scratch.len() < n {
+    if !scratch_ok(half, img, scratch) {
         return SCRATCH_SHORT;
     }
-    fill(scratch, 0, n, 0);
+    clear_scratch(half, img, scratch);
     if sound(half, img) {
         return ACCEPTED;
     }

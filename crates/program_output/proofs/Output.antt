@@ -22,6 +22,7 @@ use Rattle.page.specs.Fit.{root-context, field-ok}
 use Rattle.image.specs.Images.{pages-in}
 use Rattle.image.specs.Listing.{Run, run-bytes, walk-over}
 use Rattle.image.specs.Sound.{sound}
+use Rattle.calls.specs.Refusals.{borrowed}
 use Rattle.calls.specs.Calls.{head, format, book, runs-over, written, listing}
 use Rattle.marks.proofs.Opened.{all-definitions}
 use Rattle.calls.specs.Book.{Book, empty-book}
@@ -58,15 +59,15 @@ same-pages img img′ e = ap (λ n. n / page-size 12) e
 reached-line : (k : ℕ) (l : Line) {img : List ℕ} → Reached img → Reached (ran-line 12 64 k l img .image)
 unfolding ran-line
 reached-line k unread R = R
-reached-line k (booking side v s e) {img} R = step (ℕ-discrete (book 12 side v s e img (replicate 64 0) .status) 0)
+reached-line k (booking side v s e) {img} R = step (ℕ-discrete (book borrowed 12 side v s e img (replicate 64 0) .status) 0)
   where
-    step : Dec (book 12 side v s e img (replicate 64 0) .status ≡ 0) → Reached (book 12 side v s e img (replicate 64 0) .image)
+    step : Dec (book borrowed 12 side v s e img (replicate 64 0) .status ≡ 0) → Reached (book borrowed 12 side v s e img (replicate 64 0) .image)
     step (yes n) =
         let left = booked (omega arith) side v s e img (replicate 64 0) (R .kept .bytes) n in
         record {
           book = _;
           kept = kept-accepted (omega arith) side v s e (replicate 64 0) (R .kept) n;
-          pages = same-pages img (book 12 side v s e img (replicate 64 0) .image) (left .size) ∙ R .pages;
+          pages = same-pages img (book borrowed 12 side v s e img (replicate 64 0) .image) (left .size) ∙ R .pages;
           kind = left .kind ∙ R .kind;
         }
     step (no n) = subst Reached (sym (book-keeps 12 side v s e img (replicate 64 0) n)) R

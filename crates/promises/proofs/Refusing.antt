@@ -10,7 +10,7 @@ use Rattle.rule.specs.declared.Pair.{Pair}
 use Rattle.rule.specs.declared.Average.{Average}
 use Rattle.rule.specs.declared.Average.the-variants.{Hundredths, Nothing, Beyond}
 use Rattle.image.specs.Images.{half-of, pages-in}
-use Rattle.calls.specs.Refusals.{cleared}
+use Rattle.calls.specs.Refusals.{borrowed, cleared}
 use Rattle.calls.specs.Changes.{entering}
 use Rattle.calls.specs.Calls.{Formatted, Booked, Listed, Audited}
 use Rattle.calls.specs.Index.{index-average}
@@ -63,7 +63,7 @@ refusing =
             λ d. ap (λ (b : Booked). b .image) p ∙ d1 .of-booking side v s e img scratch (λ z. d (n ∙ z)),
             ap (λ (b : Booked). b .scratch) p
                 ∙ d1 .of-scratch side v s e img scratch .0
-                ∙ ap (λ k. cond (keeps-scratch img k) scratch (cleared (pages-in (half-of img) img) scratch)) (sym n),
+                ∙ ap (λ k. cond (keeps-scratch img k) scratch (cleared borrowed (pages-in (half-of img) img) scratch)) (sym n),
           );
       of-instant =
           λ t img r p.
@@ -84,5 +84,5 @@ refusing =
           let n = ap (λ (a : Audited). a .status) p in
           ap (λ (a : Audited). a .scratch) p
           ∙ d1 .of-scratch entering (pos 0) 0 0 img scratch .1
-          ∙ ap (λ k. cond (keeps-scratch img k) scratch (cleared (pages-in (half-of img) img) scratch)) (sym n);
+          ∙ ap (λ k. cond (keeps-scratch img k) scratch (cleared borrowed (pages-in (half-of img) img) scratch)) (sym n);
     }

@@ -10,7 +10,7 @@ use Rattle.rule.specs.declared.Average.the-variants.{Nothing}
 use Rattle.rule.specs.Time.{END}
 use Rattle.rule.specs.Averages.{average}
 use Rattle.image.specs.Images.{half-of, pages-in}
-use Rattle.calls.specs.Refusals.{first, scratch-ok}
+use Rattle.calls.specs.Refusals.{first, borrowed, scratch-ok}
 use Rattle.calls.specs.Changes.{Side, Change}
 use Rattle.calls.specs.Book.{Book, book-of, book-pair, listing-of}
 use Rattle.calls.specs.Trace.{Trace}
@@ -40,7 +40,7 @@ Listing-as a b out r after B = listing-answer r after ≡ listing-of (book-pair 
 
 -- "an audit 17 if its scratch is too short, else 0"
 unfoldable pub Audit-as : List ℕ → List ℕ → ℕ → Book → Type 0
-Audit-as img scratch r B = r ≡ first ((17, not (scratch-ok (pages-in (half-of img) img) scratch)) ∷ [])
+Audit-as img scratch r B = r ≡ first ((17, not (scratch-ok borrowed (pages-in (half-of img) img) scratch)) ∷ [])
 
 -- a booking the status that is fixed without the image, but where the pages may be too few
 unfoldable pub Booking-as : Side → ℤ → ℕ → ℕ → List ℕ → List ℕ → ℕ → Book → Type 0

@@ -6,7 +6,7 @@ use mathlib.Core.Bool.{cond}
 use mathlib.Core.List.{List}
 use lib.IntN.{ℤ, pos}
 use Rattle.image.specs.Images.{half-of, pages-in}
-use Rattle.calls.specs.Refusals.{cleared}
+use Rattle.calls.specs.Refusals.{borrowed, cleared}
 use Rattle.calls.specs.Changes.{Side}
 use Rattle.calls.specs.Calls.{head}
 use Rattle.calls.specs.Demands.{keeps-scratch}
@@ -23,7 +23,7 @@ pub record Refusing : Type 0 where
       (kind window k : ℕ) (img : List ℕ) (r : ℕ) (after : List ℕ) → Formats kind window k img r after → r ≢ 0 → after ≡ img
   pub of-booking :
       (side : Side) (v : ℤ) (s e : ℕ) (img scratch : List ℕ) (r : ℕ) (after left : List ℕ) → Books side v s e img scratch r after left
-      → (r ≢ 0 → after ≡ img) × (left ≡ cond (keeps-scratch img r) scratch (cleared (pages-in (half-of img) img) scratch))
+      → (r ≢ 0 → after ≡ img) × (left ≡ cond (keeps-scratch img r) scratch (cleared borrowed (pages-in (half-of img) img) scratch))
   pub of-instant :
       (t : ℕ) (img : List ℕ) (r : InstantAnswer) → Answers t img r
       → (r .status ≢ 0 → (r .sum ≡ pos 0) × (r .count ≡ pos 0))
@@ -37,4 +37,4 @@ pub record Refusing : Type 0 where
       → (after ≡ out) × (r .runs ≡ 0)
   pub of-audit :
       (img scratch : List ℕ) (r : ℕ) (left : List ℕ) → Audits img scratch r left
-      → left ≡ cond (keeps-scratch img r) scratch (cleared (pages-in (half-of img) img) scratch)
+      → left ≡ cond (keeps-scratch img r) scratch (cleared borrowed (pages-in (half-of img) img) scratch)

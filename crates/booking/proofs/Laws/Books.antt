@@ -6,9 +6,8 @@ use mathlib.Core.Bool.{Bool, true, false, cond, not, and-eq-true-iff}
 use mathlib.Core.List.{List, [], _∷_, _++_}
 use native.Mathlib.Omega.{arith}
 use lib.Dec.{eqb}
-use lib.ListN.{length}
 use lib.IntN.{ℤ}
-use borrow.Author.Tests.{eqb-true, ne-eqb, leb-true, ltb-true}
+use borrow.Author.Tests.{eqb-true, ne-eqb, ltb-true}
 use Rattle.rule.specs.Time.{span-ok, value-ok}
 use Rattle.page.specs.declared.Head.{Head}
 use Rattle.image.specs.Images.{pages-in, length-ok}
@@ -51,23 +50,23 @@ made early late done img clean scratch =
 
 module _ (half : ℕ) (side : Side) (v : ℤ) (s e : ℕ) (img scratch : List ℕ) where
   abbrev early : List Row
-  early = book-input-rows half v s e img scratch
+  early = book-input-rows borrowed half v s e img scratch
 
   abbrev late : List Row
   late = book-state-rows half side s e img
 
   abbrev clean : List ℕ
-  clean = cleared (pages-in half img) scratch
+  clean = cleared borrowed (pages-in half img) scratch
 
   abbrev done : List ℕ
   done = changed half side v s e img
 
-  book-is : made early late done img clean scratch ≡ book half side v s e img scratch
+  book-is : made early late done img clean scratch ≡ book borrowed half side v s e img scratch
   unfolding made book book-status scratch-after
   book-is = refl
 
   pub book-early-out : {n : ℕ} → n ≡ first early → n ≢ 0
-      → record { status = n; image = img; scratch = scratch } ≡ book half side v s e img scratch
+      → record { status = n; image = img; scratch = scratch } ≡ book borrowed half side v s e img scratch
   unfolding made
   book-early-out {n} e d =
       let f : first early ≢ 0 = λ z. d (e ∙ z) in
@@ -82,16 +81,15 @@ module _ (half : ℕ) (side : Side) (v : ℤ) (s e : ℕ) (img scratch : List �
       ∙ book-is
 
   module _ (z : first early ≡ 0) where
-    tests : Clear (length-ok half img) (scratch-ok (pages-in half img) scratch) (span-ok s e) (value-ok v)
+    tests : Clear (length-ok half img) (scratch-ok borrowed (pages-in half img) scratch) (span-ok s e) (value-ok v)
     unfolding book-input-rows
     tests = clear _ _ _ _ z
 
     pub early-whole : length-ok half img ≡ true
     early-whole = tests .whole-is
 
-    pub early-room : pages-in half img ≤ length scratch
-    unfolding scratch-ok borrowed
-    early-room = leb-true _ _ (tests .room-is)
+    pub early-room : scratch-ok borrowed (pages-in half img) scratch ≡ true
+    early-room = tests .room-is
 
     pub early-span : s < e
     unfolding span-ok
@@ -107,7 +105,7 @@ module _ (half : ℕ) (side : Side) (v : ℤ) (s e : ℕ) (img scratch : List �
         ∷ (13, not (tests .fits-is j)) ∷ late)
 
     by-late : {n : ℕ} {after left : List ℕ} → n ≡ first late → after ≡ cond (eqb n 0) done img → left ≡ clean
-        → record { status = n; image = after; scratch = left } ≡ book half side v s e img scratch
+        → record { status = n; image = after; scratch = left } ≡ book borrowed half side v s e img scratch
     unfolding made
     by-late {n} a b c =
         let number : n ≡ first (early ++ late) = a ∙ sym late-status in
@@ -131,14 +129,14 @@ module _ (half : ℕ) (side : Side) (v : ℤ) (s e : ℕ) (img scratch : List �
         go false f e = absurd (let y : _≡_ {A = ℕ} 0 1 = cc in omega arith)
 
     pub book-late-out : {row : ℕ} {left : List ℕ} → Refused row ≡ state-check half side s e img → left ≡ clean
-        → record { status = row; image = img; scratch = left } ≡ book half side v s e img scratch
+        → record { status = row; image = img; scratch = left } ≡ book borrowed half side v s e img scratch
     unfolding state-check
     book-late-out j c =
         let r = refused-row (first late) (head half img) j in
         by-late (r .0) (sym (ap (λ b. cond b done img) (ap (λ n. eqb n 0) (r .0) ∙ r .1))) c
 
     pub book-done : {h : Head} {after left : List ℕ} → Accepted h ≡ state-check half side s e img → after ≡ done → left ≡ clean
-        → record { status = 0; image = after; scratch = left } ≡ book half side v s e img scratch
+        → record { status = 0; image = after; scratch = left } ≡ book borrowed half side v s e img scratch
     unfolding state-check
     book-done j a c = by-late (sym (accepted-row (first late) (head half img) j)) a c
 

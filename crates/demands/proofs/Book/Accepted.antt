@@ -12,13 +12,13 @@ use Rattle.page.specs.Fit.{most-changes}
 use Rattle.image.specs.Images.{pages-in, image-of}
 use Rattle.image.specs.Sound.{sound}
 use Rattle.steps.specs.Change.{lacks-pages}
-use Rattle.calls.specs.Refusals.{scratch-ok}
+use Rattle.calls.specs.Refusals.{borrowed, scratch-ok}
 use Rattle.calls.specs.Changes.{Side, withdraws}
 use Rattle.calls.specs.Calls.{head, book-input-rows, book-status, book}
 use Rattle.demands.proofs.Rows.{first-none}
 
 pub record Passed (half : ℕ) (side : Side) (v : ℤ) (s e : ℕ) (img scratch : List ℕ) : Type 0 where
-  pub lent : scratch-ok (pages-in half img) scratch ≡ true
+  pub lent : scratch-ok borrowed (pages-in half img) scratch ≡ true
   pub span : span-ok s e ≡ true
   pub value : value-ok v ≡ true
   pub whole : sound half img ≡ true
@@ -26,7 +26,7 @@ pub record Passed (half : ℕ) (side : Side) (v : ℤ) (s e : ℕ) (img scratch 
   pub few : eqb (head half img .changes) most-changes ≡ false
   pub pages : lacks-pages half s (effect-end e (head half img .window)) (image-of half img) ≡ false
 
-pub passed : (half : ℕ) (side : Side) (v : ℤ) (s e : ℕ) (img scratch : List ℕ) → book half side v s e img scratch .status ≡ 0
+pub passed : (half : ℕ) (side : Side) (v : ℤ) (s e : ℕ) (img scratch : List ℕ) → book borrowed half side v s e img scratch .status ≡ 0
     → Passed half side v s e img scratch
 unfolding book book-status book-input-rows
 passed half side v s e img scratch h =

@@ -1,11 +1,9 @@
 -- The ways out of an audit. Assumes nothing.
-use Prim.Native.Nat.{ℕ, _≤_, _<_}
+use Prim.Native.Nat.{ℕ}
 use mathlib.Core.Path.{_≡_, refl, sym, _∙_}
 use mathlib.Core.Bool.{Bool, true, false, cond, not}
 use mathlib.Core.List.{List, [], _∷_}
-use lib.ListN.{length}
 use lib.Dec.{eqb}
-use borrow.Author.Tests.{le-leb, lt-leb}
 use Rattle.image.specs.Images.{pages-in, length-ok}
 use Rattle.image.specs.Sound.{sound}
 use Rattle.calls.specs.Refusals.{first, borrowed, scratch-ok, cleared, scratch-after}
@@ -20,26 +18,27 @@ audited fits room is-sound done had =
     }
 
 module _ (half : ℕ) (img scratch : List ℕ) where
-  by-tests : (fits room is-sound : Bool) → length-ok half img ≡ fits → scratch-ok (pages-in half img) scratch ≡ room → sound half img ≡ is-sound
-      → audited fits room is-sound (cleared (pages-in half img) scratch) scratch ≡ audit half img scratch
+  by-tests : (fits room is-sound : Bool) → length-ok half img ≡ fits → scratch-ok borrowed (pages-in half img) scratch ≡ room
+      → sound half img ≡ is-sound
+      → audited fits room is-sound (cleared borrowed (pages-in half img) scratch) scratch ≡ audit borrowed half img scratch
   unfolding audited audit audit-input-rows scratch-after first
-  by-tests fits room is-sound a b c = λ j. audited (sym a j) (sym b j) (sym c j) (cleared (pages-in half img) scratch) scratch
+  by-tests fits room is-sound a b c = λ j. audited (sym a j) (sym b j) (sym c j) (cleared borrowed (pages-in half img) scratch) scratch
 
-  pub audit-16 : length-ok half img ≡ false → record { status = 16; scratch = scratch } ≡ audit half img scratch
+  pub audit-16 : length-ok half img ≡ false → record { status = 16; scratch = scratch } ≡ audit borrowed half img scratch
   unfolding audited first
   audit-16 a = by-tests false _ _ a refl refl
 
-  pub audit-17 : length-ok half img ≡ true → length scratch < pages-in half img
-      → record { status = 17; scratch = scratch } ≡ audit half img scratch
-  unfolding audited first scratch-ok borrowed
-  audit-17 a l = by-tests true false _ a (lt-leb _ _ l) refl
+  pub audit-17 : length-ok half img ≡ true → scratch-ok borrowed (pages-in half img) scratch ≡ false
+      → record { status = 17; scratch = scratch } ≡ audit borrowed half img scratch
+  unfolding audited first
+  audit-17 a l = by-tests true false _ a l refl
 
-  pub audit-judged : length-ok half img ≡ true → pages-in half img ≤ length scratch → {b : Bool} → sound half img ≡ b
-      → record { status = cond b 0 21; scratch = cleared (pages-in half img) scratch } ≡ audit half img scratch
-  unfolding audited first scratch-ok borrowed
-  audit-judged a room {b} c = numbered b ∙ by-tests true true b a (le-leb _ _ room) c
+  pub audit-judged : length-ok half img ≡ true → scratch-ok borrowed (pages-in half img) scratch ≡ true → {b : Bool} → sound half img ≡ b
+      → record { status = cond b 0 21; scratch = cleared borrowed (pages-in half img) scratch } ≡ audit borrowed half img scratch
+  unfolding audited first
+  audit-judged a room {b} c = numbered b ∙ by-tests true true b a room c
     where
-      numbered : (b : Bool) → record { status = cond b 0 21; scratch = cleared (pages-in half img) scratch }
-          ≡ audited true true b (cleared (pages-in half img) scratch) scratch
+      numbered : (b : Bool) → record { status = cond b 0 21; scratch = cleared borrowed (pages-in half img) scratch }
+          ≡ audited true true b (cleared borrowed (pages-in half img) scratch) scratch
       numbered true = refl
       numbered false = refl

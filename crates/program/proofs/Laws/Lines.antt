@@ -9,6 +9,7 @@ use lib.Dec.{eqb}
 use lib.IntN.{ℤ}
 use borrow.Author.Tests.{eq-eqb, ne-eqb}
 use Rattle.booking.specs.Sides.{side-of}
+use Rattle.calls.specs.Refusals.{borrowed}
 use Rattle.calls.specs.Changes.{Side, entering, withdrawing}
 use Rattle.calls.specs.Calls.{Booked, book}
 use Rattle.calls.specs.Program.{Line, booking, unread, decimal, refused-text, unread-text, Ran, ran-line}
@@ -55,7 +56,7 @@ ran-of : ℕ → Booked → Ran
 ran-of k r = record { written = cond (eqb (r .status) 0) [] (refused-text k (r .status)); image = r .image }
 
 module _ (k : ℕ) (side : Side) (v : ℤ) (s e : ℕ) (img : List ℕ) {n : ℕ} {left scratch : List ℕ}
-    (b : record { status = n; image = left; scratch = scratch } ≡ book 12 side v s e img (replicate 64 0)) where
+    (b : record { status = n; image = left; scratch = scratch } ≡ book borrowed 12 side v s e img (replicate 64 0)) where
   ran-booking : ran-of k (record { status = n; image = left; scratch = scratch }) ≡ ran-line 12 64 k (booking side v s e) img
   unfolding ran-of ran-line
   ran-booking = ap (ran-of k) b

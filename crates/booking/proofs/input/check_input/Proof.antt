@@ -1,9 +1,8 @@
 -- `booking::input::check_input` meets its contract: the first test that fails gives the status. Assumes nothing.
-use mathlib.Core.Path.{_≡_, refl, sym, ap, _∙_}
+use mathlib.Core.Path.{_≡_, refl, sym, _∙_}
 use mathlib.Core.Bool.{Bool, true}
 use native.Mathlib.Omega.{arith}
-use lib.ListN.{length}
-use lib.Dec.{leb, ltb}
+use lib.Dec.{ltb}
 use borrow.Author.Needs.{needs}
 use borrow.Author.Tests.{not-true, not-false}
 use mir.Facts.{toZ-ofZ}
@@ -25,13 +24,12 @@ Tested c =
     (began c .args .scratch .now)
 
 tests : (c : tie.After-value-ok) {whole room span fits : Bool} → tested c .length-fits .result ≡ whole
-    → leb (c .before .page-count .result) (length (began c .args .scratch .now)) ≡ room
+    → c .before .scratch-ok .result ≡ room
     → ltb (began c .args .s) (began c .args .e) ≡ span → c .value-ok .result ≡ fits → Tested c whole room span fits
 tests c a b d f =
-    let args = began c .args in
     record {
       whole-is = sym (tested c .length-fits .ensures) ∙ a;
-      room-is = sym (ap (λ n. leb n (length (args .scratch .now))) (c .before .page-count .ensures)) ∙ b;
+      room-is = sym (c .before .scratch-ok .ensures) ∙ b;
       span-is = span-less _ _ (omega (arith, began c .fits .e)) ∙ d;
       fits-is = sym (rw (toZ-ofZ (began c .fits .v)) at (c .value-ok .ensures)) ∙ f;
     }

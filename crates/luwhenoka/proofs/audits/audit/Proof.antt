@@ -1,13 +1,10 @@
 -- `luwhenoka::audits::audit` meets its contract: a law for each way out. Assumes nothing.
 use mathlib.Core.Path.{_≡_, sym, ap, _∙_}
 use mathlib.Core.Bool.{Bool, true, cond}
-use native.Mathlib.Omega.{arith}
-use lib.ListN.{replicate}
 use borrow.Author.Needs.{needs}
 use borrow.Author.Tests.{not-true, not-false}
 use Rattle.image.specs.Images.{pages-in, length-ok}
-use Rattle.fields.specs.Bytes.{patch}
-use Rattle.calls.specs.Refusals.{borrowed, cleared}
+use Rattle.calls.specs.Refusals.{borrowed, scratch-ok}
 use Rattle.calls.specs.Calls.{audit}
 use Rattle.luwhenoka.proofs.Laws.Audits.{audit-16, audit-17, audit-judged}
 use Rattle.luwhenoka.proofs.audits.audit.Statement.{statement}
@@ -24,36 +21,32 @@ returns : tie.Need-returns
 returns c = audit-16 _ _ _ (sym (c .before .length-fits .ensures) ∙ not-true _ (c .if1 .taken))
 
 returns-2 : tie.Need-returns-2
-returns-2 c = audit-17 _ _ _ (fits (c .before .before)) (omega (arith, c .before .page-count .ensures, c .if2 .taken))
+returns-2 c =
+    audit-17 _ _ _ (fits (c .before .before .before)) (sym (c .before .scratch-ok .ensures) ∙ not-true _ (c .if2 .taken))
 
--- the scratch had been filled, and the image judged
-module _ (c : tie.After-sound) where
-  abbrev fill : tie.After-fill
-  fill = c .before .before .before
+-- the scratch is long enough
+room : (c : tie.Else2)
+    → let args = began (c .before .before .before) .args in
+    scratch-ok borrowed (pages-in (args .half) (args .img .now)) (args .scratch .now) ≡ true
+room c = sym (c .before .scratch-ok .ensures) ∙ not-false _ (c .if2 .left)
 
-  abbrev room : tie.Else2
-  room = fill .before .before
-
-  abbrev start : tie.Start
-  start = began (room .before .before)
-
-  judged : {b : Bool} → c .sound .result ≡ b → record { status = cond b 0 21; scratch = fill .fill .last .0 }
-      ≡ audit (start .args .half) (start .args .img .now) (start .args .scratch .now)
-  unfolding cleared borrowed
-  judged {b} told =
-      ap (λ s. record { status = cond b 0 21; scratch = s })
-      (fill .fill .ensures ∙ ap (λ n. patch (start .args .scratch .now) 0 (replicate n 0)) (room .before .page-count .ensures))
-      ∙ audit-judged _ _ _ (fits (room .before .before)) (omega (arith, room .before .page-count .ensures, room .if2 .left))
-      (sym (c .sound .ensures) ∙ told)
+-- it had been cleared, and the image judged
+judged : (c : tie.After-sound) {b : Bool} → c .sound .result ≡ b
+    → let clean = c .before .before .before in
+    let args = began (clean .before .before .before .before .before) .args in
+    record { status = cond b 0 21; scratch = clean .clear-scratch .last .1 .1 .0 }
+    ≡ audit borrowed (args .half) (args .img .now) (args .scratch .now)
+judged c {b} told =
+    let clean = c .before .before .before in
+    let long = clean .before .before in
+    ap (λ s. record { status = cond b 0 21; scratch = s }) (clean .clear-scratch .ensures)
+    ∙ audit-judged _ _ _ (fits (long .before .before .before)) (room long) (sym (c .sound .ensures) ∙ told)
 
 pub audit-spec : {M : Type 1} → statement M
 audit-spec =
     tie.close
-    (tie.spec (λ c κs. search needs) returns (λ c κs. search needs) returns-2 (λ c κs. search needs)
-    (λ c κs.
-    let room = c .before .before .before .before in
-    let test = room .before .before in
-    let pre = began test .pre in
-    (pre .0, pre .1, fits test))
+    (tie.spec (λ c κs. search needs) returns (λ c κs. search needs) (λ c. search needs) returns-2
+    (λ c κs. let long = c .before in (began (long .before .before .before) .pre .1, room long))
+    (λ c κs. let test = c .before .before .before .before .before .before .before in (began test .pre .0, began test .pre .1, fits test))
     (λ c. search needs) (λ c. judged (c .before) (c .if3 .taken))
     (λ c. search needs) (λ c. judged (c .before) (c .if3 .left)))

@@ -1,6 +1,7 @@
 -- `luwhenoka::audits::luw_audit` meets its contract: by half the capacity that the image names. Assumes nothing.
 use mathlib.Core.Path.{sym, _∙_}
 use borrow.Author.Needs.{needs}
+use Rattle.calls.specs.Refusals.{borrowed}
 use Rattle.calls.specs.Calls.{audit}
 use Rattle.calls.specs.Index.{index-audit}
 use Rattle.luwhenoka.proofs.Laws.Judged.{half-ranged, by-half, by-refusal}
@@ -16,7 +17,7 @@ returns c =
     let args = judged .before .before .before .args in
     did .audit .ensures
     ∙ by-half (args .img .now) (sym (told .half .given .1) ∙ judged .judge .ensures) _
-    (λ half. audit half (args .img .now) (args .scratch .now))
+    (λ half. audit borrowed half (args .img .now) (args .scratch .now))
 
 returns-2 : tie.Need-returns-2
 unfolding index-audit
@@ -25,7 +26,7 @@ returns-2 c =
     let judged = told .before .before in
     let args = judged .before .before .before .args in
     by-refusal (args .img .now) (sym (told .status .given .1) ∙ judged .judge .ensures) _
-    (λ half. audit half (args .img .now) (args .scratch .now))
+    (λ half. audit borrowed half (args .img .now) (args .scratch .now))
 
 pub luw-audit-spec : {M : Type 1} → statement M
 luw-audit-spec =

@@ -2,6 +2,7 @@
 use mathlib.Core.Path.{sym, _∙_}
 use borrow.Author.Needs.{needs}
 use mir.Facts.{toZ-ofZ}
+use Rattle.calls.specs.Refusals.{borrowed}
 use Rattle.calls.specs.Calls.{book}
 use Rattle.calls.specs.Index.{index-book}
 use Rattle.booking.specs.Sides.{side-of}
@@ -19,7 +20,7 @@ returns c =
     let args = start .args in
     rw (toZ-ofZ (start .fits .v)) at (did .book .ensures)
     ∙ by-half (args .img .now) (sym (told .half .given .1) ∙ judged .judge .ensures) _
-    (λ half. book half (side-of (args .withdraws)) (args .v) (args .s) (args .e) (args .img .now) (args .scratch .now))
+    (λ half. book borrowed half (side-of (args .withdraws)) (args .v) (args .s) (args .e) (args .img .now) (args .scratch .now))
 
 returns-2 : tie.Need-returns-2
 unfolding index-book
@@ -28,7 +29,7 @@ returns-2 c =
     let judged = told .before .before in
     let args = judged .before .before .before .before .args in
     by-refusal (args .img .now) (sym (told .status .given .1) ∙ judged .judge .ensures) _
-    (λ half. book half (side-of (args .withdraws)) (args .v) (args .s) (args .e) (args .img .now) (args .scratch .now))
+    (λ half. book borrowed half (side-of (args .withdraws)) (args .v) (args .s) (args .e) (args .img .now) (args .scratch .now))
 
 pub index-book-spec : {M : Type 1} → statement M
 index-book-spec =

@@ -1,0 +1,33 @@
+// The scratch that audits and changes borrow of their caller: how much of it, and that it is 0 afterwards. Nothing reads it.
+use access::lengths::page_count;
+use fields::fill::fill;
+ghost use mathlib.Core.Path.{_≡_};
+ghost use mathlib.Core.Bool.{true};
+ghost use Prim.Native.Nat.{_≤_};
+ghost use Rattle.image.specs.Images.{pages-in};
+ghost use Rattle.calls.specs.Refusals.{borrowed, scratch-ok, cleared};
+
+// How many bytes a call on this image borrows.
+fn borrowed(half: usize, img: &[u8]) -> usize
+    requires { ⌜ half ≤ 12 ⌝ }
+    ensures { λ r. ⌜ r ≡ borrowed (pages-in half (now (img .entry))) ⌝ }
+{
+    page_count(half, img)
+}
+
+// 17: whether the scratch has them.
+pub fn scratch_ok(half: usize, img: &[u8], scratch: &[u8]) -> bool
+    requires { ⌜ half ≤ 12 ⌝ }
+    ensures { λ r. ⌜ r ≡ scratch-ok borrowed (pages-in half (now (img .entry))) (now (scratch .entry)) ⌝ }
+{
+    borrowed(half, img) <= scratch.len()
+}
+
+// "those n bytes are 0 afterwards, any beyond keep theirs"
+pub fn clear_scratch(half: usize, img: &[u8], scratch: &mut [u8])
+    requires { ⌜ half ≤ 12 ⌝ }
+    requires { ⌜ scratch-ok borrowed (pages-in half (now img)) (now scratch) ≡ true ⌝ }
+    ensures { λ _. ⌜ now (scratch .exit) ≡ cleared borrowed (pages-in half (now (img .entry))) (now (scratch .entry)) ⌝ }
+{
+    fill(scratch, 0, borrowed(half, img), 0)
+}
