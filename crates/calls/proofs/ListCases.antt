@@ -25,7 +25,7 @@ use Rattle.calls.proofs.Steps.{stayed, steps}
 -- a day of calls: behind the first booking one that is refused, a format that is refused and a reading call
 refused-step : Step after-one [] after-one
 unfolding every-call fresh-image after-one change-made
-refused-step = steps .of-booking entering (pos 3) 20 50 after-one (7 ∷ 7 ∷ []) 24 after-one (0 ∷ 0 ∷ []) refl
+refused-step = steps .of-booking entering (pos 3) 20 50 after-one (7 ∷ 7 ∷ []) 24 after-one (0 ∷ 7 ∷ []) refl
 
 refused-format : Step after-one [] after-one
 unfolding every-call fresh-image after-one

@@ -2,7 +2,7 @@
 use Prim.Native.Nat.{ℕ, _<_, _≤_}
 use mathlib.Core.Path.{_≡_, refl, sym}
 use mathlib.Core.Logic.{_⊎_, inl, inr}
-use mathlib.Core.Bool.{Bool, true, false, cond, not, _&&_, false≢true}
+use mathlib.Core.Bool.{Bool, true, false, cond, not, _&&_, _||_, false≢true}
 use native.Mathlib.Omega.{arith}
 use lib.Dec.{eqb, leb, ltb}
 use borrow.Author.Tests.{ltb-true, ltb-false, leb-true, leb-false, eqb-true, eqb-false}
@@ -54,6 +54,15 @@ pub both : {P Q : Type 0} {b c : Bool} → Reflects P b → Reflects Q c → Ref
 both (passes p) (passes q) = passes (p, q)
 both (passes p) (fails n) = fails (λ k. n (k .1))
 both (fails n) q = fails (λ k. n (k .0))
+
+pub either : {P Q : Type 0} {b c : Bool} → Reflects P b → Reflects Q c → Reflects (P ⊎ Q) (b || c)
+either (passes p) q = passes (inl p)
+either (fails n) (passes q) = passes (inr q)
+either {P} {Q} (fails n) (fails m) = fails neither
+  where
+    neither : ¬ (P ⊎ Q)
+    neither (inl p) = n p
+    neither (inr q) = m q
 
 -- one of two tests fails
 pub either-fails : {P Q : Type 0} (b c : Bool) → Reflects P (not b) → Reflects Q (not c) → Reflects (P ⊎ Q) (not (b && c))

@@ -1,5 +1,5 @@
 -- Every call returns the status that document 01's tables have for it, and an instant tells the pages that it looked at. Assumes nothing.
-use Prim.Native.Nat.{ℕ, _*_, _<_, _≤_, _/_, _%_}
+use Prim.Native.Nat.{ℕ, _+_, _*_, _<_, _≤_, _/_, _%_}
 use mathlib.Core.Path.{_≡_, refl, sym, ap, _∙_, subst⁻¹}
 use mathlib.Core.Logic.{_⊎_, inl, inr}
 use mathlib.Core.Bool.{Bool, true, false, cond, not, _&&_, false≢true}
@@ -28,9 +28,9 @@ use Rattle.calls.specs.Calls.{Booked, Instant, Averaged, Listed, Audited
 use Rattle.calls.specs.Calls.{head, head-ok, format, format-status, book, book-input-rows, book-status, instant, instant-status}
 use Rattle.calls.specs.Calls.{average-at, listing, listing-status, runs-over, too-short, audit, audit-input-rows}
 use Rattle.calls.specs.Index.{names-capacity, judge, judged, index-format, format-before, index-book, index-instant, index-average}
-use Rattle.calls.specs.Index.{index-listing, index-audit}
+use Rattle.calls.specs.Index.{index-listing, index-audit, index-book-bytewise, index-audit-bytewise}
 use Rattle.calls.specs.Tables.{Case, Exactly, No-capacity, Bad-field, Whole-pages, Fit-head, No-span, No-kind-or-window, Meets-unfit, Too-few-pages}
-use Rattle.calls.specs.Tables.{format-cases-before, format-cases}
+use Rattle.calls.specs.Tables.{Fewer-bits, Fewer-bytes, format-cases-before, format-cases}
 use Rattle.calls.specs.Tables.{judge-cases, book-cases, instant-cases, listing-cases, audit-cases, Pages-told, Turned-back}
 use Rattle.calls.proofs.Reflects.{Reflects, passes, fails, fails-by, restated, is-less, is-most, is-equal, is-true, is-false, is-not, is-above}
 use Rattle.calls.proofs.Reflects.{is-least, both, either-fails, chosen, other}
@@ -45,7 +45,7 @@ no-capacity k =
     either-fails (eqb (k % 2) 0) (leb 4 k && leb k 24) (is-not (is-equal (k % 2) 0))
     (either-fails (leb 4 k) (leb k 24) (is-above 4 k) (is-above k 24))
 
-bad-field : (img : List ℕ) → Reflects (Bad-field img) (not (names-capacity img))
+pub bad-field : (img : List ℕ) → Reflects (Bad-field img) (not (names-capacity img))
 unfolding Bad-field names-capacity capacity-named capacity-field
 bad-field img = go (eqb (capacity-field img) no-field) refl
   where
@@ -54,7 +54,7 @@ bad-field img = go (eqb (capacity-field img) no-field) refl
     go false e = restated (λ n. (eqb-false (capacity-field img) no-field e, n)) (λ k. k .1) (no-capacity (capacity-field img))
 
 module _ (half : ℕ) (img : List ℕ) where
-  whole-pages : Reflects (Whole-pages half img) (length-ok half img)
+  pub whole-pages : Reflects (Whole-pages half img) (length-ok half img)
   unfolding length-ok pages-in
   whole-pages =
       restated (λ k. record { n = pages-in half img; long = k .0; least = k .1 .0; most = k .1 .1 })
@@ -63,10 +63,6 @@ module _ (half : ℕ) (img : List ℕ) where
       let e : pages-in half img ≡ w .n = ap (λ k. k / page-size half) (w .long) ∙ mul-div-cancel-left (w .n) size in
       (w .long ∙ ap (λ k. page-size half * k) (sym e), (omega (arith, w .least), omega (arith, w .most))))
       (both (is-equal _ _) (both (is-most 2 _) (is-most _ 1024)))
-
-  scratch-short : (scratch : List ℕ) → Reflects (length scratch < pages-in half img) (not (scratch-ok borrowed (pages-in half img) scratch))
-  unfolding scratch-ok borrowed
-  scratch-short scratch = is-above (pages-in half img) (length scratch)
 
   fit-head : Reflects (Fit-head half img) (head-ok half img)
   unfolding Fit-head head-ok
@@ -89,6 +85,19 @@ module _ (half : ℕ) (img : List ℕ) where
   meets-unfit looks fit e =
       either-fails (head-ok half img) fit (is-not fit-head)
       (restated (λ f. one-unfit half h img looks (sym e ∙ f)) (λ k. e ∙ unfit-among looks k) (is-false fit))
+
+-- when a scratch is too short, by what is borrowed of it
+record Short-by (Short : ℕ → List ℕ → Type 0) (bytes-for : ℕ → ℕ) : Type 0 where
+  pub reflects : (pages : ℕ) (scratch : List ℕ) → Reflects (Short pages scratch) (not (scratch-ok bytes-for pages scratch))
+
+fewer-bits : Short-by Fewer-bits borrowed
+unfolding Fewer-bits scratch-ok borrowed
+fewer-bits =
+    record { reflects = λ pages scratch. restated (λ l. omega arith) (λ l. omega arith) (is-above ((pages + 7) / 8) (length scratch)) }
+
+fewer-bytes : Short-by Fewer-bytes (λ pages. pages)
+unfolding Fewer-bytes scratch-ok
+fewer-bytes = record { reflects = λ pages scratch. is-above pages (length scratch) }
 
 no-span : (s e : ℕ) → Reflects (No-span s e) (not (span-ok s e))
 unfolding No-span span-ok
@@ -122,12 +131,13 @@ named-by-head half img f = fit-half half (pages-in half img) img f .named
 -- ---- each call's rows
 
 module _ (half : ℕ) where
-  book-tested : (side : Side) (v : ℤ) (s e : ℕ) (img scratch : List ℕ)
-      → Exactly (book-cases half side v s e img scratch) (book borrowed half side v s e img scratch .status)
+  book-tested : {Short : ℕ → List ℕ → Type 0} {bytes-for : ℕ → ℕ} → Short-by Short bytes-for
+      → (side : Side) (v : ℤ) (s e : ℕ) (img scratch : List ℕ)
+      → Exactly (book-cases half Short side v s e img scratch) (book bytes-for half side v s e img scratch .status)
   unfolding book-cases book book-status book-input-rows head first
-  book-tested side v s e img scratch =
+  book-tested short side v s e img scratch =
       (next-row 16 (is-not (whole-pages half img))
-      (next-row 17 (scratch-short half img scratch)
+      (next-row 17 (short .reflects (pages-in half img) scratch)
       (next-row 11 (no-span s e)
       (next-row 13 (no-value v)
       (next-row 21 (is-false (sound half img))
@@ -150,11 +160,12 @@ module _ (half : ℕ) where
       (next-row 21 (meets-unfit half img (listing-trail half a b img) (walk-over half img a b .fit) (walk-over-fit half img a b))
       (next-row 15 (is-less _ _) no-row)))) .exactly
 
-  audit-tested : (img scratch : List ℕ) → Exactly (audit-cases half img scratch) (audit borrowed half img scratch .status)
+  audit-tested : {Short : ℕ → List ℕ → Type 0} {bytes-for : ℕ → ℕ} → Short-by Short bytes-for
+      → (img scratch : List ℕ) → Exactly (audit-cases half Short img scratch) (audit bytes-for half img scratch .status)
   unfolding audit-cases audit audit-input-rows first
-  audit-tested img scratch =
+  audit-tested short img scratch =
       (next-row 16 (is-not (whole-pages half img))
-      (next-row 17 (scratch-short half img scratch) (next-row 21 (is-false (sound half img)) no-row))) .exactly
+      (next-row 17 (short .reflects (pages-in half img) scratch) (next-row 21 (is-false (sound half img)) no-row))) .exactly
 
   -- ---- the pages that an instant tells
 
@@ -259,14 +270,14 @@ index-pages-told t img =
 -- ---- all of them
 
 pub turned-back : Turned-back
-unfolding format-before index-book index-instant index-average index-listing index-audit average-at
+unfolding format-before index-book index-instant index-average index-listing index-audit index-book-bytewise index-audit-bytewise average-at
 turned-back =
     record {
       of-format = format-tested;
       of-format-before = λ kind window img. format-tested-before 12 kind window no-field img;
       of-booking = λ side v s e img scratch.
           judged-tested _ (λ half. book borrowed half side v s e img scratch) (λ (b : Booked). b .status) img refl _
-          (book-tested (half-of img) side v s e img scratch);
+          (book-tested (half-of img) fewer-bits side v s e img scratch);
       of-instant = λ t img.
           judged-tested _ (λ half. instant half t img) (λ (r : Instant). r .status) img refl _ (instant-tested (half-of img) t img);
       of-pages = index-pages-told;
@@ -275,5 +286,12 @@ turned-back =
       of-listing = λ a b img out.
           judged-tested _ (λ half. listing half a b img out) (λ (r : Listed). r .status) img refl _ (listing-tested (half-of img) a b img out);
       of-audit = λ img scratch.
-          judged-tested _ (λ half. audit borrowed half img scratch) (λ (r : Audited). r .status) img refl _ (audit-tested (half-of img) img scratch);
+          judged-tested _ (λ half. audit borrowed half img scratch) (λ (r : Audited). r .status) img refl _
+          (audit-tested (half-of img) fewer-bits img scratch);
+      of-booking-bytewise = λ side v s e img scratch.
+          judged-tested _ (λ half. book (λ pages. pages) half side v s e img scratch) (λ (b : Booked). b .status) img refl _
+          (book-tested (half-of img) fewer-bytes side v s e img scratch);
+      of-audit-bytewise = λ img scratch.
+          judged-tested _ (λ half. audit (λ pages. pages) half img scratch) (λ (r : Audited). r .status) img refl _
+          (audit-tested (half-of img) fewer-bytes img scratch);
     }

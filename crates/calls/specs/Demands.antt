@@ -52,11 +52,12 @@ pub record Demand-1 : Type 0 where
       (a b : ℕ) (img out : List ℕ)
       → index-listing a b img out .status ≢ 0
       → (index-listing a b img out .output ≡ out) × (index-listing a b img out .runs ≡ 0)
-  -- "else its n bytes are 0"
+  -- "else its n bytes are 0": by document 02, (vi), those borrowed
   pub of-scratch :
       (side : Side) (v : ℤ) (s e : ℕ) (img scratch : List ℕ)
       → (index-book side v s e img scratch .scratch
-      ≡ cond (keeps-scratch img (index-book side v s e img scratch .status)) scratch (cleared borrowed (pages-in (half-of img) img) scratch))
+      ≡ cond (keeps-scratch img (index-book side v s e img scratch .status)) scratch
+      (cleared borrowed (pages-in (half-of img) img) scratch))
       × (index-audit img scratch .scratch
       ≡ cond (keeps-scratch img (index-audit img scratch .status)) scratch (cleared borrowed (pages-in (half-of img) img) scratch))
   -- "It reports the tree pages read: the height if answered, or if a page is unfit, the pages up to and including it (0 for the
@@ -108,7 +109,9 @@ pub record As-the-book (img : List ℕ) (B : Book) : Type 0 where
   -- them and keeps the rest"; and so the full one: "The full listing is that over [0, END)."
   pub listings : (a b : ℕ) (out : List ℕ) → index-listing a b img out ≡ listing-of (book-pair B) a b out
   -- "an audit 17 if its scratch is too short, else 0"
-  pub audits : (scratch : List ℕ) → index-audit img scratch .status ≡ first ((17, not (scratch-ok borrowed (pages-in (half-of img) img) scratch)) ∷ [])
+  pub audits :
+      (scratch : List ℕ)
+      → index-audit img scratch .status ≡ first ((17, not (scratch-ok borrowed (pages-in (half-of img) img) scratch)) ∷ [])
   -- a booking the status that is fixed, but where the pages may be too few
   pub bookings :
       (side : Side) (v : ℤ) (s e : ℕ) (scratch : List ℕ)

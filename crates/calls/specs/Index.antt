@@ -41,6 +41,12 @@ unfoldable pub index-book : Side → ℤ → ℕ → ℕ → List ℕ → List �
 index-book side v s e img scratch =
     judged (λ number. record { status = number; image = img; scratch = scratch }) (λ half. book borrowed half side v s e img scratch) img
 
+-- Enter and withdraw of before (vi), with a byte of scratch for each page; document 01: "Audit and changes borrow a scratch of n bytes".
+unfoldable pub index-book-bytewise : Side → ℤ → ℕ → ℕ → List ℕ → List ℕ → Booked
+index-book-bytewise side v s e img scratch =
+    judged (λ number. record { status = number; image = img; scratch = scratch })
+    (λ half. book (λ pages. pages) half side v s e img scratch) img
+
 unfoldable pub index-instant : ℕ → List ℕ → Instant
 index-instant t img = judged (λ number. record { status = number; pair = none; pages = 0 }) (λ half. instant half t img) img
 
@@ -52,3 +58,8 @@ index-listing a b img out = judged (λ number. record { status = number; runs = 
 
 unfoldable pub index-audit : List ℕ → List ℕ → Audited
 index-audit img scratch = judged (λ number. record { status = number; scratch = scratch }) (λ half. audit borrowed half img scratch) img
+
+-- the audit of before (vi)
+unfoldable pub index-audit-bytewise : List ℕ → List ℕ → Audited
+index-audit-bytewise img scratch =
+    judged (λ number. record { status = number; scratch = scratch }) (λ half. audit (λ pages. pages) half img scratch) img

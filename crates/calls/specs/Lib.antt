@@ -8,6 +8,7 @@ pub mod Trace
 pub mod Aggregate
 pub mod Accepted
 pub mod Demands
+pub mod Scratch
 pub mod Program
 pub mod BookCases
 pub mod AggregateCases

@@ -26,7 +26,7 @@ fresh-image = index-format 1 0 4 (replicate (112 * 2) 0) .image
 unfoldable pub before-image : List ℕ
 before-image = format-before 1 0 (replicate (512 * 2) 0) .image
 
--- bookings with scratch enough
+-- bookings with scratch enough: a byte, and one beyond
 abbrev pub enters : ℤ → ℕ → ℕ → List ℕ → Booked
 enters v s e img = index-book entering v s e img (7 ∷ 7 ∷ [])
 
@@ -71,7 +71,7 @@ pub record List-cases : Type 0 where
       (fixed-status 2 entering (pos 3) 20 50 (7 ∷ 7 ∷ []) one ≡ 0)
       × (fixed-status 2 entering (pos 1000001) 5 5 (7 ∷ 7 ∷ []) one ≡ 11)
       × (fixed-status 2 withdrawing (pos 4) 35 45 (7 ∷ 7 ∷ []) (windowed 2) ≡ 22)
-      × (fixed-status 2 withdrawing (pos 4) 35 45 (7 ∷ []) (windowed 2) ≡ 17)
+      × (fixed-status 2 withdrawing (pos 4) 35 45 [] (windowed 2) ≡ 17)
   -- Each call that is refused there, by its status.
   pub refused-statuses :
       (enters (pos 1) 5 5 after-one .status ≡ 11)

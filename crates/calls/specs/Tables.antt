@@ -21,6 +21,7 @@ use Rattle.steps.specs.Supply.{pages-taken}
 use Rattle.steps.specs.Change.{cuts}
 use Rattle.calls.specs.Changes.{Side, withdrawing}
 use Rattle.calls.specs.Index.{index-format, format-before, index-book, index-instant, index-average, index-listing, index-audit}
+use Rattle.calls.specs.Index.{index-book-bytewise, index-audit-bytewise}
 
 infix 1 _when_
 -- A row as it stands for a call: its status, and when it turns the call back.
@@ -59,6 +60,14 @@ pub record Whole-pages (half : ℕ) (img : List ℕ) : Type 0 where
 unfoldable pub Fit-head : ℕ → List ℕ → Type 0
 Fit-head half img = head-fit half (pages-in half img) (page-at half img 0) ≡ true
 
+-- 17, document 02, (vi): "17 now means shorter than that", than "n/8 bytes, rounded up": the scratch has fewer bits than there are pages
+unfoldable pub Fewer-bits : ℕ → List ℕ → Type 0
+Fewer-bits pages scratch = 8 * length scratch < pages
+
+-- and in document 01: "scratch shorter than n bytes"
+unfoldable pub Fewer-bytes : ℕ → List ℕ → Type 0
+Fewer-bytes pages scratch = length scratch < pages
+
 -- 11: "span with s ≥ e"; "A span [s, e) has s < e ≤ END."
 unfoldable pub No-span : ℕ → ℕ → Type 0
 No-span s e = (e ≤ s) ⊎ (END < e)
@@ -92,13 +101,13 @@ judge-cases img cases = (16 when length img < 40) ∷ (21 when Bad-field img) �
 
 -- Each call's cases behind these, by half the capacity. "The order is 16, 17, 11 or 12, 13, 14, 21, 22, 23, 24, and 15 last."
 module _ (half : ℕ) where
-  -- 17: "scratch shorter than n bytes". 13: "value outside its range"; "A value is −1,000,000 to 1,000,000." 21: "audit, change: image not
-  -- sound". 22: "withdrawal, kind 2 or 3": a sound image has no other kind but 1. 23: "changes is 1,000,000,000".
-  unfoldable pub book-cases : Side → ℤ → ℕ → ℕ → List ℕ → List ℕ → List Case
-  book-cases side v s e img scratch =
+  -- `Short` tells a scratch that is too short. 13: "value outside its range"; "A value is −1,000,000 to 1,000,000." 21: "audit, change:
+  -- image not sound". 22: "withdrawal, kind 2 or 3": a sound image has no other kind but 1. 23: "changes is 1,000,000,000".
+  unfoldable pub book-cases : (ℕ → List ℕ → Type 0) → Side → ℤ → ℕ → ℕ → List ℕ → List ℕ → List Case
+  book-cases Short side v s e img scratch =
       let h : Head = head-of (page-at half img 0) in
       (16 when ¬ Whole-pages half img)
-      ∷ (17 when length scratch < pages-in half img)
+      ∷ (17 when Short (pages-in half img) scratch)
       ∷ (11 when No-span s e)
       ∷ (13 when 1000000 < natAbs v)
       ∷ (21 when sound half img ≡ false)
@@ -124,10 +133,10 @@ module _ (half : ℕ) where
       ∷ (15 when length out < 16 * length (join (walk-over half img a b .runs)))
       ∷ []
 
-  unfoldable pub audit-cases : List ℕ → List ℕ → List Case
-  audit-cases img scratch =
+  unfoldable pub audit-cases : (ℕ → List ℕ → Type 0) → List ℕ → List ℕ → List Case
+  audit-cases Short img scratch =
       (16 when ¬ Whole-pages half img)
-      ∷ (17 when length scratch < pages-in half img)
+      ∷ (17 when Short (pages-in half img) scratch)
       ∷ (21 when sound half img ≡ false)
       ∷ []
 
@@ -149,7 +158,7 @@ pub record Turned-back : Type 0 where
       (kind window : ℕ) (img : List ℕ) → Exactly (format-cases-before 12 kind window img) (format-before kind window img .status)
   pub of-booking :
       (side : Side) (v : ℤ) (s e : ℕ) (img scratch : List ℕ)
-      → Exactly (judge-cases img (book-cases (half-of img) side v s e img scratch)) (index-book side v s e img scratch .status)
+      → Exactly (judge-cases img (book-cases (half-of img) Fewer-bits side v s e img scratch)) (index-book side v s e img scratch .status)
   pub of-instant : (t : ℕ) (img : List ℕ) → Exactly (judge-cases img (instant-cases (half-of img) t img)) (index-instant t img .status)
   pub of-pages : (t : ℕ) (img : List ℕ) → Pages-told (half-of img) t img (index-instant t img .status) (index-instant t img .pages)
   pub of-average : (t : ℕ) (img : List ℕ) → Exactly (judge-cases img (instant-cases (half-of img) t img)) (index-average t img .status)
@@ -157,4 +166,13 @@ pub record Turned-back : Type 0 where
       (a b : ℕ) (img out : List ℕ)
       → Exactly (judge-cases img (listing-cases (half-of img) a b img out)) (index-listing a b img out .status)
   pub of-audit :
-      (img scratch : List ℕ) → Exactly (judge-cases img (audit-cases (half-of img) img scratch)) (index-audit img scratch .status)
+      (img scratch : List ℕ)
+      → Exactly (judge-cases img (audit-cases (half-of img) Fewer-bits img scratch)) (index-audit img scratch .status)
+  -- the calls of before (vi), by document 01's row
+  pub of-booking-bytewise :
+      (side : Side) (v : ℤ) (s e : ℕ) (img scratch : List ℕ)
+      → Exactly (judge-cases img (book-cases (half-of img) Fewer-bytes side v s e img scratch))
+      (index-book-bytewise side v s e img scratch .status)
+  pub of-audit-bytewise :
+      (img scratch : List ℕ)
+      → Exactly (judge-cases img (audit-cases (half-of img) Fewer-bytes img scratch)) (index-audit-bytewise img scratch .status)

@@ -3,7 +3,7 @@
 use Prim.Native.Nat.{ℕ, _*_, _+_}
 use mathlib.Core.Path.{_≡_}
 use mathlib.Core.Bool.{true, false}
-use mathlib.Core.List.{List, [], _∷_, _++_}
+use mathlib.Core.List.{List, [], _∷_, _++_, map}
 use lib.ListN.{replicate}
 use lib.IntN.{ℤ, pos, negsuc}
 use Rattle.rule.specs.Time.{END, effect-end}
@@ -17,7 +17,8 @@ use Rattle.image.specs.Sound.{sound}
 use Rattle.image.specs.Listing.{run}
 use Rattle.calls.specs.Changes.{Side, entering, withdrawing}
 use Rattle.calls.specs.Calls.{head, runs-over}
-use Rattle.calls.specs.Index.{index-format, index-book, index-instant, index-listing, index-audit}
+use Rattle.calls.specs.Refusals.{borrowed}
+use Rattle.calls.specs.Index.{index-format, index-book, index-instant, index-listing, index-audit, index-audit-bytewise}
 use Rattle.calls.specs.Program.{program}
 use Rattle.marks.specs.Marks.{half, formatted, status, after, pair-of, full-listing, one-booking}
 
@@ -25,7 +26,7 @@ use Rattle.marks.specs.Marks.{half, formatted, status, after, pair-of, f
 unfoldable pub with-byte : ℕ → ℕ → List ℕ → List ℕ
 with-byte o b s = patch s o (b ∷ [])
 
--- one change on pages of four entries, with scratch enough for six pages
+-- one change on pages of four entries, with scratch enough for six pages and five bytes beyond
 unfoldable pub step : Side → ℤ → ℕ → ℕ → List ℕ → List ℕ
 step side v s e img = index-book side v s e img (replicate 6 7) .image
 
@@ -108,12 +109,18 @@ pub record Cases : Type 0 where
         output = 0 ∷ 0 ∷ 0 ∷ 0 ∷ 0 ∷ 0 ∷ 0 ∷ 0 ∷ 0 ∷ 0 ∷ 0 ∷ 0 ∷ 0 ∷ 0 ∷ 0 ∷ 0 ∷ 10 ∷ 0 ∷ 0 ∷ 0 ∷ 1 ∷ 0
             ∷ 0 ∷ 0 ∷ 6 ∷ 0 ∷ 0 ∷ 0 ∷ 0 ∷ 0 ∷ 0 ∷ 0 ∷ 9 ∷ [];
       }
-  -- Scratch is untouched at 13 and 17; at 22 and 0 its n bytes are 0 and those beyond keep theirs.
+  -- Scratch is untouched at 13 and 17; at 22 and 0 a byte for up to eight pages is 0 and those beyond keep theirs.
   pub scratch-13 : index-book entering (pos 1000001) 10 40 (formatted 2 1 0) (7 ∷ 7 ∷ 7 ∷ []) .scratch ≡ 7 ∷ 7 ∷ 7 ∷ []
-  pub scratch-22 : index-book withdrawing (pos 1) 10 40 (formatted 2 2 0) (7 ∷ 7 ∷ 7 ∷ []) .scratch ≡ 0 ∷ 0 ∷ 7 ∷ []
-  pub scratch-0 : index-book entering (pos 1) 10 40 (formatted 2 1 0) (7 ∷ 7 ∷ 7 ∷ []) .scratch ≡ 0 ∷ 0 ∷ 7 ∷ []
-  pub scratch-17 : index-book entering (pos 1) 10 10 (formatted 2 1 0) (7 ∷ []) ≡
-      record { status = 17; image = formatted 2 1 0; scratch = 7 ∷ [] }
+  pub scratch-22 : index-book withdrawing (pos 1) 10 40 (formatted 2 2 0) (7 ∷ 7 ∷ 7 ∷ []) .scratch ≡ 0 ∷ 7 ∷ 7 ∷ []
+  pub scratch-0 : index-book entering (pos 1) 10 40 (formatted 2 1 0) (7 ∷ 7 ∷ 7 ∷ []) .scratch ≡ 0 ∷ 7 ∷ 7 ∷ []
+  pub scratch-17 : index-book entering (pos 1) 10 10 (formatted 2 1 0) [] ≡ record { status = 17; image = formatted 2 1 0; scratch = [] }
+  -- "n/8 bytes, rounded up": a ninth page takes a second byte, and a caller who lends nine has the rest back as it was. Before, eight
+  -- were too few for nine pages.
+  pub borrows : map borrowed (2 ∷ 7 ∷ 8 ∷ 9 ∷ 16 ∷ 17 ∷ 1023 ∷ 1024 ∷ []) ≡ 1 ∷ 1 ∷ 1 ∷ 2 ∷ 2 ∷ 3 ∷ 128 ∷ 128 ∷ []
+  pub eight-pages : index-audit (small 8) (7 ∷ 7 ∷ []) ≡ record { status = 0; scratch = 0 ∷ 7 ∷ [] }
+  pub nine-short : index-audit (small 9) (7 ∷ []) ≡ record { status = 17; scratch = 7 ∷ [] }
+  pub nine-pages : index-audit (small 9) (replicate 9 7) ≡ record { status = 0; scratch = 0 ∷ 0 ∷ replicate 7 7 }
+  pub nine-bytewise : map (λ n. index-audit-bytewise (small 9) (replicate n 7) .status) (8 ∷ 9 ∷ []) ≡ 17 ∷ 0 ∷ []
   -- 21 stands ahead of 22, and 22 ahead of 23.
   pub order-21-22 : status withdrawing (pos 1) 10 40 (with-byte 44 0 (formatted 2 2 0)) ≡ 21
   pub order-22-23 : status withdrawing (pos 1) 10 40 (patch (formatted 2 2 0) 32 (u32-bytes 1000000000)) ≡ 22

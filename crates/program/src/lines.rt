@@ -1,5 +1,5 @@
 // What a line does.
-use crate::PAGES;
+use crate::SCRATCH_BYTES;
 use booking::book::book;
 use calls::refusals::ACCEPTED;
 use page::layout::HALF;
@@ -28,7 +28,7 @@ fn run_booking(
     ensures { λ r. ⌜ Does (ran-line 12 64 k (booking (side-of withdraws) v s e) (now (img .entry)))
         (now (img .exit)) (now (out .entry)) at (now (out .exit)) r ⌝ }
 {
-    let mut scratch = [0u8; PAGES];
+    let mut scratch = [0u8; SCRATCH_BYTES];
     let number = book(HALF, img, &mut scratch, withdraws, v, s, e);
     if number == ACCEPTED {
         return at;

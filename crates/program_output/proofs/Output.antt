@@ -57,20 +57,21 @@ unfolding pages-in
 same-pages img img′ e = ap (λ n. n / page-size 12) e
 
 reached-line : (k : ℕ) (l : Line) {img : List ℕ} → Reached img → Reached (ran-line 12 64 k l img .image)
-unfolding ran-line
+unfolding ran-line borrowed
 reached-line k unread R = R
-reached-line k (booking side v s e) {img} R = step (ℕ-discrete (book borrowed 12 side v s e img (replicate 64 0) .status) 0)
+reached-line k (booking side v s e) {img} R = step (ℕ-discrete (book borrowed 12 side v s e img (replicate 8 0) .status) 0)
   where
-    step : Dec (book borrowed 12 side v s e img (replicate 64 0) .status ≡ 0) → Reached (book borrowed 12 side v s e img (replicate 64 0) .image)
+    step : Dec (book borrowed 12 side v s e img (replicate 8 0) .status ≡ 0)
+        → Reached (book borrowed 12 side v s e img (replicate 8 0) .image)
     step (yes n) =
-        let left = booked (omega arith) side v s e img (replicate 64 0) (R .kept .bytes) n in
+        let left = booked (omega arith) side v s e img (replicate 8 0) (R .kept .bytes) n in
         record {
           book = _;
-          kept = kept-accepted (omega arith) side v s e (replicate 64 0) (R .kept) n;
-          pages = same-pages img (book borrowed 12 side v s e img (replicate 64 0) .image) (left .size) ∙ R .pages;
+          kept = kept-accepted (omega arith) side v s e (replicate 8 0) (R .kept) n;
+          pages = same-pages img (book borrowed 12 side v s e img (replicate 8 0) .image) (left .size) ∙ R .pages;
           kind = left .kind ∙ R .kind;
         }
-    step (no n) = subst Reached (sym (book-keeps 12 side v s e img (replicate 64 0) n)) R
+    step (no n) = subst Reached (sym (book-keeps 12 side v s e img (replicate 8 0) n)) R
 
 reached-run : (g : Program-state) → Reached (g .image) → Reached (line-run 12 64 g .image)
 unfolding line-run

@@ -1,4 +1,4 @@
--- The header's promise follows from what is proved of every listing. Assumes nothing.
+-- The header's promises follow from what is proved of every listing and of every scratch. Assumes nothing.
 use Prim.Native.Nat.{ℕ, _*_, _-_, _≤_}
 use mathlib.Core.Path.{_≡_, sym, ap, _∙_}
 use mathlib.Core.Logic.{_≢_, _⊎_, inl, inr}
@@ -7,12 +7,13 @@ use native.Mathlib.Omega.{arith}
 use lib.ListN.{length}
 use Rattle.page.specs.Layout.{capacity}
 use Rattle.image.specs.Images.{half-of, pages-in}
-use Rattle.calls.specs.Calls.{Listed, listing}
+use Rattle.calls.specs.Calls.{Booked, Listed, Audited, listing}
 use Rattle.calls.specs.Index.{judge, index-listing}
 use Rattle.calls.proofs.Judged.{by-judge, judge-is}
+use Rattle.calls.proofs.Scratch.{booking-enough, audit-enough}
 use Rattle.answers.proofs.Few.{few-runs}
 use Rattle.luwhenoka.specs.Answers.{listing-answer}
-use Rattle.promises.specs.Header.{Header-runs}
+use Rattle.promises.specs.Header.{Header-runs, Enough-scratch, Header-scratch}
 
 -- as many as fit in the pages of an image
 abbrev most : List ℕ → ℕ
@@ -41,4 +42,13 @@ header-runs =
     record {
       runs = λ a b img out r after p. omega (arith, ap (λ (q : Listed). q .runs) p, answered a b img out);
       enough = λ a b img out r after p room e. enough a b img out room (sym (ap (λ (q : Listed). q .status) p) ∙ e);
+    }
+
+pub header-scratch : Header-scratch
+unfolding Enough-scratch
+header-scratch =
+    record {
+      booking = λ side v s e img scratch r after left p enough z.
+          booking-enough img scratch enough side v s e (sym (ap (λ (b : Booked). b .status) p) ∙ z);
+      audit = λ img scratch r left p enough z. audit-enough img scratch enough (sym (ap (λ (a : Audited). a .status) p) ∙ z);
     }

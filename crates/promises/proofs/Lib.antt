@@ -1,6 +1,7 @@
 pub mod Answers
 pub mod Refusing
 pub mod Tables
+pub mod Borrowing
 pub mod Changes
 pub mod Header
 pub mod AfterLists

@@ -3,7 +3,8 @@ use mathlib.Core.Path.{ap, subst⁻¹}
 use Rattle.image.specs.Images.{half-of}
 use Rattle.calls.specs.Calls.{Formatted, Booked, Listed, Audited}
 use Rattle.calls.specs.Index.{index-instant}
-use Rattle.calls.specs.Tables.{Exactly, format-cases, judge-cases, book-cases, instant-cases, listing-cases, audit-cases, Pages-told, Turned-back}
+use Rattle.calls.specs.Tables.{Exactly, Fewer-bits, format-cases, judge-cases}
+use Rattle.calls.specs.Tables.{book-cases, instant-cases, listing-cases, audit-cases, Pages-told, Turned-back}
 use Rattle.calls.proofs.Tables.{turned-back}
 use Rattle.luwhenoka.specs.Answers.{listing-answer}
 use Rattle.promises.specs.Tables.{By-status}
@@ -21,8 +22,8 @@ by-status =
           subst⁻¹ (Exactly (format-cases kind window k img)) (ap (λ (f : Formatted). f .status) p) (rows .of-format kind window k img);
       of-booking =
           λ side v s e img scratch r after left p.
-          subst⁻¹ (Exactly (judge-cases img (book-cases (half-of img) side v s e img scratch))) (ap (λ (b : Booked). b .status) p)
-          (rows .of-booking side v s e img scratch);
+          subst⁻¹ (Exactly (judge-cases img (book-cases (half-of img) Fewer-bits side v s e img scratch)))
+          (ap (λ (b : Booked). b .status) p) (rows .of-booking side v s e img scratch);
       of-instant =
           λ t img r p. (
             subst⁻¹ (Exactly (judge-cases img (instant-cases (half-of img) t img))) (answer-status t img p) (rows .of-instant t img),
@@ -39,6 +40,6 @@ by-status =
           (rows .of-listing a b img out);
       of-audit =
           λ img scratch r left p.
-          subst⁻¹ (Exactly (judge-cases img (audit-cases (half-of img) img scratch))) (ap (λ (a : Audited). a .status) p)
+          subst⁻¹ (Exactly (judge-cases img (audit-cases (half-of img) Fewer-bits img scratch))) (ap (λ (a : Audited). a .status) p)
           (rows .of-audit img scratch);
     }

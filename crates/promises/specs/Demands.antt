@@ -8,11 +8,14 @@ use Rattle.calls.specs.Demands.{The-demands}
 use Rattle.promises.specs.Refusing.{Refusing}
 use Rattle.promises.specs.Tables.{By-status}
 use Rattle.promises.specs.Changes.{Every-change-promised}
-use Rattle.promises.specs.Header.{Header-runs}
+use Rattle.promises.specs.Borrowing.{Borrowing}
+use Rattle.promises.specs.Header.{Header-runs, Header-scratch}
 
 pub record Demands-met : Type 0 where
   pub demands : The-demands
   pub refusing : Refusing
   pub by-status : By-status
   pub every-change : Every-change-promised
+  pub borrowing : Borrowing
   pub header-runs : Header-runs
+  pub header-scratch : Header-scratch

@@ -16,8 +16,8 @@ use Rattle.luwhenoka.specs.declared.ListingAnswer.{ListingAnswer}
 use Rattle.luwhenoka.specs.Promises.{Formats, Books, Answers, Averages, Lists, Audits}
 
 -- "A refusal returns its number and zeros (instant: the pages read too). Image and output keep their bytes; scratch is untouched at 16
--- and 17, also at 11 and 13, else its n bytes are 0." Document 02, (xi): at a bad capacity too. That every call returns is part of its
--- function's proof.
+-- and 17, also at 11 and 13, else its n bytes are 0." Document 02, (xi): at a bad capacity too; (vi): of those bytes as many as are
+-- borrowed. That every call returns is part of its function's proof.
 pub record Refusing : Type 0 where
   pub of-format :
       (kind window k : ℕ) (img : List ℕ) (r : ℕ) (after : List ℕ) → Formats kind window k img r after → r ≢ 0 → after ≡ img

@@ -4,7 +4,8 @@ use mathlib.Core.List.{List}
 use lib.IntN.{ℤ}
 use Rattle.calls.specs.Changes.{Side}
 use Rattle.image.specs.Images.{half-of}
-use Rattle.calls.specs.Tables.{Exactly, format-cases, judge-cases, book-cases, instant-cases, listing-cases, audit-cases, Pages-told}
+use Rattle.calls.specs.Tables.{Exactly, Fewer-bits, format-cases, judge-cases}
+use Rattle.calls.specs.Tables.{book-cases, instant-cases, listing-cases, audit-cases, Pages-told}
 use Rattle.luwhenoka.specs.declared.InstantAnswer.{InstantAnswer}
 use Rattle.luwhenoka.specs.declared.AverageAnswer.{AverageAnswer}
 use Rattle.luwhenoka.specs.declared.ListingAnswer.{ListingAnswer}
@@ -18,7 +19,7 @@ pub record By-status : Type 0 where
       → Exactly (format-cases kind window k img) r
   pub of-booking :
       (side : Side) (v : ℤ) (s e : ℕ) (img scratch : List ℕ) (r : ℕ) (after left : List ℕ) → Books side v s e img scratch r after left
-      → Exactly (judge-cases img (book-cases (half-of img) side v s e img scratch)) r
+      → Exactly (judge-cases img (book-cases (half-of img) Fewer-bits side v s e img scratch)) r
   pub of-instant :
       (t : ℕ) (img : List ℕ) (r : InstantAnswer) → Answers t img r
       → Exactly (judge-cases img (instant-cases (half-of img) t img)) (r .status) × Pages-told (half-of img) t img (r .status) (r .pages)
@@ -29,4 +30,4 @@ pub record By-status : Type 0 where
       → Exactly (judge-cases img (listing-cases (half-of img) a b img out)) (r .status)
   pub of-audit :
       (img scratch : List ℕ) (r : ℕ) (left : List ℕ) → Audits img scratch r left
-      → Exactly (judge-cases img (audit-cases (half-of img) img scratch)) r
+      → Exactly (judge-cases img (audit-cases (half-of img) Fewer-bits img scratch)) r

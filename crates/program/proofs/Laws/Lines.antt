@@ -56,9 +56,9 @@ ran-of : ℕ → Booked → Ran
 ran-of k r = record { written = cond (eqb (r .status) 0) [] (refused-text k (r .status)); image = r .image }
 
 module _ (k : ℕ) (side : Side) (v : ℤ) (s e : ℕ) (img : List ℕ) {n : ℕ} {left scratch : List ℕ}
-    (b : record { status = n; image = left; scratch = scratch } ≡ book borrowed 12 side v s e img (replicate 64 0)) where
+    (b : record { status = n; image = left; scratch = scratch } ≡ book borrowed 12 side v s e img (replicate 8 0)) where
   ran-booking : ran-of k (record { status = n; image = left; scratch = scratch }) ≡ ran-line 12 64 k (booking side v s e) img
-  unfolding ran-of ran-line
+  unfolding ran-of ran-line borrowed
   ran-booking = ap (ran-of k) b
 
   silent : n ≡ 0 → record { written = []; image = left } ≡ ran-of k (record { status = n; image = left; scratch = scratch })

@@ -1,0 +1,161 @@
+-- A scratch of one bit per page: what is cleared of it, and that a call answers as it did with one of a byte. Assumes nothing.
+use Prim.Native.Nat.{ℕ, zero, suc, _+_, _*_, _/_, _≤_}
+use mathlib.Core.Path.{_≡_, refl, ap, _∙_}
+use mathlib.Core.Logic.{_≢_, _⊎_, inl, inr}
+use mathlib.Core.Bool.{Bool, true, false, cond, not, false≢true}
+use mathlib.Core.List.{List, [], _∷_, _++_}
+use native.Mathlib.Omega.{arith}
+use lib.ListN.{length, getD, drop, replicate, length-replicate, getD-replicate, List·getD-append}
+use lib.Dec.{eqb}
+use lib.IntN.{ℤ}
+use borrow.Author.Tests.{le-leb}
+use Rattle.rule.specs.Time.{span-ok, value-ok}
+use Rattle.fields.specs.Bytes.{patch}
+use Rattle.fields.proofs.Laws.Parts.{length-patch}
+use Rattle.image.specs.Images.{half-of, pages-in, length-ok}
+use Rattle.image.specs.Sound.{sound}
+use Rattle.image.proofs.Sizes.{sized}
+use Rattle.calls.specs.Refusals.{Row, first, borrowed, scratch-ok, cleared}
+use Rattle.calls.specs.Changes.{Side}
+use Rattle.calls.specs.Calls.{Booked, Audited, book-state-rows, changed, book-input-rows, book-status, book, audit-input-rows, audit}
+use Rattle.calls.specs.Index.{judge, judged, index-book, index-audit, index-book-bytewise, index-audit-bytewise}
+use Rattle.calls.specs.Scratch.{Bytes-cleared}
+use Rattle.calls.proofs.Judged.{by-judge, judge-is}
+
+-- ---- what is cleared
+
+-- behind the zeros stands what stood there
+behind : (m : ℕ) (s : List ℕ) (i : ℕ) → m ≤ length s → m ≤ i → getD (replicate m 0 ++ drop m s) i 0 ≡ getD s i 0
+behind zero s i room past = refl
+behind (suc m) [] i room past = absurd (omega (arith, room))
+behind (suc m) (x ∷ s) zero room past = absurd (omega (arith, past))
+behind (suc m) (x ∷ s) (suc i) room past = behind m s i (omega (arith, room)) (omega (arith, past))
+
+pub clears : (pages : ℕ) (scratch : List ℕ) → pages ≤ 8 * length scratch → Bytes-cleared pages scratch (cleared borrowed pages scratch)
+unfolding cleared borrowed patch
+clears pages scratch room =
+    let m : ℕ = (pages + 7) / 8 in
+    let zeros : List ℕ = replicate m 0 in
+    let long : length zeros ≡ m = length-replicate m 0 in
+    let at : 0 + length zeros ≡ m = omega (arith, long) in
+    record {
+      size = length-patch scratch 0 zeros (omega (arith, long, room));
+      clear = λ i inside.
+          List·getD-append zeros (drop (0 + length zeros) scratch) 1 i (omega (arith, long, inside))
+          ∙ getD-replicate m i 0 1 (omega (arith, inside));
+      beyond = λ i past.
+          ap (λ k. getD (zeros ++ drop k scratch) i 0) at
+          ∙ behind m scratch i (omega (arith, room)) (omega (arith, past));
+    }
+
+-- ---- the same answers
+
+-- two calls that differ in row 17, where it turns neither back
+same-first : (a x y : Bool) (rows : List Row) → first ((16, a) ∷ (17, x) ∷ rows) ≢ 17 → first ((16, a) ∷ (17, y) ∷ rows) ≢ 17
+    → first ((16, a) ∷ (17, x) ∷ rows) ≡ first ((16, a) ∷ (17, y) ∷ rows)
+unfolding first
+same-first true x y rows n m = refl
+same-first false true y rows n m = absurd (n refl)
+same-first false false true rows n m = absurd (m refl)
+same-first false false false rows n m = refl
+
+-- whatever holds of two calls and of what the rows ahead make of them
+both-judged : {A : Type 0} (P : A → A → Type 0) (refused call refused′ call′ : ℕ → A) (img : List ℕ)
+    → P (call (half-of img)) (call′ (half-of img)) → P (refused (judge img)) (refused′ (judge img))
+    → P (judged refused call img) (judged refused′ call′ img)
+unfolding judged
+both-judged P refused call refused′ call′ img p q = go (eqb (judge img) 0)
+  where
+    go : (b : Bool) → P (cond b (call (half-of img)) (refused (judge img))) (cond b (call′ (half-of img)) (refused′ (judge img)))
+    go true = p
+    go false = q
+
+-- two bookings, or two audits
+abbrev Same-booking : Booked → Booked → Type 0
+Same-booking a b = a .status ≢ 17 → b .status ≢ 17 → (a .status ≡ b .status) × (a .image ≡ b .image)
+
+abbrev Same-audit : Audited → Audited → Type 0
+Same-audit a b = a .status ≢ 17 → b .status ≢ 17 → a .status ≡ b .status
+
+module _ (half : ℕ) (f g : ℕ → ℕ) (img scratch other : List ℕ) where
+  same-book : (side : Side) (v : ℤ) (s e : ℕ) → Same-booking (book f half side v s e img scratch) (book g half side v s e img other)
+  unfolding book book-status book-input-rows
+  same-book side v s e n m =
+      let number =
+      same-first (not (length-ok half img)) (not (scratch-ok f (pages-in half img) scratch)) (not (scratch-ok g (pages-in half img) other))
+      ((11, not (span-ok s e)) ∷ (13, not (value-ok v)) ∷ book-state-rows half side s e img) n m in
+      (number, ap (λ k. cond (eqb k 0) (changed half side v s e img) img) number)
+
+  same-verdict : Same-audit (audit f half img scratch) (audit g half img other)
+  unfolding audit audit-input-rows
+  same-verdict =
+      same-first (not (length-ok half img)) (not (scratch-ok f (pages-in half img) scratch)) (not (scratch-ok g (pages-in half img) other))
+      ((21, not (sound half img)) ∷ [])
+
+module _ (img scratch other : List ℕ) where
+  pub same-booking : (side : Side) (v : ℤ) (s e : ℕ)
+      → Same-booking (index-book side v s e img scratch) (index-book-bytewise side v s e img other)
+  unfolding index-book index-book-bytewise
+  same-booking side v s e =
+      both-judged Same-booking _ (λ half. book borrowed half side v s e img scratch) _ (λ half. book (λ n. n) half side v s e img other) img
+      (same-book (half-of img) borrowed (λ n. n) img scratch other side v s e) (λ n m. (refl, refl))
+
+  pub same-audit : Same-audit (index-audit img scratch) (index-audit-bytewise img other)
+  unfolding index-audit index-audit-bytewise
+  same-audit =
+      both-judged Same-audit _ (λ half. audit borrowed half img scratch) _ (λ half. audit (λ n. n) half img other) img
+      (same-verdict (half-of img) borrowed (λ n. n) img scratch other) (λ n m. refl)
+
+-- ---- what is always enough
+
+-- for n pages, or for the most that an image may have
+abbrev pub Enough : ℕ → List ℕ → Type 0
+Enough pages scratch = ((pages + 7) / 8 ≤ length scratch) ⊎ (128 ≤ length scratch)
+
+is-enough : (half : ℕ) (img scratch : List ℕ) → Enough (pages-in half img) scratch → length-ok half img ≡ true
+    → scratch-ok borrowed (pages-in half img) scratch ≡ true
+unfolding scratch-ok borrowed
+is-enough half img scratch (inl k) e = le-leb _ _ k
+is-enough half img scratch (inr k) e =
+    le-leb ((pages-in half img + 7) / 8) (length scratch) (omega (arith, sized half img e .most, k))
+
+-- then 17 turns nothing back
+passes-17 : (a b : Bool) (rows : List Row) → (a ≡ true → b ≡ true) → first rows ≢ 17 → first ((16, not a) ∷ (17, not b) ∷ rows) ≢ 17
+unfolding first
+passes-17 false b rows h n e = omega (arith, e)
+passes-17 true true rows h n e = n e
+passes-17 true false rows h n e = false≢true (h refl)
+
+judge-no-17 : (img : List ℕ) → judge img ≢ 17
+judge-no-17 img = go (judge-is img)
+  where
+    go : (judge img ≡ 0) ⊎ ((judge img ≡ 16) ⊎ (judge img ≡ 21)) → judge img ≢ 17
+    go (inl z) e = omega (arith, z, e)
+    go (inr (inl z)) e = omega (arith, z, e)
+    go (inr (inr z)) e = omega (arith, z, e)
+
+module _ (img scratch : List ℕ) (enough : Enough (pages-in (half-of img) img) scratch) where
+  pub booking-enough : (side : Side) (v : ℤ) (s e : ℕ) → index-book side v s e img scratch .status ≢ 17
+  unfolding index-book book book-status book-input-rows
+  booking-enough side v s e =
+      by-judge _ (λ half. book borrowed half side v s e img scratch) img (λ (b : Booked). b .status ≢ 17)
+      (λ g. passes-17 _ _ _ (is-enough (half-of img) img scratch enough) (behind-17 _ _ _ _ _ _)) (λ n. judge-no-17 img)
+    where
+      behind-17 : (a b c d f g : Bool) → first ((11, a) ∷ (13, b) ∷ (21, c) ∷ (22, d) ∷ (23, f) ∷ (24, g) ∷ []) ≢ 17
+      behind-17 true b c d f g e = unfold first in omega (arith, e)
+      behind-17 false true c d f g e = unfold first in omega (arith, e)
+      behind-17 false false true d f g e = unfold first in omega (arith, e)
+      behind-17 false false false true f g e = unfold first in omega (arith, e)
+      behind-17 false false false false true g e = unfold first in omega (arith, e)
+      behind-17 false false false false false true e = unfold first in omega (arith, e)
+      behind-17 false false false false false false e = unfold first in omega (arith, e)
+
+  pub audit-enough : index-audit img scratch .status ≢ 17
+  unfolding index-audit audit audit-input-rows
+  audit-enough =
+      by-judge _ (λ half. audit borrowed half img scratch) img (λ (a : Audited). a .status ≢ 17)
+      (λ g. passes-17 _ _ _ (is-enough (half-of img) img scratch enough) (behind-17 _)) (λ n. judge-no-17 img)
+    where
+      behind-17 : (a : Bool) → first ((21, a) ∷ []) ≢ 17
+      behind-17 true e = unfold first in omega (arith, e)
+      behind-17 false e = unfold first in omega (arith, e)
