@@ -5,7 +5,8 @@
 //! scratch is untouched at 16 and 17, also at 11 and 13, else its n bytes are 0."
 //!
 //! Document 02, (xi), puts a 14 and a 21 ahead of that: "An odd K or one outside its range gives 14 at format, ahead of 16. In
-//! an image K is read before the length is judged: under 40 bytes gives 16, a bad K 21 ahead of 16, scratch untouched".
+//! an image K is read before the length is judged: under 40 bytes gives 16, a bad K 21 ahead of 16, scratch untouched". By (vi)
+//! the scratch's n bytes have become n/8: see [`scratch_bytes`].
 
 use std::collections::BTreeSet;
 
@@ -34,7 +35,7 @@ pub const FORMAT_RANGE: u32 = 14;
 pub const SHORT_OUTPUT: u32 = 15;
 /// "image length not 512 × n for an n in range", 512 being the bytes of a page of the K at hand
 pub const BAD_LENGTH: u32 = 16;
-/// "scratch shorter than n bytes"
+/// "scratch shorter than n bytes"; by document 02 "17 now means shorter than" [`scratch_bytes`] of n
 pub const SHORT_SCRATCH: u32 = 17;
 /// "instant, listing: a page it meets is unfit; audit, change: image not sound"; by document 02 also "a bad K"
 pub const UNFIT: u32 = 21;
@@ -84,6 +85,15 @@ pub fn judge(image: &[u8]) -> Result<u32, u32> {
     number_of_pages(image.len(), capacity).ok_or(BAD_LENGTH)
 }
 
+// ---------------------------------------------------------------- the scratch
+
+/// How much of the scratch an audit or a change of n pages borrows. Document 02, (vi): "Audit, changes and the rebuild shall borrow
+/// n/8 bytes, rounded up, and give the same answers for every image; those bytes are 0 afterwards." These are meant from then on
+/// where document 01 says n bytes of the scratch.
+pub fn scratch_bytes(n: u32) -> usize {
+    n.div_ceil(8) as usize
+}
+
 // ---------------------------------------------------------------- changes
 
 /// "an entry adds (v, 1), a withdrawal (−v, −1), whether or not such a booking is live"
@@ -128,14 +138,14 @@ pub fn withdraw_recorded(image: &mut [u8], scratch: &mut [u8], v: i64, s: u32, e
     change(image, scratch, Change::Withdraw, v, s, e)
 }
 
-/// The judging, 17, 11 and 13 leave the scratch untouched; then, whatever comes, "those n bytes are 0 afterwards, any beyond keep
-/// theirs".
+/// The judging, 17, 11 and 13 leave the scratch untouched; then, whatever comes, "those bytes are 0 afterwards" (document 02, (vi)),
+/// "any beyond keep theirs".
 fn change(image: &mut [u8], scratch: &mut [u8], which: Change, v: i64, s: u32, e: u32) -> RecordedChange {
     let n = match judge(image) {
         Ok(n) => n,
         Err(status) => return RecordedChange::refused(status),
     };
-    if scratch.len() < n as usize {
+    if scratch.len() < scratch_bytes(n) {
         return RecordedChange::refused(SHORT_SCRATCH);
     }
     if s >= e {
@@ -144,7 +154,7 @@ fn change(image: &mut [u8], scratch: &mut [u8], which: Change, v: i64, s: u32, e
     if !value_in_range(v) {
         return RecordedChange::refused(BAD_VALUE);
     }
-    scratch[..n as usize].fill(0);
+    scratch[..scratch_bytes(n)].fill(0);
     change_by_state(image, which, v, Span { start: s, end: e })
 }
 
@@ -319,16 +329,17 @@ fn join_or_open_run(runs: &mut Vec<Run>, next: Run) {
 
 // ---------------------------------------------------------------- audit
 
-/// "Audit and changes borrow a scratch of n bytes; those n bytes are 0 afterwards, any beyond keep theirs."
+/// "Audit and changes borrow a scratch of n bytes; those n bytes are 0 afterwards, any beyond keep theirs", the n bytes being
+/// document 02's [`scratch_bytes`] of n.
 pub fn audit(image: &[u8], scratch: &mut [u8]) -> u32 {
     let n = match judge(image) {
         Ok(n) => n,
         Err(status) => return status,
     };
-    if scratch.len() < n as usize {
+    if scratch.len() < scratch_bytes(n) {
         return SHORT_SCRATCH;
     }
-    scratch[..n as usize].fill(0);
+    scratch[..scratch_bytes(n)].fill(0);
     if is_sound(image) {
         ACCEPTED
     } else {

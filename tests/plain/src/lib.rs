@@ -1,4 +1,5 @@
-//! The plain version of document 01, the Lent-Block Time Index, with request (xi) of document 02, pages of any capacity.
+//! The plain version of document 01, the Lent-Block Time Index, with two requests of document 02: (vi), a bit of scratch for a
+//! page, and (xi), pages of any capacity.
 //!
 //! Written from the papers alone and plain before fast: this is what the proved library is compared with, byte for byte.
 //! Each function carries the sentence of document 01 or 02 that it follows, in quotation marks. `R1` to `R27` are the
@@ -30,8 +31,8 @@ pub mod value;
 
 pub use book::Book;
 pub use calls::{
-    audit, average, enter, enter_recorded, format, instant, listing, withdraw, withdraw_recorded, Instant, Listing,
-    RecordedChange,
+    audit, average, enter, enter_recorded, format, instant, listing, scratch_bytes, withdraw, withdraw_recorded,
+    Instant, Listing, RecordedChange,
 };
 pub use capacity::Capacity;
 pub use program::run;

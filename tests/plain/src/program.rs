@@ -7,11 +7,11 @@
 //!
 //! Document 02, (xi): "The program and document 01's cases keep K = 24."
 
-use crate::calls::{enter, format, listing, withdraw, ACCEPTED, RUN_BYTES};
+use crate::calls::{enter, format, listing, scratch_bytes, withdraw, ACCEPTED, RUN_BYTES};
 use crate::capacity::OF_DOCUMENT_01;
 use crate::value::{average_of, Average, END, TOTALS};
 
-const PAGES: usize = 64;
+const PAGES: u32 = 64;
 const WINDOW: u32 = 0;
 
 /// In 64 pages there are at most 59 leaf pages, so the program has at most 1,416 runs.
@@ -19,7 +19,7 @@ const MOST_RUNS: usize = 1_416;
 
 /// What the program prints for a text.
 pub fn run(text: &[u8]) -> Vec<u8> {
-    let mut image = vec![0; PAGES * OF_DOCUMENT_01.page_bytes()];
+    let mut image = vec![0; PAGES as usize * OF_DOCUMENT_01.page_bytes()];
     format(&mut image, TOTALS, WINDOW, OF_DOCUMENT_01.number());
     let mut printed = String::new();
     for (i, line) in lines_of(text).iter().enumerate() {
@@ -40,7 +40,7 @@ fn lines_of(text: &[u8]) -> Vec<&[u8]> {
 
 fn answer_to_line(image: &mut [u8], line_number: usize, line: &[u8]) -> String {
     let Some(read) = read_line(line) else { return format!("line {line_number} unread\n") };
-    let mut scratch = [0; PAGES];
+    let mut scratch = vec![0; scratch_bytes(PAGES)];
     let status = match read.sign {
         Sign::Plus => enter(image, &mut scratch, read.v, read.s, read.e),
         Sign::Minus => withdraw(image, &mut scratch, read.v, read.s, read.e),

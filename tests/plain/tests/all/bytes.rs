@@ -65,13 +65,13 @@ fn assert_image(image: &[u8], pages: &[Vec<u8>]) {
 }
 
 fn enter(image: &mut [u8], v: i64, s: u32, e: u32) -> RecordedChange {
-    let recorded = enter_recorded(image, &mut [0; 1_024], v, s, e);
+    let recorded = enter_recorded(image, &mut [0; 128], v, s, e);
     assert_eq!(recorded.status, 0);
     recorded
 }
 
 fn withdraw(image: &mut [u8], v: i64, s: u32, e: u32) -> RecordedChange {
-    let recorded = withdraw_recorded(image, &mut [0; 1_024], v, s, e);
+    let recorded = withdraw_recorded(image, &mut [0; 128], v, s, e);
     assert_eq!(recorded.status, 0);
     recorded
 }
@@ -377,7 +377,7 @@ fn a_change_without_effect_lacks_pages() {
     enter(&mut image, 100, 500, END);
     assert_eq!(Node::of(&image).leaf_entries(), 23);
     let before = image.clone();
-    assert_eq!(enter_recorded(&mut image, &mut [0; 2], 1, 600, 700).status, 24);
+    assert_eq!(enter_recorded(&mut image, &mut [0], 1, 600, 700).status, 24);
     assert!(image == before);
     // One cut is still possible; the entry that it makes is healed again.
     enter(&mut image, 1, 600, END);

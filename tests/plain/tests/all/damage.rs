@@ -150,7 +150,8 @@ fn check_turned_back(image: &[u8], seen: &mut Seen) {
 fn change_damaged(image: &[u8], sound: bool, seen: &mut Seen) {
     for withdrawal in [false, true] {
         let mut copy = image.to_vec();
-        let mut scratch = vec![2; image.len() / 512];
+        let lent = vec![2; borrowed_by(image) + 1];
+        let mut scratch = lent.clone();
         let status = if withdrawal {
             withdraw(&mut copy, &mut scratch, 1, 40, 45)
         } else {
@@ -158,10 +159,10 @@ fn change_damaged(image: &[u8], sound: bool, seen: &mut Seen) {
         };
         seen.calls += 1;
         if judged(image) != 0 {
-            assert!(status == judged(image) && copy == image && scratch.iter().all(|&byte| byte == 2));
+            assert!(status == judged(image) && copy == image && scratch == lent);
             continue;
         }
-        assert!(scratch.iter().all(|&byte| byte == 0));
+        assert!(is_cleared(&scratch, &lent, borrowed_by(image)));
         assert_eq!(status == 21, !sound);
         if status == 0 {
             assert!(audit_both_ways(&copy));
@@ -420,7 +421,7 @@ fn noise() {
             instant(&image, a);
             average(&image, b);
             listing(&image, a, b, &mut out);
-            let mut scratch = vec![0; random.below(10) as usize];
+            let mut scratch = vec![0; random.below(3) as usize];
             enter(&mut image, &mut scratch, random.between(-1_000_001, 1_000_001), a, b);
             withdraw(&mut image, &mut scratch, random.next() as i64, b, a);
             calls += 5;

@@ -77,7 +77,7 @@ fn check_left(image: &[u8], fit: bool) {
     assert_eq!(list(image, 65, END), 0);
     assert_eq!(audit_both_ways(image), fit);
     let mut copy = image.to_vec();
-    assert_eq!(enter(&mut copy, &mut [1; 7], 1, 300, 400), if fit { 0 } else { 21 });
+    assert_eq!(enter(&mut copy, &mut [1], 1, 300, 400), if fit { 0 } else { 21 });
     assert_eq!(copy == image, !fit);
 }
 
@@ -415,9 +415,9 @@ fn chain_and_high_mark() {
         assert_eq!(list(&image, 0, END), 0);
         assert!(!audit_both_ways(&image));
         let before = image.clone();
-        let mut scratch = [9; 8];
+        let mut scratch = [9; 3];
         assert_eq!(enter(&mut image, &mut scratch, 1, 10, 15), 21);
-        assert!(image == before && scratch == [0, 0, 0, 0, 0, 0, 0, 9]);
+        assert!(image == before && scratch == [0, 9, 9]);
     };
     // The chain's length.
     for length in [0, 2, 3, 7, u32::MAX] {
@@ -480,7 +480,7 @@ fn chain_and_high_mark() {
         set_word(&mut image, second, 0, 255);
         set_word(&mut image, second, 1, 0);
         assert!(audit_both_ways(&image));
-        assert_eq!(audit(&image, &mut [3; 7]), 0);
+        assert_eq!(audit(&image, &mut [3]), 0);
     }
 }
 

@@ -16,3 +16,4 @@ mod orders;
 mod paper;
 mod program;
 mod refusals;
+mod scratch;

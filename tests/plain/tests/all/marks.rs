@@ -10,12 +10,12 @@ fn pair_at(image: &[u8], t: u32) -> (i64, i32) {
 }
 
 fn enter_in(image: &mut [u8], v: i64, s: u32, e: u32) -> u32 {
-    let mut scratch = vec![9; image.len() / 512];
+    let mut scratch = vec![9; borrowed_by(image)];
     enter(image, &mut scratch, v, s, e)
 }
 
 fn withdraw_in(image: &mut [u8], v: i64, s: u32, e: u32) -> u32 {
-    let mut scratch = vec![9; image.len() / 512];
+    let mut scratch = vec![9; borrowed_by(image)];
     withdraw(image, &mut scratch, v, s, e)
 }
 
@@ -33,7 +33,7 @@ fn fresh_instant() {
         let image = fresh(n, 1, 0);
         let answer = instant(&image, 0);
         assert_eq!((answer.status, answer.sum, answer.count, answer.pages), (0, 0, 0, 1));
-        assert_eq!(audit(&image, &mut vec![0; n]), 0);
+        assert_eq!(audit(&image, &mut vec![0; borrowed_by(&image)]), 0);
     }
 }
 
@@ -192,6 +192,6 @@ fn windows_past_the_end() {
         assert_eq!(pair_at(&image, END - 1), (5, 1));
         assert_eq!(Node::of(&image).leaf_entries(), 2);
         assert_eq!(enter_in(&mut image, 5, END - 1, END), 0);
-        assert_eq!(audit(&image, &mut [0; 2]), 0);
+        assert_eq!(audit(&image, &mut [0]), 0);
     }
 }

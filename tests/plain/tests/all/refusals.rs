@@ -4,28 +4,36 @@
 use crate::support::*;
 use plain::{audit, average, enter, format, instant, listing, withdraw, END};
 
-/// An image of kind `kind` with a full root leaf and no page at hand: any cut gives 24.
-fn full(kind: u32) -> Vec<u8> {
-    let mut rack = Rack::new(2, kind, 0, 1);
-    for i in 0..11 {
-        assert_eq!(rack.enter(1, 10 * i + 10, 10 * i + 15), 0);
+/// An image of n pages whose first leaf is full, with no page at hand: two cuts in its first entry give 24.
+fn full(n: usize, kind: u32) -> Vec<u8> {
+    let mut rack = Rack::new(n, kind, 0, 1);
+    let mut s = 10_000;
+    while rack.enter(1, s, s + 5) == 0 {
+        s -= 10;
     }
-    assert_eq!(rack.enter(1, 500, END), 0);
-    assert_eq!(Node::of(&rack.image).leaf_entries(), 24);
+    assert!(s > 10 && pages_at_hand(&rack.image) == 0);
     rack.image
 }
 
 struct Case {
     image: Vec<u8>,
     scratch: usize,
+    borrowed: usize,
     span_is_empty: bool,
     value_is_bad: bool,
     expected: u32,
 }
 
-/// All subsets of the reasons for refusing a change: the earliest in the order is the status.
+/// All subsets of the reasons for refusing a change: the earliest in the order is the status. Of 2 pages one byte of scratch is
+/// borrowed, so that none is too few, of 9 pages two are.
 #[test]
 fn changes_in_every_combination() {
+    let calls: u32 = [(2, 1), (9, 2)].iter().map(|(n, borrowed)| changes_of(*n, *borrowed)).sum();
+    report(&format!("refusals: {calls} changes in every combination of reasons"));
+}
+
+fn changes_of(n: usize, borrowed: usize) -> u32 {
+    let full = [1, 2].map(|kind| full(n, kind));
     let mut calls = 0;
     for bits in 0..256u32 {
         let has = |bit: u32| bits & 1 << bit != 0;
@@ -33,7 +41,7 @@ fn changes_in_every_combination() {
         let (unsound, not_totals, changes_full, pages_lack) = (has(4), has(5), has(6), has(7));
         for withdrawal in [false, true] {
             let kind = if not_totals { 2 } else { 1 };
-            let mut image = if pages_lack { full(kind) } else { fresh(2, kind, 0) };
+            let mut image = if pages_lack { full[kind - 1].clone() } else { fresh(n, kind as u32, 0) };
             if changes_full {
                 set_word(&mut image, 0, CHANGES, 1_000_000_000);
             }
@@ -62,13 +70,13 @@ fn changes_in_every_combination() {
             } else {
                 0
             };
-            for extra in [0, 5] {
-                let scratch = if short_scratch { 1 } else { 2 + extra };
+            for enough in [borrowed, n, n + 5] {
                 check_change(
                     withdrawal,
                     Case {
                         image: image.clone(),
-                        scratch,
+                        scratch: if short_scratch { borrowed - 1 } else { enough },
+                        borrowed,
                         span_is_empty: empty_span,
                         value_is_bad: bad_value,
                         expected,
@@ -78,12 +86,13 @@ fn changes_in_every_combination() {
             }
         }
     }
-    report(&format!("refusals: {calls} changes in every combination of reasons"));
+    calls
 }
 
 fn check_change(withdrawal: bool, case: Case) {
     let mut image = case.image.clone();
-    let mut scratch = vec![0xC3; case.scratch];
+    let lent = vec![0xC3; case.scratch];
+    let mut scratch = lent.clone();
     let v = if case.value_is_bad { 1_000_001 } else { 1 };
     let (s, e) = if case.span_is_empty { (7, 7) } else { (7, 9) };
     let status =
@@ -94,11 +103,11 @@ fn check_change(withdrawal: bool, case: Case) {
     } else {
         assert!(image != case.image);
     }
-    // "scratch is untouched at 16 and 17, also at 11 and 13, else its n bytes are 0"
+    // "scratch is untouched at 16 and 17, also at 11 and 13, else its n bytes are 0", which have become n/8
     if [16, 17, 11, 13].contains(&status) {
-        assert!(scratch.iter().all(|&byte| byte == 0xC3));
+        assert!(scratch == lent);
     } else {
-        assert!(scratch[..2] == [0, 0] && scratch[2..].iter().all(|&byte| byte == 0xC3));
+        assert!(is_cleared(&scratch, &lent, case.borrowed));
     }
 }
 
@@ -126,7 +135,7 @@ fn lengths() {
     for n in [2, 3, 500, 1_023, 1_024] {
         let mut image = random.bytes(512 * n);
         assert_eq!(format(&mut image, 1, 0, 24), 0);
-        assert_eq!(audit(&image, &mut vec![0; n]), 0);
+        assert_eq!(audit(&image, &mut vec![0; borrowed_by(&image)]), 0);
     }
 }
 
@@ -165,7 +174,7 @@ fn instants_and_averages() {
     // R13: kinds 2 and 3 have no average, END and an unfit page are refused all the same.
     for kind in [2, 3] {
         let mut image = fresh(2, kind, 0);
-        assert_eq!(enter(&mut image, &mut [0; 2], 5, 0, 10), 0);
+        assert_eq!(enter(&mut image, &mut [0], 5, 0, 10), 0);
         assert_eq!(average(&image, 5), (0, None));
         assert_eq!(average(&image, END), (12, None));
         image[511] = 0;
@@ -212,14 +221,14 @@ fn listings() {
 
 #[test]
 fn audits() {
-    let image = fresh(3, 1, 0);
+    let image = fresh(17, 1, 0);
     for length in 0..3 {
         let mut scratch = vec![4; length];
         assert_eq!(audit(&image, &mut scratch), 17);
         assert!(scratch.iter().all(|&byte| byte == 4));
     }
     let mut unsound = image.clone();
-    unsound[1_535] = 0;
+    unsound[17 * 512 - 1] = 0;
     for (image, expected) in [(&image, 0), (&unsound, 21)] {
         let mut scratch = vec![4; 6];
         assert_eq!(audit(image, &mut scratch), expected);
@@ -233,11 +242,11 @@ fn the_last_change() {
     for kind in 1..=3 {
         let mut image = fresh(2, kind, 0);
         set_word(&mut image, 0, CHANGES, 999_999_999);
-        assert_eq!(enter(&mut image, &mut [0; 2], 1, 5, 9), 0);
+        assert_eq!(enter(&mut image, &mut [0], 1, 5, 9), 0);
         assert_eq!(word(&image, 0, CHANGES), 1_000_000_000);
         let before = image.clone();
-        assert_eq!(enter(&mut image, &mut [0; 2], 1, 5, 9), 23);
-        assert_eq!(withdraw(&mut image, &mut [0; 2], 1, 5, 9), if kind == 1 { 23 } else { 22 });
+        assert_eq!(enter(&mut image, &mut [0], 1, 5, 9), 23);
+        assert_eq!(withdraw(&mut image, &mut [0], 1, 5, 9), if kind == 1 { 23 } else { 22 });
         assert!(image == before);
         assert_eq!(instant(&image, 5).count, 1);
     }

@@ -214,6 +214,16 @@ pub fn pages_of(image: &[u8]) -> usize {
     image.len() / page_bytes(image)
 }
 
+/// "n/8 bytes, rounded up": what calls borrow of the scratch for such an image, a byte for every eighth page from page 0 on.
+pub fn borrowed_by(image: &[u8]) -> usize {
+    (0..pages_of(image)).step_by(8).count()
+}
+
+/// Whether a scratch that was lent with these bytes is 0 where a call borrowed it, and as it was beyond.
+pub fn is_cleared(scratch: &[u8], lent: &[u8], borrowed: usize) -> bool {
+    scratch[..borrowed].iter().all(|&byte| byte == 0) && scratch[borrowed..] == lent[borrowed..]
+}
+
 /// The number that turns an image back ahead of everything else, or 0: "under 40 bytes gives 16, a bad K 21 ahead of 16".
 pub fn judged(image: &[u8]) -> u32 {
     if image.len() < 40 {
@@ -579,10 +589,6 @@ impl Rack {
         }
     }
 
-    pub fn n(&self) -> usize {
-        pages_of(&self.image)
-    }
-
     pub fn enter(&mut self, v: i64, s: u32, e: u32) -> u32 {
         self.change(false, v, s, e)
     }
@@ -605,18 +611,17 @@ impl Rack {
             0
         };
 
-        let n = self.n();
-        let length = n + self.random.below(3) as usize;
-        let mut scratch = self.random.bytes(length);
-        let beyond = scratch[n..].to_vec();
+        let borrowed = borrowed_by(&before);
+        let length = borrowed + self.random.below(3) as usize;
+        let lent = self.random.bytes(length);
+        let mut scratch = lent.clone();
         let recorded = if withdrawal {
             withdraw_recorded(&mut self.image, &mut scratch, v, s, e)
         } else {
             enter_recorded(&mut self.image, &mut scratch, v, s, e)
         };
         assert_eq!(recorded.status, expected);
-        assert!(scratch[..n].iter().all(|&byte| byte == 0));
-        assert_eq!(scratch[n..], beyond[..]);
+        assert!(is_cleared(&scratch, &lent, borrowed));
 
         let count = if withdrawal { -1 } else { 1 };
         let signed = if withdrawal { -v } else { v };
@@ -669,10 +674,11 @@ impl Rack {
     }
 
     pub fn check_audit(&mut self) {
-        let n = self.n();
-        let mut scratch = vec![7; n + 2];
+        let borrowed = borrowed_by(&self.image);
+        let lent = vec![7; borrowed + 2];
+        let mut scratch = lent.clone();
         assert_eq!(audit(&self.image, &mut scratch), 0);
-        assert!(scratch[..n].iter().all(|&byte| byte == 0) && scratch[n..] == [7, 7]);
+        assert!(is_cleared(&scratch, &lent, borrowed));
         assert!(is_sound_by_counting(&self.image));
         self.tally.audits += 1;
     }
@@ -795,14 +801,14 @@ fn check_by_step(before: &[u8], effect: &Effect, records: &[StepRecord], after: 
 pub fn audit_both_ways(image: &[u8]) -> bool {
     let sound = is_sound(image);
     assert_eq!(sound, is_sound_by_counting(image), "the definition and the counting shortcut agree");
-    let mut scratch = vec![1; pages_of(image)];
+    let lent = vec![1; borrowed_by(image) + 1];
+    let mut scratch = lent.clone();
     let status = audit(image, &mut scratch);
     if judged(image) != 0 {
-        assert!(!sound && status == judged(image));
-        assert!(scratch.iter().all(|&byte| byte == 1));
+        assert!(!sound && status == judged(image) && scratch == lent);
         return false;
     }
     assert_eq!(status, if sound { 0 } else { 21 });
-    assert!(scratch.iter().all(|&byte| byte == 0));
+    assert!(is_cleared(&scratch, &lent, borrowed_by(image)));
     sound
 }
