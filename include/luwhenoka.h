@@ -20,7 +20,7 @@
  *
  *   image     (32 + 20 x K) x n bytes for an n from 2 to 1,024 at every K, the pages of docs/FORMAT.md.
  *             Only luw_format, luw_enter and luw_withdraw write it.
- *   scratch   at least n bytes, of any content.
+ *   scratch   at least LUW_SCRATCH_BYTES(n), that is n / 8 bytes, rounded up, of any content: 128 are always enough.
  *   output    16 bytes for each run that a listing writes; any length.
  *
  * The status that a call returns. 0 is accepted; every other one is a refusal. Where several would apply, the first of this
@@ -39,7 +39,7 @@
  *     14  LUW_FORMAT_RANGE    capacity, kind or window outside its range           format
  *     15  LUW_OUTPUT_SHORT    output shorter than the runs                         listing
  *     16  LUW_IMAGE_LENGTH    image length not (32 + 20 x K) x n for an n in range all but luw_average_of
- *     17  LUW_SCRATCH_SHORT   scratch shorter than n bytes                         audit, enter, withdraw
+ *     17  LUW_SCRATCH_SHORT   scratch shorter than LUW_SCRATCH_BYTES(n)            audit, enter, withdraw
  *   turned back by the state
  *     21  LUW_UNSOUND         the image's field for its capacity names none; else
  *                             instant, average, listing: a page met is unfit;
@@ -69,9 +69,10 @@ extern "C" {
 #define LUW_MOST_CAPACITY 24
 #define LUW_PAGE_BYTES(capacity) (32 + 20 * (size_t)(capacity))
 
-/* The fewest and the most pages of an image; bytes of a run. */
+/* The fewest and the most pages of an image; the bytes of scratch that a call on so many pages borrows; bytes of a run. */
 #define LUW_FEWEST_PAGES 2
 #define LUW_MOST_PAGES 1024
+#define LUW_SCRATCH_BYTES(pages) (((size_t)(pages) + 7) / 8)
 #define LUW_RUN_BYTES 16
 
 /* Kinds. */
@@ -187,8 +188,8 @@ struct luw_listing_answer luw_listing(const uint8_t *image, size_t image_length,
  * tree or once in the chain of free pages, the chain is as long as the head says, and free and never used pages read as they should.
  * Returns 0 if it is. Refusals: 16, 17, 21, and 21 for the capacity ahead of them.
  *
- * The first n bytes of the scratch are 0 after 0, and after 21 where the capacity is good; any beyond keep theirs. At 16, at
- * 17 and at 21 for the capacity the scratch is untouched: n is not known without a capacity.
+ * The first LUW_SCRATCH_BYTES(n) bytes of the scratch are 0 after 0, and after 21 where the capacity is good; any beyond
+ * keep theirs. At 16, at 17 and at 21 for the capacity the scratch is untouched: n is not known without a capacity.
  */
 uint32_t luw_audit(const uint8_t *image, size_t image_length, uint8_t *scratch, size_t scratch_length);
 
@@ -200,9 +201,9 @@ uint32_t luw_audit(const uint8_t *image, size_t image_length, uint8_t *scratch, 
  * higher. It may cut the tree's entries at both ends of what it covers, and each cut may take a page a level, and one more
  * for a new root, from the chain of free pages or at the high mark; 24 tells that there are not so many left.
  *
- * Refusals: 16, 17, 11, 13, 21, 23, 24, and 21 for the capacity ahead of them. The first n bytes of the scratch are 0 after
- * 0, 22, 23 and 24, and after 21 where the capacity is good; any beyond keep theirs. At 16, 17, 11, 13 and at 21 for the
- * capacity the scratch is untouched.
+ * Refusals: 16, 17, 11, 13, 21, 23, 24, and 21 for the capacity ahead of them. The first LUW_SCRATCH_BYTES(n) bytes of the
+ * scratch are 0 after 0, 22, 23 and 24, and after 21 where the capacity is good; any beyond keep theirs. At 16, 17, 11, 13
+ * and at 21 for the capacity the scratch is untouched.
  */
 uint32_t luw_enter(uint8_t *image, size_t image_length, uint8_t *scratch, size_t scratch_length,
                    int64_t v, uint32_t s, uint32_t e);

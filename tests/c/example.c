@@ -13,12 +13,15 @@
 
 #define PAGES 4
 
+/* What calls on so many pages borrow of the scratch. */
+#define BORROWED LUW_SCRATCH_BYTES(PAGES)
+
 /* Where the capacity stands in the head. */
 #define CAPACITY_AT 36
 
 /* Room for the pages of every capacity; those of the one in use take the first `length` bytes. */
 static uint8_t image[LUW_PAGE_BYTES(LUW_MOST_CAPACITY) * PAGES];
-static uint8_t scratch[PAGES + 2];
+static uint8_t scratch[BORROWED + 2];
 static uint8_t output[LUW_RUN_BYTES * LUW_MOST_CAPACITY * PAGES];
 static uint32_t capacity = 24;
 static size_t page_bytes = LUW_PAGE_BYTES(24);
@@ -184,12 +187,12 @@ static void listings(void) {
 
 static void audits(void) {
     memset(scratch, 9, sizeof scratch);
-    CHECK(luw_audit(image, length, scratch, PAGES - 1) == LUW_SCRATCH_SHORT);
+    CHECK(luw_audit(image, length, scratch, BORROWED - 1) == LUW_SCRATCH_SHORT);
     CHECK(luw_audit(image, length, NULL, 0) == LUW_SCRATCH_SHORT);
     CHECK(luw_audit(image, page_bytes, scratch, sizeof scratch) == LUW_IMAGE_LENGTH);
     CHECK(all(scratch, sizeof scratch, 9));
     CHECK(luw_audit(image, length, scratch, sizeof scratch) == LUW_ACCEPTED);
-    CHECK(all(scratch, PAGES, 0) && all(scratch + PAGES, 2, 9));
+    CHECK(all(scratch, BORROWED, 0) && all(scratch + BORROWED, 2, 9));
 }
 
 /* A page header whose number of entries runs past the page: whoever meets it is turned back, nobody else. */
@@ -197,7 +200,7 @@ static void damage(void) {
     put(2, 4, capacity + 1, 4);
     memset(scratch, 9, sizeof scratch);
     CHECK(luw_audit(image, length, scratch, sizeof scratch) == LUW_UNSOUND);
-    CHECK(all(scratch, PAGES, 0) && all(scratch + PAGES, 2, 9));
+    CHECK(all(scratch, BORROWED, 0) && all(scratch + BORROWED, 2, 9));
     memset(output, 0xA5, sizeof output);
     CHECK(listed(luw_listing(image, length, 0, 66, output, sizeof output), LUW_UNSOUND, 0));
     CHECK(all(output, sizeof output, 0xA5));
@@ -218,15 +221,15 @@ static void changes(void) {
     memcpy(expected, image, length);
     CHECK(luw_format(image, length, LUW_TOTALS, 0, capacity) == LUW_ACCEPTED);
     for (uint32_t i = 1; i <= bookings; i++) {
-        CHECK(luw_enter(image, length, scratch, PAGES, 1, 10 * i, 10 * i + 5) == LUW_ACCEPTED);
+        CHECK(luw_enter(image, length, scratch, BORROWED, 1, 10 * i, 10 * i + 5) == LUW_ACCEPTED);
     }
     CHECK(memcmp(image, expected, length) == 0);
-    CHECK(luw_withdraw(image, 3 * page_bytes, scratch, PAGES, 1, 10, 15) == LUW_UNSOUND);
+    CHECK(luw_withdraw(image, 3 * page_bytes, scratch, BORROWED, 1, 10, 15) == LUW_UNSOUND);
     CHECK(memcmp(image, expected, length) == 0);
     for (uint32_t i = bookings; i >= 1; i--) {
-        CHECK(luw_withdraw(image, length, scratch, PAGES, 1, 10 * i, 10 * i + 5) == LUW_ACCEPTED);
+        CHECK(luw_withdraw(image, length, scratch, BORROWED, 1, 10 * i, 10 * i + 5) == LUW_ACCEPTED);
     }
-    CHECK(luw_audit(image, length, scratch, PAGES) == LUW_ACCEPTED);
+    CHECK(luw_audit(image, length, scratch, BORROWED) == LUW_ACCEPTED);
     CHECK(listed(luw_listing(image, length, 0, LUW_END, output, sizeof output), LUW_ACCEPTED, 1));
     printf("%" PRIu32 " entered and withdrawn: %" PRIu64 " changes, height %" PRIu64 "\n", bookings, get(image + 32, 4),
            get(image + 4, 4));
@@ -234,24 +237,60 @@ static void changes(void) {
 
 static void refused_changes(void) {
     memset(scratch, 9, sizeof scratch);
-    CHECK(luw_enter(image, page_bytes - 1, scratch, PAGES, 1, 1, 2) == LUW_IMAGE_LENGTH);
-    CHECK(luw_enter(image, length, scratch, PAGES - 1, 1, 5, 5) == LUW_SCRATCH_SHORT);
-    CHECK(luw_enter(image, length, scratch, PAGES, LUW_MOST_VALUE + 1, 5, 5) == LUW_SPAN_EMPTY);
-    CHECK(luw_withdraw(image, length, scratch, PAGES, -LUW_MOST_VALUE - 1, 5, 6) == LUW_VALUE_RANGE);
+    CHECK(luw_enter(image, page_bytes - 1, scratch, BORROWED, 1, 1, 2) == LUW_IMAGE_LENGTH);
+    CHECK(luw_enter(image, length, scratch, BORROWED - 1, 1, 5, 5) == LUW_SCRATCH_SHORT);
+    CHECK(luw_enter(image, length, scratch, BORROWED, LUW_MOST_VALUE + 1, 5, 5) == LUW_SPAN_EMPTY);
+    CHECK(luw_withdraw(image, length, scratch, BORROWED, -LUW_MOST_VALUE - 1, 5, 6) == LUW_VALUE_RANGE);
     CHECK(all(scratch, sizeof scratch, 9));
     CHECK(luw_format(image, length, LUW_GREATEST, 20, capacity) == LUW_ACCEPTED);
-    CHECK(luw_enter(image, length, scratch, PAGES, 4, 35, 45) == LUW_ACCEPTED);
+    CHECK(luw_enter(image, length, scratch, BORROWED, 4, 35, 45) == LUW_ACCEPTED);
     CHECK(holds(luw_instant(image, length, 64), 4, 1, 1) && holds(luw_instant(image, length, 65), 0, 0, 1));
-    CHECK(luw_withdraw(image, length, scratch, PAGES, 4, 35, 45) == LUW_WITHDRAWAL_KIND);
-    CHECK(all(scratch, PAGES, 0) && all(scratch + PAGES, 2, 9));
+    CHECK(luw_withdraw(image, length, scratch, BORROWED, 4, 35, 45) == LUW_WITHDRAWAL_KIND);
+    CHECK(all(scratch, BORROWED, 0) && all(scratch + BORROWED, 2, 9));
     put(0, 32, 1000000000, 4);
-    CHECK(luw_enter(image, length, scratch, PAGES, 4, 35, 45) == LUW_CHANGES_FULL);
+    CHECK(luw_enter(image, length, scratch, BORROWED, 4, 35, 45) == LUW_CHANGES_FULL);
     CHECK(luw_format(image, 3 * page_bytes, LUW_TOTALS, 0, capacity) == LUW_ACCEPTED);
     for (uint32_t i = 1; i <= 11; i++) {
-        CHECK(luw_enter(image, 3 * page_bytes, scratch, 3, 1, 10 * i, 10 * i + 5) == LUW_ACCEPTED);
+        CHECK(luw_enter(image, 3 * page_bytes, scratch, LUW_SCRATCH_BYTES(3), 1, 10 * i, 10 * i + 5) == LUW_ACCEPTED);
     }
     printf("the twelfth in three pages: refused with %" PRIu32 "\n",
-           luw_enter(image, 3 * page_bytes, scratch, 3, 1, 120, 125));
+           luw_enter(image, 3 * page_bytes, scratch, LUW_SCRATCH_BYTES(3), 1, 120, 125));
+}
+
+/* ---------------------------------------------------------------- the scratch */
+
+/* A fresh image of any number of pages of 112 bytes, and a byte to lend for each. */
+static uint8_t fresh[LUW_PAGE_BYTES(LUW_LEAST_CAPACITY) * LUW_MOST_PAGES], lent[LUW_MOST_PAGES];
+
+/* Whether the borrowed bytes are 0 and all beyond still 9; then all are 9 again. */
+static int cleared(size_t borrowed) {
+    int so = all(lent, borrowed, 0) && all(lent + borrowed, sizeof lent - borrowed, 9);
+    memset(lent, 9, sizeof lent);
+    return so;
+}
+
+static void taken_with(size_t lent_length, size_t pages) {
+    size_t fresh_length = LUW_PAGE_BYTES(LUW_LEAST_CAPACITY) * pages, borrowed = LUW_SCRATCH_BYTES(pages);
+    CHECK(luw_enter(fresh, fresh_length, lent, lent_length, 6, 10, 40) == LUW_ACCEPTED && cleared(borrowed));
+    CHECK(luw_withdraw(fresh, fresh_length, lent, lent_length, 6, 10, 40) == LUW_ACCEPTED && cleared(borrowed));
+    CHECK(luw_audit(fresh, fresh_length, lent, lent_length) == LUW_ACCEPTED && cleared(borrowed));
+}
+
+/* A bit for each page is taken, and a byte less is turned back; of a byte for each page most keep what they held. */
+static void scratches(void) {
+    memset(lent, 9, sizeof lent);
+    for (size_t pages = LUW_FEWEST_PAGES; pages <= LUW_MOST_PAGES; pages++) {
+        size_t fresh_length = LUW_PAGE_BYTES(LUW_LEAST_CAPACITY) * pages, borrowed = LUW_SCRATCH_BYTES(pages);
+        CHECK(luw_format(fresh, fresh_length, LUW_TOTALS, 0, LUW_LEAST_CAPACITY) == LUW_ACCEPTED);
+        CHECK(luw_enter(fresh, fresh_length, lent, borrowed - 1, 6, 10, 40) == LUW_SCRATCH_SHORT);
+        CHECK(luw_withdraw(fresh, fresh_length, lent, borrowed - 1, 6, 10, 40) == LUW_SCRATCH_SHORT);
+        CHECK(luw_audit(fresh, fresh_length, lent, borrowed - 1) == LUW_SCRATCH_SHORT);
+        CHECK(all(lent, sizeof lent, 9));
+        taken_with(borrowed, pages);
+        taken_with(pages, pages);
+    }
+    printf("scratch for 2, 8, 9 and 1024 pages: %zu, %zu, %zu and %zu bytes\n", LUW_SCRATCH_BYTES(2), LUW_SCRATCH_BYTES(8),
+           LUW_SCRATCH_BYTES(9), LUW_SCRATCH_BYTES(LUW_MOST_PAGES));
 }
 
 /* ---------------------------------------------------------------- the capacity */
@@ -261,7 +300,7 @@ static void other_capacities(void) {
     use_capacity(LUW_LEAST_CAPACITY);
     CHECK(page_bytes == 112);
     bookings_by_hand();
-    CHECK(luw_audit(image, length, scratch, PAGES) == LUW_ACCEPTED);
+    CHECK(luw_audit(image, length, scratch, BORROWED) == LUW_ACCEPTED);
     CHECK(holds(luw_instant(image, length, 22), 1, 1, 2) && holds(luw_instant(image, length, 15), 0, 0, 2));
     CHECK(listed(luw_listing(image, length, 0, LUW_END, output, sizeof output), LUW_ACCEPTED, 5));
     put(2, 4, 5, 4);
@@ -278,11 +317,11 @@ static void other_capacities(void) {
 static void older_image(void) {
     bookings_by_hand();
     put(0, CAPACITY_AT, UINT32_MAX, 4);
-    CHECK(luw_audit(image, length, scratch, PAGES) == LUW_ACCEPTED);
+    CHECK(luw_audit(image, length, scratch, BORROWED) == LUW_ACCEPTED);
     CHECK(holds(luw_instant(image, length, 122), 1, 1, 2));
     CHECK(turned_back(luw_instant(image, length - 1, 122), LUW_IMAGE_LENGTH, 0));
-    CHECK(luw_enter(image, length, scratch, PAGES, 5, 12, 122) == LUW_ACCEPTED);
-    CHECK(holds(luw_instant(image, length, 121), 6, 2, 2) && luw_audit(image, length, scratch, PAGES) == LUW_ACCEPTED);
+    CHECK(luw_enter(image, length, scratch, BORROWED, 5, 12, 122) == LUW_ACCEPTED);
+    CHECK(holds(luw_instant(image, length, 121), 6, 2, 2) && luw_audit(image, length, scratch, BORROWED) == LUW_ACCEPTED);
     CHECK(get(image + 32, 4) == 13 && all(image + CAPACITY_AT, 4, 0xFF));
     printf("FF for a capacity: read as 24, and kept by a change\n");
 }
@@ -292,10 +331,10 @@ static void refused_by_capacity(uint32_t status, size_t image_length) {
     CHECK(turned_back(luw_instant(image, image_length, LUW_END), status, 0));
     CHECK(averages(luw_average(image, image_length, LUW_END), status, LUW_NO_AVERAGE, 0));
     CHECK(listed(luw_listing(image, image_length, 5, 5, output, sizeof output), status, 0));
-    CHECK(luw_audit(image, image_length, scratch, PAGES - 1) == status);
-    CHECK(luw_audit(image, image_length, scratch, PAGES) == status);
-    CHECK(luw_enter(image, image_length, scratch, PAGES, LUW_MOST_VALUE + 1, 5, 5) == status);
-    CHECK(luw_withdraw(image, image_length, scratch, PAGES, 1, 5, 6) == status);
+    CHECK(luw_audit(image, image_length, scratch, BORROWED - 1) == status);
+    CHECK(luw_audit(image, image_length, scratch, BORROWED) == status);
+    CHECK(luw_enter(image, image_length, scratch, BORROWED, LUW_MOST_VALUE + 1, 5, 5) == status);
+    CHECK(luw_withdraw(image, image_length, scratch, BORROWED, 1, 5, 6) == status);
 }
 
 static void refused_capacities(void) {
@@ -328,6 +367,7 @@ int main(void) {
     damage();
     changes();
     refused_changes();
+    scratches();
     other_capacities();
     older_image();
     refused_capacities();

@@ -44,7 +44,7 @@ struct load {
 static const struct load loads[] = {{24, 2000, 4, 0, 4096}, {4, 500, 9, 0, 8192}, {4, 512, 10, 1, 8192}};
 
 static const struct load *load;
-static unsigned char image[PAGES * LUW_PAGE_BYTES(LUW_MOST_CAPACITY)], scratch[PAGES];
+static unsigned char image[PAGES * LUW_PAGE_BYTES(LUW_MOST_CAPACITY)], scratch[LUW_SCRATCH_BYTES(PAGES)];
 static unsigned char output[(2 * MOST_BOOKINGS + 1) * LUW_RUN_BYTES];
 static size_t image_length;
 static int wrong;
@@ -104,11 +104,11 @@ static void lay_down(void) {
 static void enter(void) {
     uint32_t i, e = 10 * load->bookings - 8;
     if (load->by_hand) {
-        wrong |= luw_enter(image, image_length, scratch, PAGES, 1, 12, e) != 0;
-        wrong |= luw_withdraw(image, image_length, scratch, PAGES, 1, 12, e) != 0;
+        wrong |= luw_enter(image, image_length, scratch, sizeof scratch, 1, 12, e) != 0;
+        wrong |= luw_withdraw(image, image_length, scratch, sizeof scratch, 1, 12, e) != 0;
     }
     for (i = 1; i <= load->bookings && !load->by_hand; i++) {
-        wrong |= luw_enter(image, image_length, scratch, PAGES, 1, 10 * i, 10 * i + 5) != 0;
+        wrong |= luw_enter(image, image_length, scratch, sizeof scratch, 1, 10 * i, 10 * i + 5) != 0;
     }
     wrong |= image[4] != load->height;
 }
@@ -118,7 +118,7 @@ static void withdraw(void) {
     uint32_t i;
     for (i = 1; i <= load->bookings; i++) {
         uint32_t e = load->by_hand && i == load->bookings ? LUW_END : 10 * i + 5;
-        wrong |= luw_withdraw(image, image_length, scratch, PAGES, 1, 10 * i, e) != 0;
+        wrong |= luw_withdraw(image, image_length, scratch, sizeof scratch, 1, 10 * i, e) != 0;
     }
 }
 
@@ -142,7 +142,7 @@ static void *make(void *call) {
         wrong |= luw_listing(image, image_length, 0, LUW_END, output, sizeof output).runs < 2 * load->bookings;
         break;
     case AUDIT:
-        wrong |= luw_audit(image, image_length, scratch, PAGES) != 0;
+        wrong |= luw_audit(image, image_length, scratch, sizeof scratch) != 0;
         break;
     case WITHDRAW:
         withdraw();
