@@ -5,8 +5,8 @@
 use std::error::Error;
 
 use luwhenoka::{
-    audit, average, average_of, enter, format, instant, listing, page_bytes, runs, withdraw, Average, Kind, Refusal,
-    END, RUN_BYTES,
+    audit, average, average_of, enter, format, instant, listing, page_bytes, runs, scratch_bytes, withdraw, Average,
+    Kind, Refusal, END, RUN_BYTES,
 };
 
 const PAGES: usize = 2;
@@ -30,7 +30,7 @@ fn in_words(average: Average) -> String {
 
 fn main() -> Result<(), Box<dyn Error>> {
     let mut image = [0; page_bytes(CAPACITY) * PAGES];
-    let mut scratch = [0; PAGES];
+    let mut scratch = [0; scratch_bytes(PAGES)];
     format(&mut image, Kind::Totals, 0, CAPACITY)?;
     for (v, s, e) in [(6, 10, 40), (3, 20, 50), (7, 30, 60), (5, 20, 25)] {
         enter(&mut image, &mut scratch, v, s, e)?;

@@ -2,14 +2,14 @@
 //!
 //! The index lives in an *image* of 2 to 1,024 pages that the caller lends. Any bytes may stand there: what is not a fit page
 //! is refused, and nothing is changed. A page has room for as many entries as its *capacity* says, an even number from 4 to
-//! 24, which is chosen at format and stands in the image from then on; [`page_bytes`] tells how long the pages are. These are
-//! safe functions over the static library `libluwhenoka.a`, which is written and proved in Rattle; `include/luwhenoka.h`
-//! tells each call in full.
+//! 24, which is chosen at format and stands in the image from then on; [`page_bytes`] tells how long the pages are. Audits and
+//! changes borrow a *scratch* too, a bit for each page; [`scratch_bytes`] tells how long it is. These are safe functions over
+//! the static library `libluwhenoka.a`, which is written and proved in Rattle; `include/luwhenoka.h` tells each call in full.
 //!
 //! ```
-//! use luwhenoka::{enter, format, instant, listing, page_bytes, runs, Kind, END};
+//! use luwhenoka::{enter, format, instant, listing, page_bytes, runs, scratch_bytes, Kind, END};
 //!
-//! let (mut image, mut scratch) = ([0; 4 * page_bytes(24)], [0; 4]);
+//! let (mut image, mut scratch) = ([0; 4 * page_bytes(24)], [0; scratch_bytes(4)]);
 //! format(&mut image, Kind::Totals, 0, 24)?;
 //! enter(&mut image, &mut scratch, 6, 10, 40)?;
 //!
@@ -49,6 +49,17 @@ pub const fn page_bytes(capacity: u32) -> usize {
     32 + 20 * capacity as usize
 }
 
+/// Bytes of scratch that [`audit`], [`enter`] and [`withdraw`] borrow for an image of so many pages: an eighth, rounded up.
+///
+/// ```
+/// use luwhenoka::scratch_bytes;
+///
+/// assert_eq!([2, 8, 9, 1_024].map(scratch_bytes), [1, 1, 2, 128]);
+/// ```
+pub const fn scratch_bytes(pages: usize) -> usize {
+    pages.div_ceil(8)
+}
+
 /// Bytes of a run in a listing's output.
 pub const RUN_BYTES: usize = 16;
 
@@ -82,11 +93,11 @@ pub enum Kind {
 /// Pages of 8 entries have 192 bytes, and every other call knows it from the image:
 ///
 /// ```
-/// use luwhenoka::{audit, enter, format, instant, page_bytes, Kind, Refusal};
+/// use luwhenoka::{audit, enter, format, instant, page_bytes, scratch_bytes, Kind, Refusal};
 ///
 /// const PAGES: usize = 5;
 /// let mut image = [0; PAGES * page_bytes(8)];
-/// let mut scratch = [0; PAGES];
+/// let mut scratch = [0; scratch_bytes(PAGES)];
 /// format(&mut image, Kind::Totals, 0, 8)?;
 /// for s in [10, 20, 30, 40] {
 ///     enter(&mut image, &mut scratch, 1, s, s + 5)?;
@@ -216,8 +227,8 @@ pub fn listing(image: &[u8], a: u32, b: u32, output: &mut [u8]) -> Result<usize,
     Ok(listed.runs as usize)
 }
 
-/// Whether the image of n pages is sound. Borrows the first n bytes of the scratch, which are 0 afterwards; any beyond keep
-/// theirs.
+/// Whether the image of n pages is sound. Borrows the first [`scratch_bytes`] of n of the scratch, which are 0 afterwards; any
+/// beyond keep theirs.
 ///
 /// Refusals: [`Unsound`](Refusal::Unsound) for a bad capacity, [`ImageLength`](Refusal::ImageLength) and
 /// [`ScratchShort`](Refusal::ScratchShort), all three with the scratch untouched; [`Unsound`](Refusal::Unsound) for an image
@@ -232,15 +243,15 @@ pub fn listing(image: &[u8], a: u32, b: u32, output: &mut [u8]) -> Result<usize,
 /// assert_eq!(scratch, [7, 7, 7]);
 /// format(&mut image, Kind::Least, 0, 24)?;
 /// assert_eq!(audit(&image, &mut scratch), Ok(()));
-/// assert_eq!(scratch, [0, 0, 7]);
+/// assert_eq!(scratch, [0, 7, 7]); // a byte has a bit for each of two pages
 /// # Ok::<(), Refusal>(())
 /// ```
 pub fn audit(image: &[u8], scratch: &mut [u8]) -> Result<(), Refusal> {
     Refusal::result(raw::audit(image, scratch))
 }
 
-/// Books the value `v` on [`s`, `e`). Borrows the first n bytes of the scratch, for an image of n pages; they are 0
-/// afterwards, and any beyond keep theirs.
+/// Books the value `v` on [`s`, `e`). Borrows the first [`scratch_bytes`] of n of the scratch, for an image of n pages; they
+/// are 0 afterwards, and any beyond keep theirs.
 ///
 /// Refusals: [`Unsound`](Refusal::Unsound) for a bad capacity, [`ImageLength`](Refusal::ImageLength),
 /// [`ScratchShort`](Refusal::ScratchShort), [`SpanEmpty`](Refusal::SpanEmpty), [`ValueRange`](Refusal::ValueRange), all five
@@ -250,11 +261,11 @@ pub fn audit(image: &[u8], scratch: &mut [u8]) -> Result<(), Refusal> {
 /// The capacity stays as it stands in the image: an older one, with FF there, keeps FF.
 ///
 /// ```
-/// use luwhenoka::{enter, format, instant, Kind};
+/// use luwhenoka::{enter, format, instant, scratch_bytes, Kind};
 ///
 /// let mut image = [0; 1_024];
 /// format(&mut image, Kind::Totals, 0, 24)?;
-/// enter(&mut image, &mut [0; 2], 6, 10, 40)?;
+/// enter(&mut image, &mut [0; scratch_bytes(2)], 6, 10, 40)?;
 /// assert_eq!(instant(&image, 39)?.sum, 6);
 /// assert_eq!(instant(&image, 40)?.sum, 0);
 /// # Ok::<(), luwhenoka::Refusal>(())
@@ -267,12 +278,12 @@ pub fn enter(image: &mut [u8], scratch: &mut [u8], v: i64, s: u32, e: u32) -> Re
 /// [`enter`], and [`WithdrawalKind`](Refusal::WithdrawalKind).
 ///
 /// ```
-/// use luwhenoka::{enter, format, instant, withdraw, Kind};
+/// use luwhenoka::{enter, format, instant, scratch_bytes, withdraw, Kind};
 ///
-/// let mut image = [0; 1_024];
+/// let (mut image, mut scratch) = ([0; 1_024], [0; scratch_bytes(2)]);
 /// format(&mut image, Kind::Totals, 0, 24)?;
-/// enter(&mut image, &mut [0; 2], 6, 10, 40)?;
-/// withdraw(&mut image, &mut [0; 2], 6, 10, 40)?;
+/// enter(&mut image, &mut scratch, 6, 10, 40)?;
+/// withdraw(&mut image, &mut scratch, 6, 10, 40)?;
 /// assert_eq!(instant(&image, 39)?.count, 0);
 /// # Ok::<(), luwhenoka::Refusal>(())
 /// ```

@@ -5,8 +5,8 @@ use std::collections::HashSet;
 use std::error::Error;
 
 use luwhenoka::{
-    audit, average, average_of, enter, format, instant, listing, page_bytes, raw, runs, withdraw, Average, Instant,
-    Kind, Refusal, Refused, Run, END, LEAST_CAPACITY, MOST_CAPACITY,
+    audit, average, average_of, enter, format, instant, listing, page_bytes, raw, runs, scratch_bytes, withdraw,
+    Average, Instant, Kind, Refusal, Refused, Run, END, LEAST_CAPACITY, MOST_CAPACITY,
 };
 
 /// Where the capacity stands in the head.
@@ -73,7 +73,7 @@ fn messages_name_their_status() {
 fn format_and_its_refusals() {
     for kind in [Kind::Totals, Kind::Greatest, Kind::Least] {
         for pages in [2, 3, 1_024] {
-            assert_eq!(audit(&fresh(pages, kind), &mut vec![9; pages]), Ok(()));
+            assert_eq!(audit(&fresh(pages, kind), &mut vec![9; scratch_bytes(pages)]), Ok(()));
         }
     }
     for capacity in capacities() {
@@ -113,7 +113,7 @@ fn every_capacity() {
     for capacity in capacities() {
         let mut image = fresh_of(capacity, PAGES, Kind::Totals);
         assert_eq!(image[CAPACITY_AT..][..4], capacity.to_le_bytes());
-        let mut scratch = [9; PAGES];
+        let mut scratch = [9; scratch_bytes(PAGES)];
         for i in 1..=capacity / 2 {
             assert_eq!(instant(&image, 0).map(|answer| answer.pages), Ok(1));
             assert_eq!(enter(&mut image, &mut scratch, 1, 10 * i, 10 * i + 5), Ok(()));
@@ -134,12 +134,12 @@ fn every_capacity() {
 fn older_images() {
     let mut image = fresh(2, Kind::Totals);
     image[CAPACITY_AT..][..4].fill(0xFF);
-    assert_eq!(audit(&image, &mut [9; 2]), Ok(()));
-    assert_eq!(enter(&mut image, &mut [9; 2], 6, 10, 40), Ok(()));
+    assert_eq!(audit(&image, &mut [9; scratch_bytes(2)]), Ok(()));
+    assert_eq!(enter(&mut image, &mut [9; scratch_bytes(2)], 6, 10, 40), Ok(()));
     assert_eq!(instant(&image, 39), Ok(Instant { sum: 6, count: 1, pages: 1 }));
-    assert_eq!(withdraw(&mut image, &mut [9; 2], 6, 10, 40), Ok(()));
+    assert_eq!(withdraw(&mut image, &mut [9; scratch_bytes(2)], 6, 10, 40), Ok(()));
     assert_eq!(image[CAPACITY_AT..][..4], [0xFF; 4]);
-    assert_eq!(audit(&image[..448], &mut [9; 2]), Err(Refusal::ImageLength));
+    assert_eq!(audit(&image[..448], &mut [9; scratch_bytes(2)]), Err(Refusal::ImageLength));
 }
 
 /// Under 40 bytes 16; then 21 for a bad capacity, ahead of every other refusal; then 16 by the capacity.
@@ -228,10 +228,10 @@ fn runs_past_the_output() {
 
 #[test]
 fn audits_and_their_scratch() {
-    let mut image = fresh(3, Kind::Totals);
+    let mut image = fresh(17, Kind::Totals);
     let mut scratch = [5; 4];
     assert_eq!(audit(&image, &mut scratch[..2]), Err(Refusal::ScratchShort));
-    assert_eq!(audit(&image[..3 * 512 - 1], &mut scratch), Err(Refusal::ImageLength));
+    assert_eq!(audit(&image[..17 * 512 - 1], &mut scratch), Err(Refusal::ImageLength));
     assert_eq!(scratch, [5; 4]);
     assert_eq!(audit(&image, &mut scratch), Ok(()));
     assert_eq!(scratch, [0, 0, 0, 5]);
@@ -239,4 +239,27 @@ fn audits_and_their_scratch() {
     scratch = [5; 4];
     assert_eq!(audit(&image, &mut scratch), Err(Refusal::Unsound));
     assert_eq!(scratch, [0, 0, 0, 5]);
+}
+
+/// For every number of pages a scratch of a byte less than `scratch_bytes` is refused; of one so long, and of a longer one, just
+/// these bytes are cleared.
+#[test]
+fn scratches_of_every_number_of_pages() {
+    for pages in 2..=1_024 {
+        let mut image = fresh_of(LEAST_CAPACITY, pages, Kind::Totals);
+        let (before, borrowed) = (image.clone(), scratch_bytes(pages));
+        let mut short = vec![5; borrowed - 1];
+        assert_eq!(audit(&image, &mut short), Err(Refusal::ScratchShort));
+        assert_eq!(enter(&mut image, &mut short, 6, 10, 40), Err(Refusal::ScratchShort));
+        assert_eq!(withdraw(&mut image, &mut short, 6, 10, 40), Err(Refusal::ScratchShort));
+        assert_eq!((image.clone(), short), (before, vec![5; borrowed - 1]));
+        for length in [borrowed, borrowed + 1, pages] {
+            let (mut one, mut other, mut third) = (vec![5; length], vec![5; length], vec![5; length]);
+            assert_eq!(enter(&mut image, &mut one, 6, 10, 40), Ok(()));
+            assert_eq!(withdraw(&mut image, &mut other, 6, 10, 40), Ok(()));
+            assert_eq!(audit(&image, &mut third), Ok(()));
+            let cleared = [vec![0; borrowed], vec![5; length - borrowed]].concat();
+            assert_eq!([one, other, third], [cleared.clone(), cleared.clone(), cleared]);
+        }
+    }
 }
