@@ -2,7 +2,7 @@
 
 use crate::calls::{Answer, Call};
 use crate::comparer::Comparer;
-use crate::images::{capacity, instant_of};
+use crate::images::{capacity, instant_of, scratch_bytes};
 
 impl Comparer {
     /// With the K of the image at hand.
@@ -46,17 +46,27 @@ impl Comparer {
         }
     }
 
-    /// With a scratch that is long enough, now and then longer.
     pub fn audit(&mut self) -> Answer {
-        let scratch = self.pages() + self.random.below(3);
+        let scratch = self.enough_scratch();
         self.ask(Call::Audit, scratch, 0)
+    }
+
+    /// The length of a scratch that is long enough: just that mostly, now and then longer, up to a byte for each page and more.
+    fn enough_scratch(&mut self) -> usize {
+        let n = self.pages();
+        match self.random.below(6) {
+            0 => scratch_bytes(n) + 1,
+            1 => scratch_bytes(n) + 2,
+            2 => n + 1,
+            _ => scratch_bytes(n),
+        }
     }
 
     // ------------------------------------------------------------ changes
 
     /// Enters, or withdraws, and goes on with the image that it leaves; the status returned.
     pub fn book(&mut self, withdrawal: bool, v: i64, s: u32, e: u32) -> u32 {
-        let scratch = self.pages() + self.random.below(3);
+        let scratch = self.enough_scratch();
         self.ask(change(withdrawal, v, s, e), scratch, 0).status
     }
 

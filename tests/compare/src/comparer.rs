@@ -120,7 +120,9 @@ impl Comparer {
         if let Some(difference) = difference {
             self.end(&difference);
         }
-        self.tally.add(call, &answer, if call.writes() { &self.before } else { &self.image });
+        let found = if call.writes() { &self.before } else { &self.image };
+        self.tally.add(call, &answer, found);
+        self.tally.scratches.add(call, found, self.scratch.len());
         answer
     }
 

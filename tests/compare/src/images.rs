@@ -34,6 +34,21 @@ pub fn pages_of(image: &[u8]) -> usize {
     image.len() / page_bytes(image)
 }
 
+/// Whether the image is turned back ahead of all else: "under 40 bytes gives 16, a bad K 21 ahead of 16".
+pub fn is_turned_back(image: &[u8]) -> bool {
+    let names_capacity = match image.get(36..40) {
+        Some([k, 0, 0, 0]) => CAPACITIES.contains(&(*k as usize)),
+        Some([0xFF, 0xFF, 0xFF, 0xFF]) => true,
+        _ => false,
+    };
+    !names_capacity || !image.len().is_multiple_of(page_bytes(image)) || !(2..=1_024).contains(&pages_of(image))
+}
+
+/// "n/8 bytes, rounded up": what audits and changes of n pages borrow of the scratch.
+pub fn scratch_bytes(n: usize) -> usize {
+    n / 8 + usize::from(n % 8 > 0)
+}
+
 /// The head's numbers, by their order.
 pub const HEIGHT: usize = 1;
 pub const ROOT: usize = 2;
@@ -113,12 +128,12 @@ pub fn fresh_of(k: usize, n: usize, kind: u32, window: u32) -> Vec<u8> {
 }
 
 pub fn enter(image: &mut [u8], v: i64, s: u32, e: u32) -> u32 {
-    let mut scratch = vec![9; pages_of(image)];
+    let mut scratch = vec![9; scratch_bytes(pages_of(image))];
     plain::enter(image, &mut scratch, v, s, e)
 }
 
 pub fn withdraw(image: &mut [u8], v: i64, s: u32, e: u32) -> u32 {
-    let mut scratch = vec![9; pages_of(image)];
+    let mut scratch = vec![9; scratch_bytes(pages_of(image))];
     plain::withdraw(image, &mut scratch, v, s, e)
 }
 

@@ -13,6 +13,7 @@ mod groups;
 mod guarded;
 mod images;
 mod random;
+mod scratches;
 mod steps;
 mod tally;
 mod work;

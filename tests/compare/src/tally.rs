@@ -2,6 +2,7 @@
 
 use crate::calls::{Answer, Call, NAMES};
 use crate::capacities::Capacities;
+use crate::scratches::Scratches;
 use crate::steps::Steps;
 
 const STATUSES: usize = 25;
@@ -22,6 +23,7 @@ pub struct Tally {
     /// Averages by their case: none, hundredths, beyond.
     averages: [u64; 3],
     pub capacities: Capacities,
+    pub scratches: Scratches,
     /// Of the changes that were accepted.
     pub steps: Steps,
 }
@@ -34,6 +36,7 @@ impl Default for Tally {
             refused_pages: [0; MOST_PAGES_READ + 1],
             averages: [0; 3],
             capacities: Capacities::default(),
+            scratches: Scratches::default(),
             steps: Steps::default(),
         }
     }
@@ -60,6 +63,7 @@ impl Tally {
         add(&mut self.refused_pages, &other.refused_pages);
         add(&mut self.averages, &other.averages);
         self.capacities.add_all(&other.capacities);
+        self.scratches.add_all(&other.scratches);
         self.steps.add_all(&other.steps);
     }
 
@@ -83,6 +87,7 @@ impl Tally {
             "averages of pairs: none {}, hundredths {}, beyond {}",
             self.averages[0], self.averages[1], self.averages[2]
         );
+        self.scratches.print();
         self.steps.print();
         self.capacities.print();
     }
@@ -107,6 +112,7 @@ impl Tally {
         );
         lacking.extend(self.steps.lacking());
         lacking.extend(self.capacities.lacking());
+        lacking.extend(self.scratches.lacking());
         if self.calls() < FEWEST_CALLS || self.steps.changes() < FEWEST_CHANGES {
             lacking.push(format!("{FEWEST_CALLS} calls and {FEWEST_CHANGES} accepted changes"));
         }

@@ -7,7 +7,7 @@ use plain::END;
 
 use crate::calls::{Answer, Call};
 use crate::comparer::Comparer;
-use crate::images::{bytes_of, fresh, fresh_of, Pool};
+use crate::images::{bytes_of, fresh, fresh_of, scratch_bytes, Pool};
 
 pub fn buffer_lengths(comparer: &mut Comparer, pool: &Pool, _: usize) {
     for null in [false, true] {
@@ -41,18 +41,17 @@ fn images(comparer: &mut Comparer, k: usize) {
             comparer.ask(Call::Listing { a, b }, 0, 0);
             comparer.ask(Call::Listing { a, b }, 0, 16);
         }
-        for scratch in [0, 1, length / page, length / page + 1] {
-            comparer.ask(Call::Audit, scratch, 0);
-        }
-        changes(comparer);
+        changes_and_audits(comparer);
         comparer.format_of(k, 1, 0);
         comparer.format_of(k, 0, 0);
     }
 }
 
-fn changes(comparer: &mut Comparer) {
+fn changes_and_audits(comparer: &mut Comparer) {
     let n = comparer.pages();
-    for scratch in [0, n.saturating_sub(1), n, n + 1] {
+    let borrowed = scratch_bytes(n);
+    for scratch in [0, 1, borrowed.saturating_sub(1), borrowed, borrowed + 1, n, n + 1] {
+        comparer.ask(Call::Audit, scratch, 0);
         for (v, s, e) in [(1, 5, 9), (1, 9, 9), (1_000_001, 5, 9)] {
             comparer.ask(Call::Enter { v, s, e }, scratch, 0);
             comparer.ask(Call::Withdraw { v, s, e }, scratch, 0);
@@ -61,11 +60,12 @@ fn changes(comparer: &mut Comparer) {
 }
 
 fn scratches(comparer: &mut Comparer, pool: &Pool) {
-    let fresh_ones = [2, 3, 4, 63, 64, 65, 255, 256, 257, 1_023, 1_024].map(|n| fresh(n, 2, 1));
+    let fresh_ones = [2, 3, 4, 8, 15, 16, 17, 63, 64, 65, 255, 256, 257, 1_023, 1_024].map(|n| fresh(n, 2, 1));
     for image in pool.all().chain(&fresh_ones) {
         comparer.lend(image);
         let n = comparer.pages();
-        for scratch in [0, 1, n / 8, n - 1, n, n + 1, n + 9, 2 * n, 5_000] {
+        let borrowed = scratch_bytes(n);
+        for scratch in [0, 1, borrowed - 1, borrowed, borrowed + 1, n / 8, n - 1, n, n + 1, n + 9, 5_000] {
             comparer.ask(Call::Audit, scratch, 0);
             comparer.ask(Call::Enter { v: 2, s: 7, e: END }, scratch, 0);
             comparer.ask(Call::Withdraw { v: 2, s: 7, e: END }, scratch, 0);
@@ -125,17 +125,19 @@ fn above_32_bits() {
     assert_eq!(raw::instant(vast.lent(), 0), refused);
     assert_eq!(raw::average(vast.lent(), 0).status, 16);
     assert_eq!(raw::listing(vast.lent(), 0, END, &mut [0; 16]).status, 16);
-    assert_eq!(raw::audit(vast.lent(), &mut [0; 2]), 16);
+    assert_eq!(raw::audit(vast.lent(), &mut [0]), 16);
     assert_eq!(raw::format(vast.lent(), 2, 0, 24), 16);
     assert_eq!(raw::format(vast.lent(), 2, 0, 4), 16);
     assert_eq!(raw::format(vast.lent(), 2, 0, 5), 14);
     assert_eq!(vast.lent()[..1_024], image);
     drop(vast);
 
+    // Of 17 pages a call borrows three bytes.
+    let image = fresh(17, 1, 0);
     let mut vast = Vast::new((1 << 32) + 1).expect("as much as before");
     vast.lent()[..4].fill(7);
     assert_eq!(raw::audit(&image, vast.lent()), 0);
-    assert_eq!(vast.lent()[..4], [0, 0, 7, 7]);
+    assert_eq!(vast.lent()[..4], [0, 0, 0, 7]);
     let listed = raw::listing(&image, 3, END, vast.lent());
     assert_eq!(Answer { status: listed.status, ..Answer::runs(listed.runs) }, Answer::runs(1));
     assert_eq!(vast.lent()[..4], [3, 0, 0, 0]);

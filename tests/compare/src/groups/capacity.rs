@@ -7,8 +7,8 @@ use plain::END;
 use crate::calls::{Answer, Call};
 use crate::comparer::Comparer;
 use crate::images::{
-    bytes_of, capacity, fresh, fresh_of, head, level, page_bytes, pages_of, put, start_at, sum_at, u32_at, Pool,
-    CAPACITIES, CAPACITY, ENTRY_COUNT_AT, HEIGHT, ROOT,
+    bytes_of, capacity, fresh, fresh_of, head, level, page_bytes, pages_of, put, scratch_bytes, start_at, sum_at,
+    u32_at, Pool, CAPACITIES, CAPACITY, ENTRY_COUNT_AT, HEIGHT, ROOT,
 };
 
 /// Each sort of number that is no K: odd ones, too small and too great ones, and good ones with a byte more.
@@ -27,6 +27,7 @@ fn is_good(k: u32) -> bool {
 /// Every call on the image at hand, with arguments in order and with others, is turned back with this number, and nothing else.
 fn all_refused(comparer: &mut Comparer, status: u32) {
     let n = comparer.pages();
+    let borrowed = scratch_bytes(n);
     for t in [0, 7, END] {
         comparer.expect(Call::Instant { t }, 0, 0, Answer::status(status));
         comparer.expect(Call::Average { t }, 0, 0, Answer::status(status));
@@ -34,10 +35,10 @@ fn all_refused(comparer: &mut Comparer, status: u32) {
     for (a, b, output) in [(0, END, 64), (5, 5, 64), (0, END, 0)] {
         comparer.expect(Call::Listing { a, b }, 0, output, Answer::status(status));
     }
-    for scratch in [0, n, n + 7] {
+    for scratch in [0, borrowed, n, n + 7] {
         comparer.expect(Call::Audit, scratch, 0, Answer::status(status));
     }
-    for (v, s, e, scratch) in [(1, 5, 9, n + 2), (1, 5, 9, 0), (1, 9, 9, n), (1_000_001, 5, 9, n)] {
+    for (v, s, e, scratch) in [(1, 5, 9, n + 2), (1, 5, 9, 0), (1, 9, 9, borrowed), (1_000_001, 5, 9, borrowed)] {
         comparer.expect(Call::Enter { v, s, e }, scratch, 0, Answer::status(status));
         comparer.expect(Call::Withdraw { v, s, e }, scratch, 0, Answer::status(status));
     }
@@ -145,9 +146,11 @@ fn judged(comparer: &mut Comparer, image: &[u8]) {
     comparer.expect(Call::Listing { a: 5, b: 5 }, 0, 64, Answer::status(11));
     comparer.expect(Call::Listing { a: 5, b: 9 }, 0, 64, Answer::status(21));
     comparer.expect(Call::Average { t: 3 }, 0, 0, Answer::status(21));
-    comparer.expect(Call::Audit, n - 1, 0, Answer::status(17));
-    comparer.expect(Call::Audit, n, 0, Answer::status(21));
-    for (v, e, scratch, status) in [(1, 9, n - 1, 17), (1, 5, n, 11), (1_000_001, 9, n, 13), (1, 9, n + 3, 21)] {
+    let borrowed = scratch_bytes(n);
+    comparer.expect(Call::Audit, borrowed - 1, 0, Answer::status(17));
+    comparer.expect(Call::Audit, borrowed, 0, Answer::status(21));
+    let short = (1, 9, borrowed - 1, 17);
+    for (v, e, scratch, status) in [short, (1, 5, borrowed, 11), (1_000_001, 9, borrowed, 13), (1, 9, n + 3, 21)] {
         comparer.expect(Call::Enter { v, s: 5, e }, scratch, 0, Answer::status(status));
         comparer.expect(Call::Withdraw { v, s: 5, e }, scratch, 0, Answer::status(status));
     }
@@ -171,8 +174,9 @@ pub fn entry_counts(comparer: &mut Comparer, pool: &Pool, _: usize) {
                 comparer.expect(Call::Instant { t }, 0, 0, Answer { pages, ..Answer::status(21) });
                 comparer.expect(Call::Average { t }, 0, 0, Answer::status(21));
                 comparer.expect(Call::Listing { a: t, b: t + 1 }, 0, 64, Answer::status(21));
-                comparer.expect(Call::Audit, pages_of(whole), 0, Answer::status(21));
-                comparer.expect(Call::Enter { v: 1, s: t, e: END }, pages_of(whole), 0, Answer::status(21));
+                let borrowed = scratch_bytes(pages_of(whole));
+                comparer.expect(Call::Audit, borrowed, 0, Answer::status(21));
+                comparer.expect(Call::Enter { v: 1, s: t, e: END }, borrowed, 0, Answer::status(21));
             }
         }
         full_pages(comparer, whole);
@@ -260,7 +264,7 @@ pub fn capacity_formats(comparer: &mut Comparer, _: &Pool, _: usize) {
                 comparer.expect(Call::Format { kind, window, capacity: k }, 0, 0, Answer::status(status));
                 if status == 0 {
                     assert_eq!(head(comparer.image(), CAPACITY), k, "format writes the field");
-                    comparer.expect(Call::Audit, length / page, 0, Answer::status(0));
+                    comparer.expect(Call::Audit, scratch_bytes(length / page), 0, Answer::status(0));
                     comparer.expect(Call::Instant { t: 9 }, 0, 0, Answer::pair(0, 0, 1));
                 }
             }

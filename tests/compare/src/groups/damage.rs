@@ -186,13 +186,13 @@ pub fn damaged_fields(comparer: &mut Comparer, pool: &Pool, part: usize) {
     }
 }
 
-struct Damage {
-    at: usize,
-    bytes: Vec<u8>,
+pub struct Damage {
+    pub at: usize,
+    pub bytes: Vec<u8>,
 }
 
 /// A field of a page, tree pages mostly, inner ones often; set to an end of its range, or to nearly what it was.
-fn drawn(comparer: &mut Comparer, whole: &[u8]) -> Damage {
+pub fn drawn(comparer: &mut Comparer, whole: &[u8]) -> Damage {
     let (k, length) = (capacity(whole), page_bytes(whole));
     let n = whole.len() / length;
     let random = &mut comparer.random;

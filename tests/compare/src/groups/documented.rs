@@ -6,7 +6,7 @@ use plain::END;
 
 use crate::calls::{Answer, Call};
 use crate::comparer::Comparer;
-use crate::images::{enter_in_order, fresh, head, Pool, CHANGES, HEIGHT};
+use crate::images::{enter_in_order, fresh, head, scratch_bytes, Pool, CHANGES, HEIGHT};
 
 impl Comparer {
     fn expect_pair(&mut self, t: u32, sum: i64, count: i32) {
@@ -72,7 +72,7 @@ fn fresh_or_without(n: usize, kind: u32, window: u32, without: bool) -> Vec<u8> 
 fn enter_and_withdraw(comparer: &mut Comparer, n: usize) {
     comparer.lend(&vec![0x5A; 512 * n]);
     comparer.expect(Call::Format { kind: 1, window: 0, capacity: 24 }, 0, 0, Answer::status(0));
-    comparer.expect(Call::Audit, n, 0, Answer::status(0));
+    comparer.expect(Call::Audit, scratch_bytes(n), 0, Answer::status(0));
     comparer.expect_pair(0, 0, 0);
     comparer.expect_booked(0, 6, 10, 40);
     comparer.expect_runs(0, END, &[(0, 0, 0), (10, 6, 1), (40, 0, 0)]);
@@ -80,7 +80,7 @@ fn enter_and_withdraw(comparer: &mut Comparer, n: usize) {
     comparer.expect_average(40, None);
     comparer.expect_withdrawn(0, 6, 10, 40);
     comparer.expect_runs(0, END, &[(0, 0, 0)]);
-    comparer.expect(Call::Audit, n, 0, Answer::status(0));
+    comparer.expect(Call::Audit, scratch_bytes(n), 0, Answer::status(0));
 }
 
 /// "1,000,000 passes, 1,000,001 gives 13. [5, 5) gives 11 even with a value too large. [0, END) needs no cut."
@@ -118,7 +118,7 @@ fn twelfth_booking(comparer: &mut Comparer, without: bool) {
         assert_eq!(head(comparer.image(), HEIGHT), pages);
         assert_eq!(head(comparer.image(), CHANGES), 11 + u32::from(status == 0));
         comparer.expect_pair(121, i64::from(status == 0), i32::from(status == 0));
-        comparer.expect(Call::Audit, n, 0, Answer::status(0));
+        comparer.expect(Call::Audit, scratch_bytes(n), 0, Answer::status(0));
     }
 }
 

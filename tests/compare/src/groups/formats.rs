@@ -2,8 +2,9 @@
 
 use plain::END;
 
+use crate::calls::{Answer, Call};
 use crate::comparer::Comparer;
-use crate::images::{bytes_of, Pool, CAPACITIES};
+use crate::images::{bytes_of, scratch_bytes, Pool, CAPACITIES};
 
 const KINDS: [u32; 9] = [0, 1, 2, 3, 4, 255, 257, 1 << 31, u32::MAX];
 const WINDOWS: [u32; 8] = [0, 1, 20, 999_999_999, 1_000_000_000, 1_000_000_001, 1 << 31, u32::MAX];
@@ -15,7 +16,7 @@ pub fn formats(comparer: &mut Comparer, _: &Pool, part: usize) {
         let kind = 1 + (n % 3) as u32;
         comparer.format_of(24, kind, 4);
         comparer.format_of(24, kind, 1_000_000_000);
-        comparer.audit();
+        audits(comparer, n);
         comparer.instant(END - 1);
         comparer.listings(0, END);
         // The same number of pages at another K.
@@ -23,7 +24,7 @@ pub fn formats(comparer: &mut Comparer, _: &Pool, part: usize) {
         let bytes = comparer.random.bytes(bytes_of(k) * n);
         comparer.lend(&bytes);
         assert_eq!(comparer.format_of(k, kind, 7).status, 0);
-        comparer.audit();
+        audits(comparer, n);
         comparer.instant(n as u32);
     }
     if part == 0 {
@@ -35,5 +36,12 @@ pub fn formats(comparer: &mut Comparer, _: &Pool, part: usize) {
                 comparer.average(0);
             }
         }
+    }
+}
+
+/// "n/8 bytes, rounded up": with these, with one less, and with a byte for each page.
+fn audits(comparer: &mut Comparer, n: usize) {
+    for (scratch, status) in [(scratch_bytes(n) - 1, 17), (scratch_bytes(n), 0), (n, 0)] {
+        comparer.expect(Call::Audit, scratch, 0, Answer::status(status));
     }
 }

@@ -8,8 +8,8 @@ use crate::calls::{Answer, Call};
 use crate::comparer::Comparer;
 use crate::groups::cycles::swap_pages;
 use crate::images::{
-    capacity, count_at, head, made, page_bytes, pages_of, pages_of_level, start_at, sum_at, u32_at, wanted, Drawn,
-    Pool, CAPACITIES, ENTRY_COUNT_AT, HEIGHT, KIND,
+    capacity, count_at, head, made, page_bytes, pages_of, pages_of_level, scratch_bytes, start_at, sum_at, u32_at,
+    wanted, Drawn, Pool, CAPACITIES, ENTRY_COUNT_AT, HEIGHT, KIND,
 };
 use crate::random::Random;
 
@@ -185,6 +185,6 @@ fn damaged_ways(comparer: &mut Comparer, image: &[u8], t: u32) {
         comparer.lend(image);
         comparer.set(4 * HEIGHT, &u32::to_le_bytes(to));
         comparer.expect(Call::Instant { t }, 0, 0, Answer::status(21));
-        comparer.expect(Call::Audit, pages_of(image), 0, Answer::status(21));
+        comparer.expect(Call::Audit, scratch_bytes(pages_of(image)), 0, Answer::status(21));
     }
 }

@@ -15,6 +15,7 @@ mod pair_bounds;
 mod random_bookings;
 mod random_bytes;
 mod refusals;
+mod scratch;
 
 use crate::comparer::Comparer;
 use crate::images::{Pool, IMAGES, OTHER, OTHER_BY_BYTES, SMALL};
@@ -93,6 +94,13 @@ pub const GROUPS: &[Group] = &[
         parts: IMAGES,
         random: true,
         run: damage::stale_entries,
+    },
+    Group {
+        name: "scratch",
+        what: "the same calls with scratches of several lengths",
+        parts: scratch::PARTS,
+        random: true,
+        run: scratch::scratch,
     },
     Group {
         name: "split_merge",

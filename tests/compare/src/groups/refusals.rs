@@ -8,7 +8,7 @@ use plain::END;
 use crate::calls::{Answer, Call};
 use crate::comparer::Comparer;
 use crate::images::{
-    capacity, enter_in_order, fresh, fresh_of, head, page_bytes, pages_of, Pool, CAPACITY, CHANGES, KIND,
+    capacity, enter_in_order, fresh, fresh_of, head, page_bytes, pages_of, scratch_bytes, Pool, CAPACITY, CHANGES, KIND,
 };
 
 const ORDER: [u32; 12] = [16, 17, 11, 12, 13, 14, 21, 22, 23, 24, 15, 0];
@@ -24,7 +24,9 @@ fn choices<const N: usize>() -> impl Iterator<Item = [bool; N]> {
 }
 
 pub fn refusals(comparer: &mut Comparer, _: &Pool, _: usize) {
-    let others = [fresh_of(4, 2, 1, 0), filled(4, 1), filled(4, 3), filled(18, 2)];
+    // Nine pages and more borrow two bytes and more: there one byte less is some, and short.
+    let others =
+        [fresh_of(4, 2, 1, 0), filled(4, 1), filled(4, 3), filled(18, 2), fresh_of(4, 9, 2, 0), fresh(17, 1, 0)];
     for image in [fresh(2, 1, 0), filled(24, 1), filled(24, 2), filled(24, 3)].into_iter().chain(others) {
         let page = page_bytes(&image);
         for cut in [1, page - 1, page * (pages_of(&image) - 1), image.len() - 40, image.len() - 39, image.len()] {
@@ -123,8 +125,8 @@ fn audits(comparer: &mut Comparer, image: &[u8], cut: usize) {
         let wrong = Wrong { cut: short.then_some(cut), capacity: bad, head: bad_head, page: bad_page };
         let by_judging = lend(comparer, image, wrong);
         let status = judged(by_judging, &[(17, little), (21, bad_head | bad_page)]);
-        let n = pages_of(image);
-        comparer.expect(Call::Audit, if little { n - 1 } else { n }, 0, Answer::status(status));
+        let borrowed = scratch_bytes(pages_of(image));
+        comparer.expect(Call::Audit, if little { borrowed - 1 } else { borrowed }, 0, Answer::status(status));
     }
 }
 
@@ -145,7 +147,8 @@ fn changes(comparer: &mut Comparer, image: &[u8], cut: usize) {
             let status = judged(by_judging, &[&refusals[..], &later[..]].concat());
             let v = if value { 1_000_001 } else { -1_000_000 };
             let call = crate::asking::change(withdrawal, v, if empty { e } else { s }, e);
-            comparer.expect(call, if little { n - 1 } else { n }, 0, Answer::status(status));
+            let borrowed = scratch_bytes(n);
+            comparer.expect(call, if little { borrowed - 1 } else { borrowed }, 0, Answer::status(status));
         }
     }
 }
