@@ -413,7 +413,7 @@ static uint32_t change(uint8_t *image, size_t image_length, uint8_t *scratch, si
     if (status != ACCEPTED) {
         return status;
     }
-    if (scratch_length < n) {
+    if (scratch_length < SCRATCH_BYTES(n)) {
         return SCRATCH_SHORT;
     }
     if (s >= e) {
@@ -422,7 +422,7 @@ static uint32_t change(uint8_t *image, size_t image_length, uint8_t *scratch, si
     if (v < -MOST_VALUE || v > MOST_VALUE) {
         return VALUE_RANGE;
     }
-    memset(scratch, 0, n);
+    memset(scratch, 0, SCRATCH_BYTES(n));
     struct tree tree;
     tree.image = image;
     if (!is_sound(image, n, &tree.head)) {

@@ -23,6 +23,9 @@
 #define FEWEST_PAGES 2
 #define MOST_PAGES 1024
 
+/* What a call borrows of the scratch: a bit for each page. */
+#define SCRATCH_BYTES(pages) (((pages) + 7) / 8)
+
 /* What the head may say at every capacity; and what a sound image comes to: a fifth level would take 3,771 pages. */
 #define MOST_HEIGHT 10
 #define MOST_LEVELS 4

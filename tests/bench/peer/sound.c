@@ -70,10 +70,10 @@ uint32_t peer_audit(const uint8_t *image, size_t image_length, uint8_t *scratch,
     if (status != ACCEPTED) {
         return status;
     }
-    if (scratch_length < n) {
+    if (scratch_length < SCRATCH_BYTES(n)) {
         return SCRATCH_SHORT;
     }
-    memset(scratch, 0, n);
+    memset(scratch, 0, SCRATCH_BYTES(n));
     struct head head;
     return is_sound(image, n, &head) ? ACCEPTED : UNSOUND;
 }

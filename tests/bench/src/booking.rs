@@ -3,7 +3,7 @@
 
 use std::cell::RefCell;
 
-use luwhenoka::raw;
+use luwhenoka::{raw, scratch_bytes};
 
 use crate::measure::{row, Column, Work};
 use crate::peer;
@@ -41,7 +41,7 @@ fn changes_of(case: &str, image: &[u8], spans: &[Booking]) {
 type Change = fn(&mut [u8], &mut [u8], i64, u32, u32) -> u32;
 
 fn changing<'a>(column: Column, image: &[u8], spans: &'a [Booking], enter: Change, withdraw: Change) -> Work<'a> {
-    let (mut image, mut scratch) = (image.to_vec(), vec![0; image.len() / 512]);
+    let (mut image, mut scratch) = (image.to_vec(), vec![0; scratch_bytes(image.len() / 512)]);
     Work::new(column, 2 * spans.len(), move || {
         both_ways(spans, |withdrawal, (v, s, e)| {
             let change = if withdrawal { withdraw } else { enter };

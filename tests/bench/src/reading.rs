@@ -2,7 +2,7 @@
 
 use std::hint::black_box;
 
-use luwhenoka::raw;
+use luwhenoka::{raw, scratch_bytes};
 use plain::END;
 
 use crate::measure::{row, Column, Work};
@@ -26,7 +26,7 @@ pub fn instants_by_height() {
 /// One booking after the other, which leaves pages half full: height 4 with the fewest bookings.
 fn tall_with_fewest() -> (Vec<u8>, u32) {
     let mut image = fresh(1_024);
-    let mut scratch = vec![0; 1_024];
+    let mut scratch = vec![0; scratch_bytes(1_024)];
     let mut number = 0;
     while height(&image) < 4 {
         let s = 500_000 * number + 10;
@@ -99,8 +99,8 @@ pub fn audits() {
 }
 
 fn audit_of(case: &str, image: &[u8]) {
-    let n = image.len() / 512;
-    let (mut one, mut two) = (vec![0; n], vec![0; n]);
+    let borrowed = scratch_bytes(image.len() / 512);
+    let (mut one, mut two) = (vec![0; borrowed], vec![0; borrowed]);
     let works = vec![
         Work::new(Column::Library, 1, || u64::from(raw::audit(image, &mut one))),
         Work::new(Column::PlainC, 1, || u64::from(peer::audit(image, &mut two))),

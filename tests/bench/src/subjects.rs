@@ -3,7 +3,7 @@
 
 use std::collections::BTreeMap;
 
-use luwhenoka::raw;
+use luwhenoka::{raw, scratch_bytes};
 use plain::END;
 
 /// The capacity of all pages: document 01's, which the peer is written for. A page has 512 bytes.
@@ -58,7 +58,7 @@ pub fn fresh(n: usize) -> Vec<u8> {
 /// An image of n pages after these bookings, as many of them as find pages; how many those are.
 pub fn booked(n: usize, bookings: &[Booking]) -> (Vec<u8>, usize) {
     let mut image = fresh(n);
-    let mut scratch = vec![0; n];
+    let mut scratch = vec![0; scratch_bytes(n)];
     let refused = bookings.iter().position(|(v, s, e)| plain::enter(&mut image, &mut scratch, *v, *s, *e) != 0);
     (image, refused.unwrap_or(bookings.len()))
 }

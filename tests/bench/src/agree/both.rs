@@ -2,6 +2,7 @@
 //! every byte that it may write of image, scratch and output.
 
 use luwhenoka::raw::{self, AverageAnswer, InstantAnswer, ListingAnswer};
+use luwhenoka::scratch_bytes;
 
 use crate::peer;
 use crate::subjects::Random;
@@ -124,6 +125,11 @@ impl Both {
 
     pub fn pages(&self) -> usize {
         self.image().len() / 512
+    }
+
+    /// What a call borrows of the scratch.
+    pub fn borrowed(&self) -> usize {
+        scratch_bytes(self.pages())
     }
 
     /// Sets bytes of the image that both have; what was there.

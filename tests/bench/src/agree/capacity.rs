@@ -28,7 +28,7 @@ pub fn fields(both: &mut Both) {
             if length >= CAPACITY_AT + 4 {
                 both.set(CAPACITY_AT, &field.to_le_bytes());
             }
-            for scratch in [0, 2, 159, 200] {
+            for scratch in [0, 1, 19, 20, 159, 200] {
                 every_call(both, scratch);
             }
         }
@@ -55,7 +55,7 @@ pub fn heights(both: &mut Both) {
     for height in 1..=11 {
         both.lend(&one_page_a_level(height));
         assert_eq!(both.ask(Call::Instant { t: 0 }, 0, 0), if height <= 10 { 0 } else { 21 });
-        every_call(both, both.pages());
+        every_call(both, both.borrowed());
         for level in 1..=height {
             let end = END - 11 * (level - 1);
             for t in [end - 12, end - 11, end - 1] {

@@ -48,7 +48,7 @@ pub fn bounds(both: &mut Both) {
         let changes = u32_at(&image, 32);
         for lowered in 0..=changes {
             both.set(32, &lowered.to_le_bytes());
-            both.ask(Call::Audit, both.pages(), 0);
+            both.ask(Call::Audit, both.borrowed(), 0);
             for t in [5, 100, both.random.below(3_000), END - 1] {
                 both.ask(Call::Instant { t }, 0, 0);
             }
@@ -63,13 +63,13 @@ pub fn bounds(both: &mut Both) {
 fn heavy(both: &mut Both, entered: i64, withdrawn: i64) -> Vec<u8> {
     both.lend(&formatted(64, 1, 0));
     for i in 1..=200 {
-        both.ask(Call::Enter { v: i64::from(i % 4), s: 10 * i, e: 10 * i + 5 }, 64, 0);
+        both.ask(Call::Enter { v: i64::from(i % 4), s: 10 * i, e: 10 * i + 5 }, both.borrowed(), 0);
     }
     for i in 0..150 {
         let (s, e) = (i % 3, END - i % 3);
         let entry = entered == withdrawn || i % 2 == 0;
         let call = if entry { Call::Enter { v: entered, s, e } } else { Call::Withdraw { v: withdrawn, s, e } };
-        both.ask(call, 64, 0);
+        both.ask(call, both.borrowed(), 0);
     }
     assert_eq!(height(both.image()), 3);
     both.image().to_vec()
@@ -149,7 +149,7 @@ fn u32_at(image: &[u8], at: usize) -> u32 {
 fn questions(both: &mut Both, image: &[u8], page: usize) {
     let start = u32_at(image, 512 * page + 32 + 4 * both.random.below(12) as usize);
     let t = if both.random.below(4) == 0 { both.random.below(END) } else { start };
-    both.ask(Call::Audit, both.pages(), 0);
+    both.ask(Call::Audit, both.borrowed(), 0);
     for t in [t, t.saturating_sub(1), 0] {
         both.ask(Call::Instant { t }, 0, 0);
     }
@@ -160,7 +160,7 @@ fn questions(both: &mut Both, image: &[u8], page: usize) {
         (i64::from(both.random.below(9)) - 4, t.saturating_sub(both.random.below(3)), t.saturating_add(long));
     let call = if both.random.below(2) == 0 { Call::Enter { v, s, e } } else { Call::Withdraw { v, s, e } };
     let damaged = both.image().to_vec();
-    if both.ask(call, both.pages(), 0) == 0 {
+    if both.ask(call, both.borrowed(), 0) == 0 {
         both.lend(&damaged);
     }
 }

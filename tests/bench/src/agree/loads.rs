@@ -125,7 +125,7 @@ fn pick<'a, T>(both: &mut Both, from: &'a [T]) -> Option<&'a T> {
 
 fn change(both: &mut Both, call: Call) -> u32 {
     let longer = both.random.below(3) as usize;
-    both.ask(call, both.pages() + longer, 0)
+    both.ask(call, both.borrowed() + longer, 0)
 }
 
 /// Now and then instants, averages, a listing with outputs around the length that it needs, and an audit.
@@ -136,7 +136,7 @@ fn questions(both: &mut Both, range: u32, i: usize) {
     if i % 8 == 0 {
         let b = t.saturating_add(1 + both.random.below(range / 4 + 1));
         listings(both, t, b);
-        both.ask(Call::Audit, both.pages(), 0);
+        both.ask(Call::Audit, both.borrowed(), 0);
     }
     if i % 64 == 0 {
         listings(both, 0, END);

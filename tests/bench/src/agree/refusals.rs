@@ -1,5 +1,6 @@
 //! Every refusal, alone and several at once, so that their order shows.
 
+use luwhenoka::scratch_bytes;
 use plain::END;
 
 use super::both::{Both, Call};
@@ -11,7 +12,7 @@ const CHANGES_AT: usize = 32;
 
 pub fn refusals(both: &mut Both) {
     for kind in 1..=3 {
-        for pages in [2, 3, 5] {
+        for pages in [2, 3, 5, 9] {
             let image = filled(both, pages, kind);
             for choice in 0..256 {
                 refused(both, &image, choice);
@@ -25,7 +26,7 @@ pub fn refusals(both: &mut Both) {
 fn filled(both: &mut Both, pages: usize, kind: u32) -> Vec<u8> {
     both.lend(&formatted(pages, kind, 0));
     for i in 1..200 {
-        both.ask(Call::Enter { v: i64::from(i % 5), s: 10 * i, e: 10 * i + 5 }, pages, 0);
+        both.ask(Call::Enter { v: i64::from(i % 5), s: 10 * i, e: 10 * i + 5 }, both.borrowed(), 0);
     }
     both.image().to_vec()
 }
@@ -35,7 +36,7 @@ fn refused(both: &mut Both, image: &[u8], choice: u32) {
     let has = |bit: u32| choice >> bit & 1 == 1;
     both.lend(&image[..image.len() - usize::from(has(0))]);
     let pages = image.len() / 512;
-    let scratch = if has(1) { pages - 1 } else { pages };
+    let scratch = scratch_bytes(pages) - usize::from(has(1));
     if has(2) {
         both.set(CHANGES_AT, &1_000_000_000u32.to_le_bytes());
     }
@@ -63,10 +64,12 @@ fn lengths(both: &mut Both, kind: u32) {
     bytes.extend_from_slice(&longest[..1_024]);
     for length in [0, 1, 39, 40, 41, 511, 512, 513, 1_023, 1_024, 1_025, 524_287, 524_288, 524_289, 524_800] {
         both.lend(&bytes[..length]);
-        both.ask(Call::Audit, 2_000, 0);
         both.ask(Call::Instant { t: 3 }, 0, 0);
         both.ask(Call::Average { t: 3 }, 0, 0);
         both.ask(Call::Listing { a: 3, b: 4 }, 0, 64);
-        both.ask(Call::Enter { v: 1, s: 3, e: 4 }, 2_000, 0);
+        for scratch in [0, 1, 127, 128, 2_000] {
+            both.ask(Call::Audit, scratch, 0);
+            both.ask(Call::Enter { v: 1, s: 3, e: 4 }, scratch, 0);
+        }
     }
 }
