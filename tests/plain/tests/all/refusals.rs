@@ -4,7 +4,7 @@
 use crate::support::*;
 use plain::{audit, average, enter, format, instant, listing, withdraw, END};
 
-/// An image of n pages whose first leaf is full, with no page at hand: two cuts in its first entry give 24.
+/// An image of n pages with none at hand, whose first leaf has no room for two entries: two cuts in its first one give 24.
 fn full(n: usize, kind: u32) -> Vec<u8> {
     let mut rack = Rack::new(n, kind, 0, 1);
     let mut s = 10_000;
@@ -51,25 +51,17 @@ fn changes_of(n: usize, borrowed: usize) -> u32 {
             if bad_length {
                 image.pop();
             }
-            let expected = if bad_length {
-                16
-            } else if short_scratch {
-                17
-            } else if empty_span {
-                11
-            } else if bad_value {
-                13
-            } else if unsound {
-                21
-            } else if not_totals && withdrawal {
-                22
-            } else if changes_full {
-                23
-            } else if pages_lack {
-                24
-            } else {
-                0
-            };
+            let in_order = [
+                (bad_length, 16),
+                (short_scratch, 17),
+                (empty_span, 11),
+                (bad_value, 13),
+                (unsound, 21),
+                (not_totals && withdrawal, 22),
+                (changes_full, 23),
+                (pages_lack, 24),
+            ];
+            let expected = in_order.iter().find(|(holds, _)| *holds).map_or(0, |(_, status)| *status);
             for enough in [borrowed, n, n + 5] {
                 check_change(
                     withdrawal,
