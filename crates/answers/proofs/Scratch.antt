@@ -15,7 +15,7 @@ use Rattle.calls.specs.Demands.{untouched-at, keeps-scratch}
 use Rattle.calls.specs.Scratch.{Bytes-cleared, Untouched, Scratch-left, Bit-per-page}
 use Rattle.calls.proofs.Reflects.{Reflects, either, is-equal, chosen, other}
 use Rattle.calls.proofs.Tables.{bad-field, turned-back}
-use Rattle.calls.proofs.Scratch.{clears, same-booking, same-audit}
+use Rattle.calls.proofs.Scratch.{clears, same-booking, same-audit, as-long-booking, as-long-audit}
 use Rattle.answers.proofs.Demand.{demand-1}
 
 module _ (img scratch : List ℕ) where
@@ -66,4 +66,6 @@ bit-per-page =
           leaves img scratch _ _ (turned-back .of-audit img scratch _ .0 refl) (demand-1 .of-scratch entering (pos 0) 0 0 img scratch .1);
       same-booking = λ side v s e img scratch other. same-booking img scratch other side v s e;
       same-audit = same-audit;
+      as-long-booking = λ side v s e img scratch long. as-long-booking img scratch long side v s e;
+      as-long-audit = as-long-audit;
     }

@@ -1,6 +1,6 @@
 -- A scratch of one bit per page: what is cleared of it, and that a call answers as it did with one of a byte. Assumes nothing.
 use Prim.Native.Nat.{ℕ, zero, suc, _+_, _*_, _/_, _≤_}
-use mathlib.Core.Path.{_≡_, refl, ap, _∙_}
+use mathlib.Core.Path.{_≡_, refl, sym, ap, _∙_}
 use mathlib.Core.Logic.{_≢_, _⊎_, inl, inr}
 use mathlib.Core.Bool.{Bool, true, false, cond, not, false≢true}
 use mathlib.Core.List.{List, [], _∷_, _++_}
@@ -134,12 +134,15 @@ judge-no-17 img = go (judge-is img)
     go (inr (inl z)) e = omega (arith, z, e)
     go (inr (inr z)) e = omega (arith, z, e)
 
-module _ (img scratch : List ℕ) (enough : Enough (pages-in (half-of img) img) scratch) where
-  pub booking-enough : (side : Side) (v : ℤ) (s e : ℕ) → index-book side v s e img scratch .status ≢ 17
-  unfolding index-book book book-status book-input-rows
-  booking-enough side v s e =
-      by-judge _ (λ half. book borrowed half side v s e img scratch) img (λ (b : Booked). b .status ≢ 17)
-      (λ g. passes-17 _ _ _ (is-enough (half-of img) img scratch enough) (behind-17 _ _ _ _ _ _)) (λ n. judge-no-17 img)
+-- of whatever is borrowed, if the scratch has it
+module _ (f : ℕ → ℕ) (img scratch : List ℕ)
+    (has : length-ok (half-of img) img ≡ true → scratch-ok f (pages-in (half-of img) img) scratch ≡ true) where
+  booking-passes : (refused : ℕ → Booked) → ((n : ℕ) → refused n .status ≡ n) → (side : Side) (v : ℤ) (s e : ℕ)
+      → judged refused (λ half. book f half side v s e img scratch) img .status ≢ 17
+  unfolding book book-status book-input-rows
+  booking-passes refused told side v s e =
+      by-judge refused (λ half. book f half side v s e img scratch) img (λ (b : Booked). b .status ≢ 17)
+      (λ g. passes-17 _ _ _ has (behind-17 _ _ _ _ _ _)) (λ n z. judge-no-17 img (sym (told (judge img)) ∙ z))
     where
       behind-17 : (a b c d f g : Bool) → first ((11, a) ∷ (13, b) ∷ (21, c) ∷ (22, d) ∷ (23, f) ∷ (24, g) ∷ []) ≢ 17
       behind-17 true b c d f g e = unfold first in omega (arith, e)
@@ -150,12 +153,43 @@ module _ (img scratch : List ℕ) (enough : Enough (pages-in (half-of img) img) 
       behind-17 false false false false false true e = unfold first in omega (arith, e)
       behind-17 false false false false false false e = unfold first in omega (arith, e)
 
-  pub audit-enough : index-audit img scratch .status ≢ 17
-  unfolding index-audit audit audit-input-rows
-  audit-enough =
-      by-judge _ (λ half. audit borrowed half img scratch) img (λ (a : Audited). a .status ≢ 17)
-      (λ g. passes-17 _ _ _ (is-enough (half-of img) img scratch enough) (behind-17 _)) (λ n. judge-no-17 img)
+  audit-passes : (refused : ℕ → Audited) → ((n : ℕ) → refused n .status ≡ n)
+      → judged refused (λ half. audit f half img scratch) img .status ≢ 17
+  unfolding audit audit-input-rows
+  audit-passes refused told =
+      by-judge refused (λ half. audit f half img scratch) img (λ (a : Audited). a .status ≢ 17)
+      (λ g. passes-17 _ _ _ has (behind-17 _)) (λ n z. judge-no-17 img (sym (told (judge img)) ∙ z))
     where
       behind-17 : (a : Bool) → first ((21, a) ∷ []) ≢ 17
       behind-17 true e = unfold first in omega (arith, e)
       behind-17 false e = unfold first in omega (arith, e)
+
+module _ (img scratch : List ℕ) (enough : Enough (pages-in (half-of img) img) scratch) where
+  pub booking-enough : (side : Side) (v : ℤ) (s e : ℕ) → index-book side v s e img scratch .status ≢ 17
+  unfolding index-book
+  booking-enough = booking-passes borrowed img scratch (is-enough (half-of img) img scratch enough) _ (λ n. refl)
+
+  pub audit-enough : index-audit img scratch .status ≢ 17
+  unfolding index-audit
+  audit-enough = audit-passes borrowed img scratch (is-enough (half-of img) img scratch enough) _ (λ n. refl)
+
+-- a byte for each page was always enough, and so it is
+module _ (img scratch : List ℕ) (long : pages-in (half-of img) img ≤ length scratch) where
+  abbrev enough : Enough (pages-in (half-of img) img) scratch
+  enough = inl (omega (arith, long))
+
+  long-bytes : scratch-ok (λ n. n) (pages-in (half-of img) img) scratch ≡ true
+  unfolding scratch-ok
+  long-bytes = le-leb _ _ long
+
+  pub as-long-booking : (side : Side) (v : ℤ) (s e : ℕ)
+      → (index-book side v s e img scratch .status ≡ index-book-bytewise side v s e img scratch .status)
+      × (index-book side v s e img scratch .image ≡ index-book-bytewise side v s e img scratch .image)
+  as-long-booking side v s e =
+      same-booking img scratch scratch side v s e (booking-enough img scratch enough side v s e)
+      (unfold index-book-bytewise in booking-passes (λ n. n) img scratch (λ whole. long-bytes) _ (λ n. refl) side v s e)
+
+  pub as-long-audit : index-audit img scratch .status ≡ index-audit-bytewise img scratch .status
+  as-long-audit =
+      same-audit img scratch scratch (audit-enough img scratch enough)
+      (unfold index-audit-bytewise in audit-passes (λ n. n) img scratch (λ whole. long-bytes) _ (λ n. refl))

@@ -46,3 +46,13 @@ pub record Bit-per-page : Type 0 where
       → index-audit img scratch .status ≢ 17
       → index-audit-bytewise img other .status ≢ 17
       → index-audit img scratch .status ≡ index-audit-bytewise img other .status
+  -- so with one scratch that is long enough for both
+  pub as-long-booking :
+      (side : Side) (v : ℤ) (s e : ℕ) (img scratch : List ℕ)
+      → pages-in (half-of img) img ≤ length scratch
+      → (index-book side v s e img scratch .status ≡ index-book-bytewise side v s e img scratch .status)
+      × (index-book side v s e img scratch .image ≡ index-book-bytewise side v s e img scratch .image)
+  pub as-long-audit :
+      (img scratch : List ℕ)
+      → pages-in (half-of img) img ≤ length scratch
+      → index-audit img scratch .status ≡ index-audit-bytewise img scratch .status

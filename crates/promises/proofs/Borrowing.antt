@@ -1,5 +1,5 @@
 -- What is proved of every call that borrows a scratch holds of the functions for C. Assumes nothing.
-use mathlib.Core.Path.{ap, sym, _∙_, subst⁻¹}
+use mathlib.Core.Path.{ap, _∙_, subst⁻¹}
 use Rattle.calls.specs.Calls.{Booked, Audited}
 use Rattle.calls.specs.Scratch.{Scratch-left, Bit-per-page}
 use Rattle.answers.proofs.Scratch.{bit-per-page}
@@ -26,4 +26,9 @@ borrowing =
           λ img scratch r left p other n m.
           let number = ap (λ (a : Audited). a .status) p in
           number ∙ bits .same-audit img scratch other (λ z. n (number ∙ z)) m;
+      as-long-booking =
+          λ side v s e img scratch r after left p long.
+          let same = bits .as-long-booking side v s e img scratch long in
+          (ap (λ (b : Booked). b .status) p ∙ same .0, ap (λ (b : Booked). b .image) p ∙ same .1);
+      as-long-audit = λ img scratch r left p long. ap (λ (a : Audited). a .status) p ∙ bits .as-long-audit img scratch long;
     }
