@@ -69,7 +69,8 @@ extern "C" {
 #define LUW_MOST_CAPACITY 24
 #define LUW_PAGE_BYTES(capacity) (32 + 20 * (size_t)(capacity))
 
-/* The fewest and the most pages of an image; the bytes of scratch that a call on so many pages borrows; bytes of a run. */
+/* The fewest and the most pages of an image; the bytes of scratch that a call borrows for so many pages, up to the most;
+ * bytes of a run. */
 #define LUW_FEWEST_PAGES 2
 #define LUW_MOST_PAGES 1024
 #define LUW_SCRATCH_BYTES(pages) (((size_t)(pages) + 7) / 8)

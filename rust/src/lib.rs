@@ -3,8 +3,9 @@
 //! The index lives in an *image* of 2 to 1,024 pages that the caller lends. Any bytes may stand there: what is not a fit page
 //! is refused, and nothing is changed. A page has room for as many entries as its *capacity* says, an even number from 4 to
 //! 24, which is chosen at format and stands in the image from then on; [`page_bytes`] tells how long the pages are. Audits and
-//! changes borrow a *scratch* too, a bit for each page; [`scratch_bytes`] tells how long it is. These are safe functions over
-//! the static library `libluwhenoka.a`, which is written and proved in Rattle; `include/luwhenoka.h` tells each call in full.
+//! changes borrow a *scratch* too, a bit for each page; [`scratch_bytes`] tells how many bytes that is. These are safe
+//! functions over the static library `libluwhenoka.a`, which is written and proved in Rattle; `include/luwhenoka.h` tells
+//! each call in full.
 //!
 //! ```
 //! use luwhenoka::{enter, format, instant, listing, page_bytes, runs, scratch_bytes, Kind, END};
@@ -49,7 +50,8 @@ pub const fn page_bytes(capacity: u32) -> usize {
     32 + 20 * capacity as usize
 }
 
-/// Bytes of scratch that [`audit`], [`enter`] and [`withdraw`] borrow for an image of so many pages: an eighth, rounded up.
+/// Bytes of scratch that [`audit`], [`enter`] and [`withdraw`] borrow for an image of so many pages: an eighth of their
+/// number, rounded up.
 ///
 /// ```
 /// use luwhenoka::scratch_bytes;
@@ -227,8 +229,8 @@ pub fn listing(image: &[u8], a: u32, b: u32, output: &mut [u8]) -> Result<usize,
     Ok(listed.runs as usize)
 }
 
-/// Whether the image of n pages is sound. Borrows the first [`scratch_bytes`] of n of the scratch, which are 0 afterwards; any
-/// beyond keep theirs.
+/// Whether the image of n pages is sound. Borrows the first [`scratch_bytes(n)`](scratch_bytes) bytes of the scratch, which
+/// are 0 afterwards; any beyond keep theirs.
 ///
 /// Refusals: [`Unsound`](Refusal::Unsound) for a bad capacity, [`ImageLength`](Refusal::ImageLength) and
 /// [`ScratchShort`](Refusal::ScratchShort), all three with the scratch untouched; [`Unsound`](Refusal::Unsound) for an image
@@ -243,15 +245,15 @@ pub fn listing(image: &[u8], a: u32, b: u32, output: &mut [u8]) -> Result<usize,
 /// assert_eq!(scratch, [7, 7, 7]);
 /// format(&mut image, Kind::Least, 0, 24)?;
 /// assert_eq!(audit(&image, &mut scratch), Ok(()));
-/// assert_eq!(scratch, [0, 7, 7]); // a byte has a bit for each of two pages
+/// assert_eq!(scratch, [0, 7, 7]); // one byte is enough for two pages
 /// # Ok::<(), Refusal>(())
 /// ```
 pub fn audit(image: &[u8], scratch: &mut [u8]) -> Result<(), Refusal> {
     Refusal::result(raw::audit(image, scratch))
 }
 
-/// Books the value `v` on [`s`, `e`). Borrows the first [`scratch_bytes`] of n of the scratch, for an image of n pages; they
-/// are 0 afterwards, and any beyond keep theirs.
+/// Books the value `v` on [`s`, `e`). Borrows the first [`scratch_bytes(n)`](scratch_bytes) bytes of the scratch, for an image
+/// of n pages; they are 0 afterwards, and any beyond keep theirs.
 ///
 /// Refusals: [`Unsound`](Refusal::Unsound) for a bad capacity, [`ImageLength`](Refusal::ImageLength),
 /// [`ScratchShort`](Refusal::ScratchShort), [`SpanEmpty`](Refusal::SpanEmpty), [`ValueRange`](Refusal::ValueRange), all five

@@ -24,7 +24,7 @@ pub enum Refusal {
     /// 16: an image length that isn't (32 + 20 × K) × n for an n from 2 to 1,024, where K is the capacity that format is
     /// given and that any other call finds in the image
     ImageLength,
-    /// 17: a scratch shorter than [`scratch_bytes`](crate::scratch_bytes) of n, for an image of n pages
+    /// 17: a scratch shorter than [`scratch_bytes(n)`](crate::scratch_bytes), for an image of n pages
     ScratchShort,
     /// 21: the image names no capacity, neither by an even number from 4 to 24 nor by the FF of an older image; or a page
     /// that was met is unfit; of an audit or a change, the image is not sound
@@ -103,7 +103,7 @@ impl fmt::Display for Refusal {
             Refusal::FormatRange => "the capacity, the kind or the window is outside its range",
             Refusal::OutputShort => "the output is shorter than the runs",
             Refusal::ImageLength => "the image is not 2 to 1024 pages of the length that its capacity asks for",
-            Refusal::ScratchShort => "the scratch is shorter than a bit for each page",
+            Refusal::ScratchShort => "the scratch has fewer bits than the image has pages",
             Refusal::Unsound => "the image names no capacity, a page of it is unfit, or it is not sound",
             Refusal::WithdrawalKind => "an index of the greatest or least takes no withdrawal",
             Refusal::ChangesFull => "the index has had 1000000000 changes",

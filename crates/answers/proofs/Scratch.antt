@@ -1,22 +1,87 @@
--- Document 02, (vi), "Scratch of one bit per page", of every call that borrows one. Assumes nothing.
+-- What a call leaves of its scratch. Assumes nothing.
 use Prim.Native.Nat.{ℕ, _*_, _<_}
-use mathlib.Core.Path.{_≡_, refl, _∙_, subst⁻¹}
-use mathlib.Core.Logic.{inl, inr}
-use mathlib.Core.Bool.{cond}
+use mathlib.Core.Path.{_≡_, refl, sym, ap, _∙_, subst⁻¹}
+use mathlib.Core.Logic.{_≢_, inl, inr}
+use mathlib.Core.Bool.{Bool, true, false, cond, not, _&&_, _||_}
 use mathlib.Core.List.{List, _∷_}
 use native.Mathlib.Omega.{arith}
 use lib.ListN.{length}
-use lib.IntN.{pos}
-use Rattle.image.specs.Images.{half-of, pages-in}
-use Rattle.calls.specs.Refusals.{borrowed, cleared}
-use Rattle.calls.specs.Changes.{entering}
+use lib.IntN.{ℤ}
+use lib.Dec.{eqb, ltb}
+use Rattle.rule.specs.Time.{span-ok, value-ok, effect-end}
+use Rattle.page.specs.Fit.{most-changes}
+use Rattle.image.specs.Images.{half-of, pages-in, length-ok, image-of}
+use Rattle.image.specs.Sound.{sound}
+use Rattle.steps.specs.Change.{lacks-pages}
+use Rattle.calls.specs.Refusals.{first, borrowed, scratch-ok, cleared, scratch-after}
+use Rattle.calls.specs.Changes.{Side, withdraws}
+use Rattle.calls.specs.Calls.{Booked, Audited, head, book-input-rows, book-status, book, audit-input-rows, audit}
+use Rattle.calls.specs.Index.{names-capacity, judge, judged, index-book, index-audit}
 use Rattle.calls.specs.Tables.{Case, Returned, Exactly, _when_, Whole-pages, Fewer-bits, judge-cases, book-cases, audit-cases}
-use Rattle.calls.specs.Demands.{untouched-at, keeps-scratch}
-use Rattle.calls.specs.Scratch.{Bytes-cleared, Untouched, Scratch-left, Bit-per-page}
+use Rattle.calls.specs.Scratch.{Bytes-cleared, Untouched, Scratch-left}
+use Rattle.calls.proofs.Judged.{by-judge, goes-on}
 use Rattle.calls.proofs.Reflects.{Reflects, either, is-equal, chosen, other}
 use Rattle.calls.proofs.Tables.{bad-field, turned-back}
-use Rattle.calls.proofs.Scratch.{clears, same-booking, same-audit, as-long-booking, as-long-audit}
-use Rattle.answers.proofs.Demand.{demand-1}
+use Rattle.calls.proofs.Scratch.{clears}
+use Rattle.answers.proofs.Rows.{untouched-at, book-scratch, audit-scratch}
+
+-- at a bad capacity, or by the status
+keeps-scratch : List ℕ → ℕ → Bool
+keeps-scratch img number = not (names-capacity img) || untouched-at number
+
+-- ---- by its status and the capacity
+module _ (half : ℕ) where
+  booking-goes : (side : Side) (v : ℤ) (s e : ℕ) (img scratch : List ℕ)
+      → book borrowed half side v s e img scratch .scratch
+      ≡ cond (untouched-at (book borrowed half side v s e img scratch .status)) scratch (cleared borrowed (pages-in half img) scratch)
+  unfolding book book-input-rows book-status scratch-after
+  booking-goes side v s e img scratch =
+      book-scratch (not (length-ok half img)) (not (scratch-ok borrowed (pages-in half img) scratch)) (not (span-ok s e)) (not (value-ok v))
+      (not (sound half img)) (withdraws side && not (eqb (head half img .kind) 1)) (eqb (head half img .changes) most-changes)
+      (lacks-pages half s (effect-end e (head half img .window)) (image-of half img)) scratch (cleared borrowed (pages-in half img) scratch)
+
+  audit-goes : (img scratch : List ℕ)
+      → audit borrowed half img scratch .scratch
+      ≡ cond (untouched-at (audit borrowed half img scratch .status)) scratch (cleared borrowed (pages-in half img) scratch)
+  unfolding audit audit-input-rows scratch-after
+  audit-goes img scratch =
+      audit-scratch (not (length-ok half img)) (not (scratch-ok borrowed (pages-in half img) scratch)) (not (sound half img)) scratch
+      (cleared borrowed (pages-in half img) scratch)
+
+module _ (img : List ℕ) where
+  -- behind the rows ahead it goes by the status alone
+  goes-by-status : judge img ≡ 0 → (n : ℕ) → keeps-scratch img n ≡ untouched-at n
+  unfolding keeps-scratch
+  goes-by-status g n = ap (λ b. not b || untouched-at n) (goes-on img g .named)
+
+  -- and at these rows it is kept
+  kept-ahead : judge img ≢ 0 → keeps-scratch img (judge img) ≡ true
+  unfolding judge keeps-scratch untouched-at first
+  kept-ahead n = go (ltb (length img) 40) (names-capacity img) n
+    where
+      go : (x y : Bool) → _≢_ {A = ℕ} (cond x 16 (cond (not y) 21 0)) 0 → not y || untouched-at (cond x 16 (cond (not y) 21 0)) ≡ true
+      go true true n = refl
+      go x false n = refl
+      go false true n = absurd (n refl)
+
+  -- whichever call it is
+  goes : {A : Type 0} (refused call : ℕ → A) (status : A → ℕ) (left : A → List ℕ) (scratch : List ℕ)
+      → status (refused (judge img)) ≡ judge img
+      → left (refused (judge img)) ≡ scratch
+      → left (call (half-of img))
+      ≡ cond (untouched-at (status (call (half-of img)))) scratch (cleared borrowed (pages-in (half-of img) img) scratch)
+      → left (judged refused call img)
+      ≡ cond (keeps-scratch img (status (judged refused call img))) scratch (cleared borrowed (pages-in (half-of img) img) scratch)
+  goes refused call status left scratch told same leaves =
+      by-judge refused call img
+      (λ r. left r ≡ cond (keeps-scratch img (status r)) scratch (cleared borrowed (pages-in (half-of img) img) scratch))
+      (λ g. leaves
+      ∙ ap (λ b. cond b scratch (cleared borrowed (pages-in (half-of img) img) scratch))
+      (sym (goes-by-status g (status (call (half-of img))))))
+      (λ n. same
+      ∙ ap (λ b. cond b scratch (cleared borrowed (pages-in (half-of img) img) scratch)) (sym (ap (keeps-scratch img) told ∙ kept-ahead n)))
+
+-- ---- byte by byte
 
 module _ (img scratch : List ℕ) where
   -- the test for an untouched scratch
@@ -55,17 +120,20 @@ module _ (img scratch : List ℕ) where
               (clears pages scratch (omega (arith, room)));
         }
 
-pub bit-per-page : Bit-per-page
-unfolding judge-cases book-cases audit-cases Exactly
-bit-per-page =
-    record {
-      of-booking = λ side v s e img scratch.
-          leaves img scratch _ _ (turned-back .of-booking side v s e img scratch _ .0 refl)
-          (demand-1 .of-scratch side v s e img scratch .0);
-      of-audit = λ img scratch.
-          leaves img scratch _ _ (turned-back .of-audit img scratch _ .0 refl) (demand-1 .of-scratch entering (pos 0) 0 0 img scratch .1);
-      same-booking = λ side v s e img scratch other. same-booking img scratch other side v s e;
-      same-audit = same-audit;
-      as-long-booking = λ side v s e img scratch long. as-long-booking img scratch long side v s e;
-      as-long-audit = as-long-audit;
-    }
+pub booking-leaves : (side : Side) (v : ℤ) (s e : ℕ) (img scratch : List ℕ)
+    → Scratch-left img scratch (index-book side v s e img scratch .status) (index-book side v s e img scratch .scratch)
+unfolding judge-cases book-cases Exactly
+booking-leaves side v s e img scratch =
+    leaves img scratch _ _ (turned-back .of-booking side v s e img scratch _ .0 refl)
+    (unfold index-book in
+    goes img _ (λ half. book borrowed half side v s e img scratch) (λ (b : Booked). b .status) (λ (b : Booked). b .scratch) scratch refl refl
+    (booking-goes (half-of img) side v s e img scratch))
+
+pub audit-leaves : (img scratch : List ℕ)
+    → Scratch-left img scratch (index-audit img scratch .status) (index-audit img scratch .scratch)
+unfolding judge-cases audit-cases Exactly
+audit-leaves img scratch =
+    leaves img scratch _ _ (turned-back .of-audit img scratch _ .0 refl)
+    (unfold index-audit in
+    goes img _ (λ half. audit borrowed half img scratch) (λ (a : Audited). a .status) (λ (a : Audited). a .scratch) scratch refl refl
+    (audit-goes (half-of img) img scratch))

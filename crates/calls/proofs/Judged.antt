@@ -75,3 +75,11 @@ module _ (img : List ℕ) where
       go true y = inr (inl refl)
       go false true = inr (inr refl)
       go false false = inl refl
+
+  pub judge-not : (k : ℕ) → 0 ≢ k → 16 ≢ k → 21 ≢ k → judge img ≢ k
+  judge-not k n m l = go judge-is
+    where
+      go : (judge img ≡ 0) ⊎ ((judge img ≡ 16) ⊎ (judge img ≡ 21)) → judge img ≢ k
+      go (inl z) e = n (sym z ∙ e)
+      go (inr (inl z)) e = m (sym z ∙ e)
+      go (inr (inr z)) e = l (sym z ∙ e)

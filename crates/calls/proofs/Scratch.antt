@@ -9,6 +9,7 @@ use lib.ListN.{length, getD, drop, replicate, length-replicate, getD-replicate, 
 use lib.Dec.{eqb}
 use lib.IntN.{ℤ}
 use borrow.Author.Tests.{le-leb}
+use Rattle.lists.specs.Lists.{All, all-none, all-more}
 use Rattle.rule.specs.Time.{span-ok, value-ok}
 use Rattle.fields.specs.Bytes.{patch}
 use Rattle.fields.proofs.Laws.Parts.{length-patch}
@@ -19,8 +20,9 @@ use Rattle.calls.specs.Refusals.{Row, first, borrowed, scratch-ok, clear
 use Rattle.calls.specs.Changes.{Side}
 use Rattle.calls.specs.Calls.{Booked, Audited, book-state-rows, changed, book-input-rows, book-status, book, audit-input-rows, audit}
 use Rattle.calls.specs.Index.{judge, judged, index-book, index-audit, index-book-bytewise, index-audit-bytewise}
-use Rattle.calls.specs.Scratch.{Bytes-cleared}
-use Rattle.calls.proofs.Judged.{by-judge, judge-is}
+use Rattle.calls.specs.Scratch.{Bytes-cleared, Enough, Bit-per-page}
+use Rattle.calls.proofs.Judged.{by-judge, judge-not}
+use Rattle.calls.proofs.Tables.{booking-bytewise, audit-bytewise}
 
 -- ---- what is cleared
 
@@ -93,14 +95,14 @@ module _ (half : ℕ) (f g : ℕ → ℕ) (img scratch other : List ℕ) where
       ((21, not (sound half img)) ∷ [])
 
 module _ (img scratch other : List ℕ) where
-  pub same-booking : (side : Side) (v : ℤ) (s e : ℕ)
+  same-booking : (side : Side) (v : ℤ) (s e : ℕ)
       → Same-booking (index-book side v s e img scratch) (index-book-bytewise side v s e img other)
   unfolding index-book index-book-bytewise
   same-booking side v s e =
       both-judged Same-booking _ (λ half. book borrowed half side v s e img scratch) _ (λ half. book (λ n. n) half side v s e img other) img
       (same-book (half-of img) borrowed (λ n. n) img scratch other side v s e) (λ n m. (refl, refl))
 
-  pub same-audit : Same-audit (index-audit img scratch) (index-audit-bytewise img other)
+  same-audit : Same-audit (index-audit img scratch) (index-audit-bytewise img other)
   unfolding index-audit index-audit-bytewise
   same-audit =
       both-judged Same-audit _ (λ half. audit borrowed half img scratch) _ (λ half. audit (λ n. n) half img other) img
@@ -108,88 +110,95 @@ module _ (img scratch other : List ℕ) where
 
 -- ---- what is always enough
 
--- for n pages, or for the most that an image may have
-abbrev pub Enough : ℕ → List ℕ → Type 0
-Enough pages scratch = ((pages + 7) / 8 ≤ length scratch) ⊎ (128 ≤ length scratch)
-
-is-enough : (half : ℕ) (img scratch : List ℕ) → Enough (pages-in half img) scratch → length-ok half img ≡ true
+-- a scratch that is enough has what is borrowed of it
+has-enough : (half : ℕ) (img scratch : List ℕ) → Enough (pages-in half img) scratch → length-ok half img ≡ true
     → scratch-ok borrowed (pages-in half img) scratch ≡ true
-unfolding scratch-ok borrowed
-is-enough half img scratch (inl k) e = le-leb _ _ k
-is-enough half img scratch (inr k) e =
+unfolding Enough scratch-ok borrowed
+has-enough half img scratch (inl k) e = le-leb _ _ k
+has-enough half img scratch (inr k) e =
     le-leb ((pages-in half img + 7) / 8) (length scratch) (omega (arith, sized half img e .most, k))
 
--- then 17 turns nothing back
-passes-17 : (a b : Bool) (rows : List Row) → (a ≡ true → b ≡ true) → first rows ≢ 17 → first ((16, not a) ∷ (17, not b) ∷ rows) ≢ 17
+-- then 17 turns nothing back, if no row behind it has that number
+no-17 : (rows : List Row) → All (λ r. r .0 ≢ 17) rows → first rows ≢ 17
 unfolding first
-passes-17 false b rows h n e = omega (arith, e)
-passes-17 true true rows h n e = n e
-passes-17 true false rows h n e = false≢true (h refl)
+no-17 [] ns e = omega (arith, e)
+no-17 ((n, true) ∷ rows) (all-more k ns) e = k e
+no-17 ((n, false) ∷ rows) (all-more k ns) e = no-17 rows ns e
 
-judge-no-17 : (img : List ℕ) → judge img ≢ 17
-judge-no-17 img = go (judge-is img)
-  where
-    go : (judge img ≡ 0) ⊎ ((judge img ≡ 16) ⊎ (judge img ≡ 21)) → judge img ≢ 17
-    go (inl z) e = omega (arith, z, e)
-    go (inr (inl z)) e = omega (arith, z, e)
-    go (inr (inr z)) e = omega (arith, z, e)
+passes-17 : (a b : Bool) (rows : List Row) → (a ≡ true → b ≡ true) → All (λ r. r .0 ≢ 17) rows
+    → first ((16, not a) ∷ (17, not b) ∷ rows) ≢ 17
+unfolding first
+passes-17 false b rows has ns e = omega (arith, e)
+passes-17 true true rows has ns e = no-17 rows ns e
+passes-17 true false rows has ns e = false≢true (has refl)
 
--- of whatever is borrowed, if the scratch has it
+-- whatever is borrowed, if the scratch has it
 module _ (f : ℕ → ℕ) (img scratch : List ℕ)
     (has : length-ok (half-of img) img ≡ true → scratch-ok f (pages-in (half-of img) img) scratch ≡ true) where
+  judged-passes : {A : Type 0} (status : A → ℕ) (refused call : ℕ → A) → ((n : ℕ) → status (refused n) ≡ n)
+      → status (call (half-of img)) ≢ 17 → status (judged refused call img) ≢ 17
+  judged-passes status refused call told n =
+      by-judge refused call img (λ r. status r ≢ 17) (λ g. n)
+      (λ g e. judge-not img 17 (λ z. omega arith) (λ z. omega arith) (λ z. omega arith) (sym (told (judge img)) ∙ e))
+
   booking-passes : (refused : ℕ → Booked) → ((n : ℕ) → refused n .status ≡ n) → (side : Side) (v : ℤ) (s e : ℕ)
       → judged refused (λ half. book f half side v s e img scratch) img .status ≢ 17
   unfolding book book-status book-input-rows
   booking-passes refused told side v s e =
-      by-judge refused (λ half. book f half side v s e img scratch) img (λ (b : Booked). b .status ≢ 17)
-      (λ g. passes-17 _ _ _ has (behind-17 _ _ _ _ _ _)) (λ n z. judge-no-17 img (sym (told (judge img)) ∙ z))
-    where
-      behind-17 : (a b c d f g : Bool) → first ((11, a) ∷ (13, b) ∷ (21, c) ∷ (22, d) ∷ (23, f) ∷ (24, g) ∷ []) ≢ 17
-      behind-17 true b c d f g e = unfold first in omega (arith, e)
-      behind-17 false true c d f g e = unfold first in omega (arith, e)
-      behind-17 false false true d f g e = unfold first in omega (arith, e)
-      behind-17 false false false true f g e = unfold first in omega (arith, e)
-      behind-17 false false false false true g e = unfold first in omega (arith, e)
-      behind-17 false false false false false true e = unfold first in omega (arith, e)
-      behind-17 false false false false false false e = unfold first in omega (arith, e)
+      judged-passes (λ (b : Booked). b .status) refused (λ half. book f half side v s e img scratch) told
+      (passes-17 _ _ _ has
+      (all-more (λ z. omega arith) (all-more (λ z. omega arith) (all-more (λ z. omega arith) (all-more (λ z. omega arith)
+      (all-more (λ z. omega arith) (all-more (λ z. omega arith) all-none)))))))
 
   audit-passes : (refused : ℕ → Audited) → ((n : ℕ) → refused n .status ≡ n)
       → judged refused (λ half. audit f half img scratch) img .status ≢ 17
   unfolding audit audit-input-rows
   audit-passes refused told =
-      by-judge refused (λ half. audit f half img scratch) img (λ (a : Audited). a .status ≢ 17)
-      (λ g. passes-17 _ _ _ has (behind-17 _)) (λ n z. judge-no-17 img (sym (told (judge img)) ∙ z))
-    where
-      behind-17 : (a : Bool) → first ((21, a) ∷ []) ≢ 17
-      behind-17 true e = unfold first in omega (arith, e)
-      behind-17 false e = unfold first in omega (arith, e)
+      judged-passes (λ (a : Audited). a .status) refused (λ half. audit f half img scratch) told
+      (passes-17 _ _ _ has (all-more (λ z. omega arith) all-none))
 
 module _ (img scratch : List ℕ) (enough : Enough (pages-in (half-of img) img) scratch) where
-  pub booking-enough : (side : Side) (v : ℤ) (s e : ℕ) → index-book side v s e img scratch .status ≢ 17
+  booking-enough : (side : Side) (v : ℤ) (s e : ℕ) → index-book side v s e img scratch .status ≢ 17
   unfolding index-book
-  booking-enough = booking-passes borrowed img scratch (is-enough (half-of img) img scratch enough) _ (λ n. refl)
+  booking-enough = booking-passes borrowed img scratch (has-enough (half-of img) img scratch enough) _ (λ n. refl)
 
-  pub audit-enough : index-audit img scratch .status ≢ 17
+  audit-enough : index-audit img scratch .status ≢ 17
   unfolding index-audit
-  audit-enough = audit-passes borrowed img scratch (is-enough (half-of img) img scratch enough) _ (λ n. refl)
+  audit-enough = audit-passes borrowed img scratch (has-enough (half-of img) img scratch enough) _ (λ n. refl)
 
 -- a byte for each page was always enough, and so it is
 module _ (img scratch : List ℕ) (long : pages-in (half-of img) img ≤ length scratch) where
-  abbrev enough : Enough (pages-in (half-of img) img) scratch
+  enough : Enough (pages-in (half-of img) img) scratch
+  unfolding Enough
   enough = inl (omega (arith, long))
 
-  long-bytes : scratch-ok (λ n. n) (pages-in (half-of img) img) scratch ≡ true
+  has-bytes : scratch-ok (λ n. n) (pages-in (half-of img) img) scratch ≡ true
   unfolding scratch-ok
-  long-bytes = le-leb _ _ long
+  has-bytes = le-leb _ _ long
 
-  pub as-long-booking : (side : Side) (v : ℤ) (s e : ℕ)
+  same-scratch-booking : (side : Side) (v : ℤ) (s e : ℕ)
       → (index-book side v s e img scratch .status ≡ index-book-bytewise side v s e img scratch .status)
       × (index-book side v s e img scratch .image ≡ index-book-bytewise side v s e img scratch .image)
-  as-long-booking side v s e =
+  same-scratch-booking side v s e =
       same-booking img scratch scratch side v s e (booking-enough img scratch enough side v s e)
-      (unfold index-book-bytewise in booking-passes (λ n. n) img scratch (λ whole. long-bytes) _ (λ n. refl) side v s e)
+      (unfold index-book-bytewise in booking-passes (λ n. n) img scratch (λ whole. has-bytes) _ (λ n. refl) side v s e)
 
-  pub as-long-audit : index-audit img scratch .status ≡ index-audit-bytewise img scratch .status
-  as-long-audit =
+  same-scratch-audit : index-audit img scratch .status ≡ index-audit-bytewise img scratch .status
+  same-scratch-audit =
       same-audit img scratch scratch (audit-enough img scratch enough)
-      (unfold index-audit-bytewise in audit-passes (λ n. n) img scratch (λ whole. long-bytes) _ (λ n. refl))
+      (unfold index-audit-bytewise in audit-passes (λ n. n) img scratch (λ whole. has-bytes) _ (λ n. refl))
+
+-- ---- all of it
+
+pub bit-per-page : Bit-per-page
+bit-per-page =
+    record {
+      enough-booking = λ side v s e img scratch enough. booking-enough img scratch enough side v s e;
+      enough-audit = audit-enough;
+      of-booking-bytewise = booking-bytewise;
+      of-audit-bytewise = audit-bytewise;
+      same-booking = λ side v s e img scratch other. same-booking img scratch other side v s e;
+      same-audit = same-audit;
+      same-scratch-booking = λ side v s e img scratch long. same-scratch-booking img scratch long side v s e;
+      same-scratch-audit = same-scratch-audit;
+    }

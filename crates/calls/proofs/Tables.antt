@@ -270,7 +270,7 @@ index-pages-told t img =
 -- ---- all of them
 
 pub turned-back : Turned-back
-unfolding format-before index-book index-instant index-average index-listing index-audit index-book-bytewise index-audit-bytewise average-at
+unfolding format-before index-book index-instant index-average index-listing index-audit average-at
 turned-back =
     record {
       of-format = format-tested;
@@ -288,10 +288,21 @@ turned-back =
       of-audit = λ img scratch.
           judged-tested _ (λ half. audit borrowed half img scratch) (λ (r : Audited). r .status) img refl _
           (audit-tested (half-of img) fewer-bits img scratch);
-      of-booking-bytewise = λ side v s e img scratch.
-          judged-tested _ (λ half. book (λ pages. pages) half side v s e img scratch) (λ (b : Booked). b .status) img refl _
-          (book-tested (half-of img) fewer-bytes side v s e img scratch);
-      of-audit-bytewise = λ img scratch.
-          judged-tested _ (λ half. audit (λ pages. pages) half img scratch) (λ (r : Audited). r .status) img refl _
-          (audit-tested (half-of img) fewer-bytes img scratch);
     }
+
+-- ---- the calls of before (vi)
+
+pub booking-bytewise : (side : Side) (v : ℤ) (s e : ℕ) (img scratch : List ℕ)
+    → Exactly (judge-cases img (book-cases (half-of img) Fewer-bytes side v s e img scratch))
+    (index-book-bytewise side v s e img scratch .status)
+unfolding index-book-bytewise
+booking-bytewise side v s e img scratch =
+    judged-tested _ (λ half. book (λ pages. pages) half side v s e img scratch) (λ (b : Booked). b .status) img refl _
+    (book-tested (half-of img) fewer-bytes side v s e img scratch)
+
+pub audit-bytewise : (img scratch : List ℕ)
+    → Exactly (judge-cases img (audit-cases (half-of img) Fewer-bytes img scratch)) (index-audit-bytewise img scratch .status)
+unfolding index-audit-bytewise
+audit-bytewise img scratch =
+    judged-tested _ (λ half. audit (λ pages. pages) half img scratch) (λ (r : Audited). r .status) img refl _
+    (audit-tested (half-of img) fewer-bytes img scratch)

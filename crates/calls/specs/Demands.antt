@@ -4,7 +4,7 @@
 use Prim.Native.Nat.{ℕ, _≤_, _<_}
 use mathlib.Core.Path.{_≡_}
 use mathlib.Core.Logic.{_≢_, _⊎_}
-use mathlib.Core.Bool.{Bool, true, cond, not, _&&_, _||_}
+use mathlib.Core.Bool.{true, not, _&&_}
 use lib.Dec.{eqb}
 use mathlib.Core.List.{List, [], _∷_, _++_}
 use lib.ListN.{length}
@@ -17,23 +17,16 @@ use Rattle.fields.specs.Bytes.{Bytes}
 use Rattle.page.specs.Fit.{most-changes}
 use Rattle.image.specs.Images.{capacity-field, half-of, pages-in}
 use Rattle.image.specs.Sound.{sound}
-use Rattle.calls.specs.Refusals.{first, borrowed, scratch-ok, cleared}
+use Rattle.calls.specs.Refusals.{first, borrowed, scratch-ok}
 use Rattle.calls.specs.Changes.{Side, entering, withdrawing, withdraws, Change}
 use Rattle.calls.specs.Calls.{head}
-use Rattle.calls.specs.Index.{names-capacity, index-format, index-book, index-instant, index-average, index-listing, index-audit}
+use Rattle.calls.specs.Index.{index-format, index-book, index-instant, index-average, index-listing, index-audit}
 use Rattle.calls.specs.Tables.{Turned-back}
+use Rattle.calls.specs.Scratch.{Scratch-left}
 use Rattle.calls.specs.Book.{Book, entered, book-of, book-pair, listing-of}
 use Rattle.calls.specs.Trace.{Trace, Throughout, change-made, Steps}
 use Rattle.calls.specs.Aggregate.{aggregate, Matched, live-from}
 use Rattle.calls.specs.Accepted.{Every-change}
-
--- "scratch is untouched at 16 and 17, also at 11 and 13"
-unfoldable pub untouched-at : ℕ → Bool
-untouched-at number = eqb number 16 || (eqb number 17 || (eqb number 11 || eqb number 13))
-
--- and, document 02, (xi), at "a bad K 21 ahead of 16, scratch untouched"
-unfoldable pub keeps-scratch : List ℕ → ℕ → Bool
-keeps-scratch img number = not (names-capacity img) || untouched-at number
 
 -- Demand 1. "A caller may hand any public call any image, span, value or output buffer, unchecked; the call returns, and what
 -- document 01 turns back is refused by its number there, with image and output as before." That a call returns is part of every
@@ -52,14 +45,11 @@ pub record Demand-1 : Type 0 where
       (a b : ℕ) (img out : List ℕ)
       → index-listing a b img out .status ≢ 0
       → (index-listing a b img out .output ≡ out) × (index-listing a b img out .runs ≡ 0)
-  -- "else its n bytes are 0": by document 02, (vi), those borrowed
+  -- "scratch is untouched at 16 and 17, also at 11 and 13, else its n bytes are 0": by document 02, (vi), those borrowed
   pub of-scratch :
       (side : Side) (v : ℤ) (s e : ℕ) (img scratch : List ℕ)
-      → (index-book side v s e img scratch .scratch
-      ≡ cond (keeps-scratch img (index-book side v s e img scratch .status)) scratch
-      (cleared borrowed (pages-in (half-of img) img) scratch))
-      × (index-audit img scratch .scratch
-      ≡ cond (keeps-scratch img (index-audit img scratch .status)) scratch (cleared borrowed (pages-in (half-of img) img) scratch))
+      → Scratch-left img scratch (index-book side v s e img scratch .status) (index-book side v s e img scratch .scratch)
+      × Scratch-left img scratch (index-audit img scratch .status) (index-audit img scratch .scratch)
   -- "It reports the tree pages read: the height if answered, or if a page is unfit, the pages up to and including it (0 for the
   -- head and at other refusals)."
   pub of-pages :

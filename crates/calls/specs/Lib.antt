@@ -3,12 +3,12 @@ pub mod Refusals
 pub mod Calls
 pub mod Index
 pub mod Tables
+pub mod Scratch
 pub mod Book
 pub mod Trace
 pub mod Aggregate
 pub mod Accepted
 pub mod Demands
-pub mod Scratch
 pub mod Program
 pub mod BookCases
 pub mod AggregateCases

@@ -27,7 +27,7 @@ module _ (bytes-for : ℕ → ℕ) where
   unfoldable pub scratch-ok : ℕ → List ℕ → Bool
   scratch-ok pages scratch = leb (bytes-for pages) (length scratch)
 
-  -- "those bytes are 0 afterwards"; document 01: "any beyond keep theirs"
+  -- (vi): "those bytes are 0 afterwards"; document 01: "any beyond keep theirs"
   unfoldable pub cleared : ℕ → List ℕ → List ℕ
   cleared pages scratch = patch scratch 0 (replicate (bytes-for pages) 0)
 

@@ -21,7 +21,6 @@ use Rattle.steps.specs.Supply.{pages-taken}
 use Rattle.steps.specs.Change.{cuts}
 use Rattle.calls.specs.Changes.{Side, withdrawing}
 use Rattle.calls.specs.Index.{index-format, format-before, index-book, index-instant, index-average, index-listing, index-audit}
-use Rattle.calls.specs.Index.{index-book-bytewise, index-audit-bytewise}
 
 infix 1 _when_
 -- A row as it stands for a call: its status, and when it turns the call back.
@@ -168,11 +167,3 @@ pub record Turned-back : Type 0 where
   pub of-audit :
       (img scratch : List ℕ)
       → Exactly (judge-cases img (audit-cases (half-of img) Fewer-bits img scratch)) (index-audit img scratch .status)
-  -- the calls of before (vi), by document 01's row
-  pub of-booking-bytewise :
-      (side : Side) (v : ℤ) (s e : ℕ) (img scratch : List ℕ)
-      → Exactly (judge-cases img (book-cases (half-of img) Fewer-bytes side v s e img scratch))
-      (index-book-bytewise side v s e img scratch .status)
-  pub of-audit-bytewise :
-      (img scratch : List ℕ)
-      → Exactly (judge-cases img (audit-cases (half-of img) Fewer-bytes img scratch)) (index-audit-bytewise img scratch .status)

@@ -109,11 +109,11 @@ pub record Cases : Type 0 where
         output = 0 ∷ 0 ∷ 0 ∷ 0 ∷ 0 ∷ 0 ∷ 0 ∷ 0 ∷ 0 ∷ 0 ∷ 0 ∷ 0 ∷ 0 ∷ 0 ∷ 0 ∷ 0 ∷ 10 ∷ 0 ∷ 0 ∷ 0 ∷ 1 ∷ 0
             ∷ 0 ∷ 0 ∷ 6 ∷ 0 ∷ 0 ∷ 0 ∷ 0 ∷ 0 ∷ 0 ∷ 0 ∷ 9 ∷ [];
       }
-  -- Scratch is untouched at 13 and 17; at 22 and 0 a byte for up to eight pages is 0 and those beyond keep theirs.
+  -- Scratch is untouched at 13 and 17; at 22 and 0 the first byte, enough for eight pages, is 0, and those beyond keep theirs.
   pub scratch-13 : index-book entering (pos 1000001) 10 40 (formatted 2 1 0) (7 ∷ 7 ∷ 7 ∷ []) .scratch ≡ 7 ∷ 7 ∷ 7 ∷ []
   pub scratch-22 : index-book withdrawing (pos 1) 10 40 (formatted 2 2 0) (7 ∷ 7 ∷ 7 ∷ []) .scratch ≡ 0 ∷ 7 ∷ 7 ∷ []
   pub scratch-0 : index-book entering (pos 1) 10 40 (formatted 2 1 0) (7 ∷ 7 ∷ 7 ∷ []) .scratch ≡ 0 ∷ 7 ∷ 7 ∷ []
-  pub scratch-17 : index-book entering (pos 1) 10 10 (formatted 2 1 0) [] ≡ record { status = 17; image = formatted 2 1 0; scratch = [] }
+  pub scratch-17 : index-book entering (pos 1) 10 10 (small 9) (7 ∷ []) ≡ record { status = 17; image = small 9; scratch = 7 ∷ [] }
   -- "n/8 bytes, rounded up": a ninth page takes a second byte, and a caller who lends nine has the rest back as it was. Before, eight
   -- were too few for nine pages.
   pub borrows : map borrowed (2 ∷ 7 ∷ 8 ∷ 9 ∷ 16 ∷ 17 ∷ 1023 ∷ 1024 ∷ []) ≡ 1 ∷ 1 ∷ 1 ∷ 2 ∷ 2 ∷ 3 ∷ 128 ∷ 128 ∷ []

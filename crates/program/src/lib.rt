@@ -16,7 +16,7 @@ pub const PAGES: usize = 64;
 pub const IMAGE_BYTES: usize = PAGES * PAGE_BYTES;
 
 // Document 02, (vi): a bit for each page.
-pub const SCRATCH_BYTES: usize = PAGES / 8;
+pub const SCRATCH_BYTES: usize = (PAGES + 7) / 8;
 
 // Room for as many runs as 64 pages can have: 59 leaf pages.
 pub const MOST_RUNS: usize = 59 * CAPACITY;

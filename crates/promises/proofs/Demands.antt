@@ -4,7 +4,7 @@ use Rattle.promises.specs.Demands.{Demands-met}
 use Rattle.promises.proofs.Refusing.{refusing}
 use Rattle.promises.proofs.Tables.{by-status}
 use Rattle.promises.proofs.Changes.{every-change-promised}
-use Rattle.promises.proofs.Borrowing.{borrowing}
+use Rattle.promises.proofs.SameAnswers.{same-answers}
 use Rattle.promises.proofs.Header.{header-runs, header-scratch}
 
 pub demands-met : Demands-met
@@ -14,7 +14,7 @@ demands-met =
       refusing = refusing;
       by-status = by-status;
       every-change = every-change-promised;
-      borrowing = borrowing;
+      same-answers = same-answers;
       header-runs = header-runs;
       header-scratch = header-scratch;
     }

@@ -1,19 +1,20 @@
 -- The header's promises follow from what is proved of every listing and of every scratch. Assumes nothing.
 use Prim.Native.Nat.{ℕ, _*_, _-_, _≤_}
-use mathlib.Core.Path.{_≡_, sym, ap, _∙_}
-use mathlib.Core.Logic.{_≢_, _⊎_, inl, inr}
+use mathlib.Core.Path.{sym, ap, _∙_}
+use mathlib.Core.Logic.{_≢_}
 use mathlib.Core.List.{List}
 use native.Mathlib.Omega.{arith}
 use lib.ListN.{length}
 use Rattle.page.specs.Layout.{capacity}
 use Rattle.image.specs.Images.{half-of, pages-in}
 use Rattle.calls.specs.Calls.{Booked, Listed, Audited, listing}
-use Rattle.calls.specs.Index.{judge, index-listing}
-use Rattle.calls.proofs.Judged.{by-judge, judge-is}
-use Rattle.calls.proofs.Scratch.{booking-enough, audit-enough}
+use Rattle.calls.specs.Index.{index-listing}
+use Rattle.calls.specs.Scratch.{Bit-per-page}
+use Rattle.calls.proofs.Judged.{by-judge, judge-not}
+use Rattle.calls.proofs.Scratch.{bit-per-page}
 use Rattle.answers.proofs.Few.{few-runs}
 use Rattle.luwhenoka.specs.Answers.{listing-answer}
-use Rattle.promises.specs.Header.{Header-runs, Enough-scratch, Header-scratch}
+use Rattle.promises.specs.Header.{Header-runs, Header-scratch}
 
 -- as many as fit in the pages of an image
 abbrev most : List ℕ → ℕ
@@ -29,12 +30,8 @@ enough : (a b : ℕ) (img out : List ℕ) → 16 * most img ≤ length out → i
 unfolding index-listing
 enough a b img out room =
     by-judge _ (λ half. listing half a b img out) img (λ (r : Listed). r .status ≢ 15)
-    (λ g. few-runs (half-of img) .enough a b img out room) (λ n. go (judge-is img))
-  where
-    go : (judge img ≡ 0) ⊎ ((judge img ≡ 16) ⊎ (judge img ≡ 21)) → judge img ≢ 15
-    go (inl z) e = omega (arith, z, e)
-    go (inr (inl z)) e = omega (arith, z, e)
-    go (inr (inr z)) e = omega (arith, z, e)
+    (λ g. few-runs (half-of img) .enough a b img out room)
+    (λ n. judge-not img 15 (λ z. omega arith) (λ z. omega arith) (λ z. omega arith))
 
 pub header-runs : Header-runs
 unfolding listing-answer
@@ -44,11 +41,13 @@ header-runs =
       enough = λ a b img out r after p room e. enough a b img out room (sym (ap (λ (q : Listed). q .status) p) ∙ e);
     }
 
+abbrev bits : Bit-per-page
+bits = bit-per-page
+
 pub header-scratch : Header-scratch
-unfolding Enough-scratch
 header-scratch =
     record {
       booking = λ side v s e img scratch r after left p enough z.
-          booking-enough img scratch enough side v s e (sym (ap (λ (b : Booked). b .status) p) ∙ z);
-      audit = λ img scratch r left p enough z. audit-enough img scratch enough (sym (ap (λ (a : Audited). a .status) p) ∙ z);
+          bits .enough-booking side v s e img scratch enough (sym (ap (λ (b : Booked). b .status) p) ∙ z);
+      audit = λ img scratch r left p enough z. bits .enough-audit img scratch enough (sym (ap (λ (a : Audited). a .status) p) ∙ z);
     }

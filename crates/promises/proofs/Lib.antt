@@ -1,7 +1,7 @@
 pub mod Answers
 pub mod Refusing
 pub mod Tables
-pub mod Borrowing
+pub mod SameAnswers
 pub mod Changes
 pub mod Header
 pub mod AfterLists

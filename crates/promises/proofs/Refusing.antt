@@ -1,20 +1,18 @@
 -- A refused call leaves what it was lent: of what the functions for C promise. Assumes nothing.
 use Prim.Native.Nat.{ℕ}
-use mathlib.Core.Path.{_≡_, refl, sym, ap, _∙_}
+use mathlib.Core.Path.{_≡_, refl, sym, ap, _∙_, subst⁻¹}
 use mathlib.Core.Logic.{_≢_}
-use mathlib.Core.Bool.{cond}
 use mathlib.Core.List.{List}
 use native.Mathlib.Omega.{arith}
 use lib.IntN.{pos}
 use Rattle.rule.specs.declared.Pair.{Pair}
 use Rattle.rule.specs.declared.Average.{Average}
 use Rattle.rule.specs.declared.Average.the-variants.{Hundredths, Nothing, Beyond}
-use Rattle.image.specs.Images.{half-of, pages-in}
-use Rattle.calls.specs.Refusals.{borrowed, cleared}
 use Rattle.calls.specs.Changes.{entering}
 use Rattle.calls.specs.Calls.{Formatted, Booked, Listed, Audited}
 use Rattle.calls.specs.Index.{index-average}
-use Rattle.calls.specs.Demands.{keeps-scratch, Demand-1}
+use Rattle.calls.specs.Scratch.{Scratch-left}
+use Rattle.calls.specs.Demands.{Demand-1}
 use Rattle.answers.proofs.Demand.{demand-1}
 use Rattle.luwhenoka.specs.declared.AverageAnswer.{AverageAnswer}
 use Rattle.luwhenoka.specs.Answers.{average-answer, averaged-answer, listing-answer}
@@ -61,9 +59,7 @@ refusing =
           λ side v s e img scratch r after left p.
           let n = ap (λ (b : Booked). b .status) p in (
             λ d. ap (λ (b : Booked). b .image) p ∙ d1 .of-booking side v s e img scratch (λ z. d (n ∙ z)),
-            ap (λ (b : Booked). b .scratch) p
-                ∙ d1 .of-scratch side v s e img scratch .0
-                ∙ ap (λ k. cond (keeps-scratch img k) scratch (cleared borrowed (pages-in (half-of img) img) scratch)) (sym n),
+            subst⁻¹ (λ (b : Booked). Scratch-left img scratch (b .status) (b .scratch)) p (d1 .of-scratch side v s e img scratch .0),
           );
       of-instant =
           λ t img r p.
@@ -81,8 +77,6 @@ refusing =
           (ap (λ (l : Listed). l .output) p ∙ k .0, ap (λ (l : Listed). l .runs) p ∙ k .1);
       of-audit =
           λ img scratch r left p.
-          let n = ap (λ (a : Audited). a .status) p in
-          ap (λ (a : Audited). a .scratch) p
-          ∙ d1 .of-scratch entering (pos 0) 0 0 img scratch .1
-          ∙ ap (λ k. cond (keeps-scratch img k) scratch (cleared borrowed (pages-in (half-of img) img) scratch)) (sym n);
+          subst⁻¹ (λ (a : Audited). Scratch-left img scratch (a .status) (a .scratch)) p
+          (d1 .of-scratch entering (pos 0) 0 0 img scratch .1);
     }

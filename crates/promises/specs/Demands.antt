@@ -8,7 +8,7 @@ use Rattle.calls.specs.Demands.{The-demands}
 use Rattle.promises.specs.Refusing.{Refusing}
 use Rattle.promises.specs.Tables.{By-status}
 use Rattle.promises.specs.Changes.{Every-change-promised}
-use Rattle.promises.specs.Borrowing.{Borrowing}
+use Rattle.promises.specs.SameAnswers.{Same-answers}
 use Rattle.promises.specs.Header.{Header-runs, Header-scratch}
 
 pub record Demands-met : Type 0 where
@@ -16,6 +16,6 @@ pub record Demands-met : Type 0 where
   pub refusing : Refusing
   pub by-status : By-status
   pub every-change : Every-change-promised
-  pub borrowing : Borrowing
+  pub same-answers : Same-answers
   pub header-runs : Header-runs
   pub header-scratch : Header-scratch

@@ -1,12 +1,13 @@
 -- What the header for C says of the output of a listing and of the scratch, of what the functions promise. Assumes nothing.
-use Prim.Native.Nat.{ℕ, _+_, _*_, _-_, _/_, _≤_}
-use mathlib.Core.Logic.{_≢_, _⊎_}
+use Prim.Native.Nat.{ℕ, _*_, _-_, _≤_}
+use mathlib.Core.Logic.{_≢_}
 use mathlib.Core.List.{List}
 use lib.ListN.{length}
 use lib.IntN.{ℤ}
 use Rattle.page.specs.Layout.{capacity}
 use Rattle.image.specs.Images.{half-of, pages-in}
 use Rattle.calls.specs.Changes.{Side}
+use Rattle.calls.specs.Scratch.{Enough}
 use Rattle.luwhenoka.specs.declared.ListingAnswer.{ListingAnswer}
 use Rattle.luwhenoka.specs.Promises.{Books, Lists, Audits}
 
@@ -21,11 +22,10 @@ pub record Header-runs : Type 0 where
       → 16 * (capacity (half-of img) * (pages-in (half-of img) img - 1)) ≤ length out → r .status ≢ 15
 
 -- "at least LUW_SCRATCH_BYTES(n), that is n / 8 bytes, rounded up, of any content: 128 are always enough."
-unfoldable pub Enough-scratch : List ℕ → List ℕ → Type 0
-Enough-scratch img scratch = ((pages-in (half-of img) img + 7) / 8 ≤ length scratch) ⊎ (128 ≤ length scratch)
-
 pub record Header-scratch : Type 0 where
   pub booking :
       (side : Side) (v : ℤ) (s e : ℕ) (img scratch : List ℕ) (r : ℕ) (after left : List ℕ) → Books side v s e img scratch r after left
-      → Enough-scratch img scratch → r ≢ 17
-  pub audit : (img scratch : List ℕ) (r : ℕ) (left : List ℕ) → Audits img scratch r left → Enough-scratch img scratch → r ≢ 17
+      → Enough (pages-in (half-of img) img) scratch → r ≢ 17
+  pub audit :
+      (img scratch : List ℕ) (r : ℕ) (left : List ℕ) → Audits img scratch r left
+      → Enough (pages-in (half-of img) img) scratch → r ≢ 17

@@ -1,6 +1,6 @@
 pub mod Refusing
 pub mod Tables
-pub mod Borrowing
+pub mod SameAnswers
 pub mod Changes
 pub mod Header
 pub mod AfterLists

@@ -2,28 +2,26 @@
 use Prim.Native.Nat.{ℕ}
 use mathlib.Core.Path.{_≡_}
 use mathlib.Core.Logic.{_≢_}
-use mathlib.Core.Bool.{cond}
 use mathlib.Core.List.{List}
 use lib.IntN.{ℤ, pos}
-use Rattle.image.specs.Images.{half-of, pages-in}
-use Rattle.calls.specs.Refusals.{borrowed, cleared}
+use Rattle.image.specs.Images.{half-of}
 use Rattle.calls.specs.Changes.{Side}
 use Rattle.calls.specs.Calls.{head}
-use Rattle.calls.specs.Demands.{keeps-scratch}
+use Rattle.calls.specs.Scratch.{Scratch-left}
 use Rattle.luwhenoka.specs.declared.InstantAnswer.{InstantAnswer}
 use Rattle.luwhenoka.specs.declared.AverageAnswer.{AverageAnswer}
 use Rattle.luwhenoka.specs.declared.ListingAnswer.{ListingAnswer}
 use Rattle.luwhenoka.specs.Promises.{Formats, Books, Answers, Averages, Lists, Audits}
 
 -- "A refusal returns its number and zeros (instant: the pages read too). Image and output keep their bytes; scratch is untouched at 16
--- and 17, also at 11 and 13, else its n bytes are 0." Document 02, (xi): at a bad capacity too; (vi): of those bytes as many as are
--- borrowed. That every call returns is part of its function's proof.
+-- and 17, also at 11 and 13, else its n bytes are 0." Document 02, (xi): at a bad capacity too; (vi): its n bytes are those borrowed. That
+-- every call returns is part of its function's proof.
 pub record Refusing : Type 0 where
   pub of-format :
       (kind window k : ℕ) (img : List ℕ) (r : ℕ) (after : List ℕ) → Formats kind window k img r after → r ≢ 0 → after ≡ img
   pub of-booking :
       (side : Side) (v : ℤ) (s e : ℕ) (img scratch : List ℕ) (r : ℕ) (after left : List ℕ) → Books side v s e img scratch r after left
-      → (r ≢ 0 → after ≡ img) × (left ≡ cond (keeps-scratch img r) scratch (cleared borrowed (pages-in (half-of img) img) scratch))
+      → (r ≢ 0 → after ≡ img) × Scratch-left img scratch r left
   pub of-instant :
       (t : ℕ) (img : List ℕ) (r : InstantAnswer) → Answers t img r
       → (r .status ≢ 0 → (r .sum ≡ pos 0) × (r .count ≡ pos 0))
@@ -35,6 +33,4 @@ pub record Refusing : Type 0 where
   pub of-listing :
       (a b : ℕ) (img out : List ℕ) (r : ListingAnswer) (after : List ℕ) → Lists a b img out r after → r .status ≢ 0
       → (after ≡ out) × (r .runs ≡ 0)
-  pub of-audit :
-      (img scratch : List ℕ) (r : ℕ) (left : List ℕ) → Audits img scratch r left
-      → left ≡ cond (keeps-scratch img r) scratch (cleared borrowed (pages-in (half-of img) img) scratch)
+  pub of-audit : (img scratch : List ℕ) (r : ℕ) (left : List ℕ) → Audits img scratch r left → Scratch-left img scratch r left

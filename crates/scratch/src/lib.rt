@@ -1,5 +1,5 @@
-// The scratch that audits and changes borrow of their caller, a bit for each page: how many bytes that makes, and that they are 0
-// afterwards. Nothing reads it.
+// The scratch that audits and changes borrow from their caller, by document 02, (vi), a bit for each page: how many bytes that makes, and
+// that they are 0 afterwards. Nothing reads it.
 use access::lengths::page_count;
 use fields::fill::fill;
 ghost use mathlib.Core.Path.{_≡_};
@@ -8,7 +8,7 @@ ghost use Prim.Native.Nat.{_≤_};
 ghost use Rattle.image.specs.Images.{pages-in};
 ghost use Rattle.calls.specs.Refusals.{borrowed, scratch-ok, cleared};
 
-// "n/8 bytes, rounded up"
+// (vi): "n/8 bytes, rounded up"
 fn borrowed(half: usize, img: &[u8]) -> usize
     requires { ⌜ half ≤ 12 ⌝ }
     ensures { λ r. ⌜ r ≡ borrowed (pages-in half (now (img .entry))) ⌝ }
@@ -24,7 +24,7 @@ pub fn scratch_ok(half: usize, img: &[u8], scratch: &[u8]) -> bool
     borrowed(half, img) <= scratch.len()
 }
 
-// "those bytes are 0 afterwards"; bytes beyond keep theirs.
+// (vi): "those bytes are 0 afterwards"; bytes beyond keep theirs.
 pub fn clear_scratch(half: usize, img: &[u8], scratch: &mut [u8])
     requires { ⌜ half ≤ 12 ⌝ }
     requires { ⌜ scratch-ok borrowed (pages-in half (now img)) (now scratch) ≡ true ⌝ }

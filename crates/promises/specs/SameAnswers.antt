@@ -1,4 +1,5 @@
--- Document 02, (vi), "Scratch of one bit per page", of what the functions for C promise. Assumes nothing.
+-- Document 02, (vi), "and give the same answers for every image", of what the functions for C promise; "those bytes are 0 afterwards" is
+-- part of `Refusing`, row 17 of `By-status`. Assumes nothing.
 use Prim.Native.Nat.{ℕ, _≤_}
 use mathlib.Core.Path.{_≡_}
 use mathlib.Core.Logic.{_≢_}
@@ -8,16 +9,10 @@ use lib.IntN.{ℤ}
 use Rattle.image.specs.Images.{half-of, pages-in}
 use Rattle.calls.specs.Changes.{Side}
 use Rattle.calls.specs.Index.{index-book-bytewise, index-audit-bytewise}
-use Rattle.calls.specs.Scratch.{Scratch-left}
 use Rattle.luwhenoka.specs.Promises.{Books, Audits}
 
-pub record Borrowing : Type 0 where
-  -- "those bytes are 0 afterwards"
-  pub of-booking :
-      (side : Side) (v : ℤ) (s e : ℕ) (img scratch : List ℕ) (r : ℕ) (after left : List ℕ) → Books side v s e img scratch r after left
-      → Scratch-left img scratch r left
-  pub of-audit : (img scratch : List ℕ) (r : ℕ) (left : List ℕ) → Audits img scratch r left → Scratch-left img scratch r left
-  -- "and give the same answers for every image": those of the call of before, whatever it was lent, if neither was turned back for it
+pub record Same-answers : Type 0 where
+  -- those of the call of before, whatever it was lent, if neither was turned back for its scratch
   pub same-booking :
       (side : Side) (v : ℤ) (s e : ℕ) (img scratch : List ℕ) (r : ℕ) (after left : List ℕ) → Books side v s e img scratch r after left
       → (other : List ℕ) → r ≢ 17 → index-book-bytewise side v s e img other .status ≢ 17
@@ -25,12 +20,12 @@ pub record Borrowing : Type 0 where
   pub same-audit :
       (img scratch : List ℕ) (r : ℕ) (left : List ℕ) → Audits img scratch r left
       → (other : List ℕ) → r ≢ 17 → index-audit-bytewise img other .status ≢ 17 → r ≡ index-audit-bytewise img other .status
-  -- and with the same scratch, where it is long enough for both
-  pub as-long-booking :
+  -- so too with one scratch that is long enough for both
+  pub same-scratch-booking :
       (side : Side) (v : ℤ) (s e : ℕ) (img scratch : List ℕ) (r : ℕ) (after left : List ℕ) → Books side v s e img scratch r after left
       → pages-in (half-of img) img ≤ length scratch
       → (r ≡ index-book-bytewise side v s e img scratch .status) × (after ≡ index-book-bytewise side v s e img scratch .image)
-  pub as-long-audit :
+  pub same-scratch-audit :
       (img scratch : List ℕ) (r : ℕ) (left : List ℕ) → Audits img scratch r left
       → pages-in (half-of img) img ≤ length scratch
       → r ≡ index-audit-bytewise img scratch .status
