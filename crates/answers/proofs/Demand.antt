@@ -1,12 +1,12 @@
 -- Demand 1 over the definitions: what a refused call leaves, the pages that an instant reports, and that no average is beyond. Assumes
 -- nothing.
 use Prim.Native.Nat.{ℕ, _-_, _≤_}
-use mathlib.Core.Path.{_≡_, refl, sym, ap, _∙_}
+use mathlib.Core.Path.{_≡_, refl, ap, _∙_}
 use mathlib.Core.Logic.{_≢_}
 use mathlib.Core.Bool.{Bool, true, false, cond, not, _&&_, _||_}
 use mathlib.Core.List.{List, [], _∷_}
 use native.Mathlib.Omega.{arith}
-use lib.IntN.{ℤ, natAbs, pos}
+use lib.IntN.{natAbs, pos}
 use lib.Signed.{leZ}
 use lib.Dec.{eqb, leb, ltb}
 use borrow.Author.Tests.{eqb-true, le-ltb, leb-true, ltb-true}

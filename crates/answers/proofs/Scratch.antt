@@ -30,6 +30,7 @@ keeps-scratch : List ℕ → ℕ → Bool
 keeps-scratch img number = not (names-capacity img) || untouched-at number
 
 -- ---- by its status and the capacity
+
 module _ (half : ℕ) where
   booking-goes : (side : Side) (v : ℤ) (s e : ℕ) (img scratch : List ℕ)
       → book borrowed half side v s e img scratch .scratch

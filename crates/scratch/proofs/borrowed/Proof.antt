@@ -1,6 +1,6 @@
 -- `scratch::borrowed` meets its contract: so few pages have room in a length that seven more don't overflow. Assumes nothing.
 use Prim.Native.Nat.{_*_, _+_, _/_, _≤_}
-use mathlib.Core.Path.{_≡_, ap}
+use mathlib.Core.Path.{ap}
 use native.Mathlib.Nat.{mul-div-le, mul-le-mul-right}
 use native.Mathlib.Omega.{arith}
 use lib.ListN.{length}

@@ -1,11 +1,9 @@
 -- `booking::book::book` meets its contract: a law for each way out. Assumes nothing.
-use mathlib.Core.Path.{_≡_, sym, ap, _∙_}
+use mathlib.Core.Path.{_≡_, sym, _∙_}
 use Prim.Native.Nat.{ℕ}
-use native.Mathlib.Omega.{arith}
 use borrow.Author.Needs.{needs}
 use mir.Facts.{toZ-ofZ}
-use Rattle.image.specs.Images.{pages-in}
-use Rattle.calls.specs.Refusals.{first, borrowed, cleared}
+use Rattle.calls.specs.Refusals.{first, borrowed}
 use Rattle.calls.specs.Changes.{Side}
 use Rattle.calls.specs.Calls.{book-input-rows}
 use Rattle.booking.proofs.Laws.Books.{book-early-out, early-whole, early-room, early-span, book-late-out, book-done, accepts}
