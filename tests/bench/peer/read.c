@@ -11,9 +11,11 @@ static struct peer_instant_answer no_instant(uint32_t status, uint32_t pages) {
 
 /*
  * Each page on the path is checked whole before its entry is used. The entry is looked for ahead of the check, which any
- * bytes allow: so the processor knows the next page, and can begin with it, while it still checks this one.
+ * bytes allow: so the processor knows the next page, and can begin with it, while it still checks this one. Where `known`
+ * has the entry's index in each page from the root on, none is looked for.
  */
-struct peer_instant_answer peer_instant(const uint8_t *image, size_t image_length, uint32_t t) {
+static inline struct peer_instant_answer answer_at(const uint8_t *image, size_t image_length, uint32_t t,
+                                                   const uint8_t *known) {
     uint32_t n;
     uint32_t status = judge(image, image_length, &n);
     if (status != ACCEPTED) {
@@ -28,7 +30,7 @@ struct peer_instant_answer peer_instant(const uint8_t *image, size_t image_lengt
     }
     const uint8_t *page = image + PAGE_BYTES * head.root;
     struct place at = root_place(&head);
-    uint32_t i = entry_at(page, t);
+    uint32_t i = known ? known[0] : entry_at(page, t);
     if (!root_fits(page, &at)) {
         return no_instant(UNSOUND, 1);
     }
@@ -36,7 +38,7 @@ struct peer_instant_answer peer_instant(const uint8_t *image, size_t image_lengt
     for (uint32_t pages = 2; pages <= head.height; pages++) {
         at = child_place(&at, page, i);
         page = image + PAGE_BYTES * child_of(page, i);
-        i = entry_at(page, t);
+        i = known ? known[pages - 1] : entry_at(page, t);
         if (!page_fits(page, &at)) {
             return no_instant(UNSOUND, pages);
         }
@@ -44,6 +46,14 @@ struct peer_instant_answer peer_instant(const uint8_t *image, size_t image_lengt
     }
     struct peer_instant_answer answer = {ACCEPTED, head.height, pair.sum, pair.count};
     return answer;
+}
+
+struct peer_instant_answer peer_instant(const uint8_t *image, size_t image_length, uint32_t t) {
+    return answer_at(image, image_length, t, NULL);
+}
+
+struct peer_instant_answer peer_instant_known(const uint8_t *image, size_t image_length, uint32_t t, const uint8_t *known) {
+    return answer_at(image, image_length, t, known);
 }
 
 /* ------------------------------------------------------------ average */

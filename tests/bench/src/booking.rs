@@ -15,7 +15,7 @@ pub fn changes() {
     for (n, number) in [(64, 100), (64, 400), (1_024, 100), (1_024, 1_000), (1_024, 5_000)] {
         let (image, booked) = booked(n, &bookings(number, 1_000_000, 4));
         for (length, longest) in [("short", 1_000), ("long", 900_000_000)] {
-            let spans = bookings(20, longest, 5);
+            let spans = bookings(200, longest, 5);
             let case = format!("{length} spans, {booked} bookings, {n} pages, height {}", height(&image));
             changes_of(&case, &image, &spans);
         }

@@ -3,13 +3,16 @@
 //!
 //!     cargo run --release --offline --manifest-path tests/bench/Cargo.toml --target-dir target/cargo
 //!
-//! A name behind it, instant, audit, listing or change, measures these rows alone.
+//! A name behind it, instant, audit, listing or change, measures these rows alone; search, tables of its own, for which
+//! LUWHENOKA_BEFORE names the folder of another commit's archive.
 
 mod agree;
 mod booking;
+mod even;
 mod measure;
 mod peer;
 mod reading;
+mod search;
 mod subjects;
 
 /// The parts of the table, by the names that choose them.
@@ -22,8 +25,13 @@ const PARTS: [(&str, fn()); 4] = [
 
 fn main() {
     let asked: Vec<String> = std::env::args().skip(1).collect();
+    if asked == ["search"] {
+        print_setup();
+        search::searches();
+        return;
+    }
     if let Some(unknown) = asked.iter().find(|name| PARTS.iter().all(|(part, _)| part != name)) {
-        eprintln!("{unknown}: not one of instant, audit, listing, change");
+        eprintln!("{unknown}: not one of instant, audit, listing, change; search stands alone");
         std::process::exit(2);
     }
     print_setup();

@@ -3,11 +3,13 @@
 use std::hint::black_box;
 use std::time::Instant;
 
-/// The work that a column of the table holds the library against.
+/// What a work is, by the column of a table that it fills.
 #[derive(Clone, Copy, PartialEq, Eq)]
 pub enum Column {
     Library,
+    Before,
     PlainC,
+    Known,
     Copying,
     Map,
 }
@@ -27,16 +29,27 @@ impl<'a> Work<'a> {
 
 /// What a work took: the least of the rounds, for each unit, and the median over the rounds of the first work's time by its
 /// own.
-struct Took {
+pub struct Took {
     column: Column,
     nanoseconds: f64,
-    ratio: f64,
+    pub ratio: f64,
+}
+
+impl Took {
+    /// One digit after the point where there are less than three before it.
+    pub fn time(&self) -> String {
+        if self.nanoseconds < 100.0 {
+            format!("{:.1}", self.nanoseconds)
+        } else {
+            format!("{:.0}", self.nanoseconds)
+        }
+    }
 }
 
 pub const ROUNDS: usize = 41;
 
 /// A round does each work in turn, as often as fills about a fifth of a millisecond. The first round warms and isn't counted.
-fn side_by_side(mut works: Vec<Work>) -> Vec<Took> {
+pub fn side_by_side(mut works: Vec<Work>) -> Vec<Took> {
     let repeats: Vec<usize> = works.iter_mut().map(repeats_for).collect();
     let mut times = vec![Vec::with_capacity(ROUNDS); works.len()];
     for round in 0..=ROUNDS {
@@ -84,18 +97,9 @@ pub fn print_head() {
 pub fn row(case: &str, works: Vec<Work>) {
     let took = side_by_side(works);
     let cell = |column: Column| match took.iter().find(|took| took.column == column) {
-        Some(took) => format!("{:.2} ({})", took.ratio, time(took.nanoseconds)),
+        Some(took) => format!("{:.2} ({})", took.ratio, took.time()),
         None => "–".to_string(),
     };
     let cells = [Column::PlainC, Column::Copying, Column::Map].map(cell);
-    println!("| {case} | {} | {} |", time(took[0].nanoseconds), cells.join(" | "));
-}
-
-/// One digit after the point where there are less than three before it.
-fn time(nanoseconds: f64) -> String {
-    if nanoseconds < 100.0 {
-        format!("{nanoseconds:.1}")
-    } else {
-        format!("{nanoseconds:.0}")
-    }
+    println!("| {case} | {} | {} |", took[0].time(), cells.join(" | "));
 }

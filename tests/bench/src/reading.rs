@@ -7,7 +7,7 @@ use plain::END;
 
 use crate::measure::{row, Column, Work};
 use crate::peer;
-use crate::subjects::{booked, bookings, fresh, height, instants, listed, way, RunMap};
+use crate::subjects::{booked, bookings, fresh, height, instants, listed, way, RunMap, INSTANTS};
 
 /// Instants at random against copying the pages on their way and against a map of runs; the average at height 3.
 pub fn instants_by_height() {
@@ -37,7 +37,7 @@ fn tall_with_fewest() -> (Vec<u8>, u32) {
 }
 
 fn instants_of(case: &str, image: &[u8]) {
-    let asked = instants(500, 2);
+    let asked = instants(INSTANTS, 2);
     let map = RunMap::of(image);
     let works = vec![
         Work::new(Column::Library, asked.len(), || asked.iter().map(|t| raw::instant(image, *t).sum as u64).sum()),
@@ -49,7 +49,7 @@ fn instants_of(case: &str, image: &[u8]) {
 }
 
 fn averages_of(case: &str, image: &[u8]) {
-    let asked = instants(500, 2);
+    let asked = instants(INSTANTS, 2);
     let map = RunMap::of(image);
     let average_in_map = |t: &u32| map.average_at(*t).unwrap_or(0) as u64;
     let works = vec![

@@ -39,6 +39,9 @@ pub fn bookings(number: usize, longest: u32, seed: u64) -> Vec<Booking> {
     (0..number).map(|_| booking()).collect()
 }
 
+/// So many instants that the processor doesn't learn them by heart.
+pub const INSTANTS: usize = 5_000;
+
 pub fn instants(number: usize, seed: u64) -> Vec<u32> {
     let mut random = Random::new(seed);
     (0..number).map(|_| random.below(RANGE)).collect()

@@ -29,7 +29,7 @@ pub struct Wanted {
 
 impl Wanted {
     /// An image of FF with a head: the root at page 1, pages up to `high_mark` used, the last `chained` of them free.
-    fn with_head(&self, high_mark: u32, chained: u32) -> Vec<u8> {
+    pub fn with_head(&self, high_mark: u32, chained: u32) -> Vec<u8> {
         let Wanted { capacity, n, height, kind, window, changes } = *self;
         let mut image = vec![UNUSED; n as usize * capacity.page_bytes()];
         let first_free = if chained > 0 { high_mark - chained } else { 0 };
