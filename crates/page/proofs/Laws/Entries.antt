@@ -1,7 +1,7 @@
 -- An entry and its bytes: it is read where they stand, and they are the bytes of what is read. Assumes nothing.
 use mathlib.Core.Path.{_≡_, refl, sym, ap, _∙_}
 use mathlib.Core.List.{List, [], _++_, append-assoc, append-nil}
-use Prim.Native.Nat.{ℕ, _+_, _≤_}
+use Prim.Native.Nat.{ℕ, _+_, _≤_, _<_, _^_}
 use native.Mathlib.Nat.{add-zero}
 use native.Mathlib.Omega.{arith}
 use lib.ListN.{length, length-append}
@@ -13,7 +13,7 @@ use Rattle.fields.proofs.Laws.Digits.{bytes-append}
 use Rattle.fields.proofs.Laws.Offsets.{u32, i32, i64}
 use Rattle.page.specs.declared.Entry.{Entry}
 use Rattle.page.specs.Entries.{no-entry}
-use Rattle.page.specs.Layout.{start-offset, entry-offset, start-at, pair-at, child-at, entry-at, entry-bytes}
+use Rattle.page.specs.Layout.{start-offset, entry-offset, entry-count, start-at, pair-at, child-at, entry-at, entry-bytes}
 use Rattle.page.specs.Widths.{Entry-fits}
 use Rattle.page.proofs.Laws.Pieces.{part-pieces, part-inside}
 
@@ -39,6 +39,11 @@ bytes-entry-bytes e =
 
 pub no-entry-fits : Entry-fits no-entry
 no-entry-fits = record { start = lit< tt; sum = record { sfits = lit< tt }; count = record { sfits = lit< tt }; child = lit< tt }
+
+-- a page tells its number of entries by 32 bits
+pub entry-count-fits : (s : List ℕ) → Bytes s → entry-count s < 2 ^ 32
+unfolding entry-count
+entry-count-fits s b = u32 .at-fits s 4 b
 
 module _ (half : ℕ) (s : List ℕ) (i : ℕ) where
   -- where an entry's bytes stand, it is read
