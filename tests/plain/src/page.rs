@@ -181,7 +181,7 @@ impl Page {
         Span { start: self.entries[i].start, end }
     }
 
-    /// "the last entry starting at t or before"
+    /// "the last entry starting at t or before"; document 02, (ii): "shall begin at the last start and go back"
     pub fn entry_at(&self, t: u32) -> usize {
         self.entries.iter().rposition(|entry| entry.start <= t).expect("a page's first entry starts at t or before")
     }

@@ -243,7 +243,7 @@ fn images_without_the_field() {
 // ---------------------------------------------------------------- heights
 
 /// The fewest entries in most pages, a random number in some; small pairs.
-struct Drawn {
+pub struct Drawn {
     random: Xorshift,
     kind: u32,
     /// One page in so many has a random number of entries.
@@ -265,11 +265,11 @@ impl Choice for Drawn {
     }
 }
 
-fn drawn(kind: u32, one_in: u64, seed: u64) -> Drawn {
+pub fn drawn(kind: u32, one_in: u64, seed: u64) -> Drawn {
     Drawn { random: Xorshift::new(seed), kind, one_in }
 }
 
-fn wanted(k: usize, n: u32, height: u32, kind: u32) -> Wanted {
+pub fn wanted(k: usize, n: u32, height: u32, kind: u32) -> Wanted {
     let capacity = Capacity::new(k as u32).unwrap();
     Wanted { capacity, n, height, kind, window: 0, changes: 1_000 }
 }

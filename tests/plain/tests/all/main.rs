@@ -17,3 +17,4 @@ mod paper;
 mod program;
 mod refusals;
 mod scratch;
+mod search;
