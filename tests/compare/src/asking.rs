@@ -81,9 +81,14 @@ impl Comparer {
             };
             let e = s.saturating_add(1 + self.random.below(200) as u32);
             let v = self.random.between(-1_000_000, 1_000_000);
-            if self.book(withdrawal, v, s, e) == 0 {
-                self.lend(&before);
-            }
+            self.book_and_back(&before, (withdrawal, v, s, e));
+        }
+    }
+
+    /// A change of the image at hand, which is this one, and back to it.
+    pub fn book_and_back(&mut self, image: &[u8], (withdrawal, v, s, e): (bool, i64, u32, u32)) {
+        if self.book(withdrawal, v, s, e) == 0 {
+            self.lend(image);
         }
     }
 }

@@ -104,6 +104,39 @@ pub fn inner_pages(image: &[u8]) -> Vec<usize> {
     (1..=9).flat_map(|level| pages_of_level(image, level)).collect()
 }
 
+/// An entry on a way: its page, its index there, and the page's entry count.
+pub struct Place {
+    pub page: usize,
+    pub i: usize,
+    pub entries: usize,
+}
+
+/// From the root to the leaf that has t; the pages on it are fit.
+pub fn way(image: &[u8], t: u32) -> Vec<Place> {
+    let mut page = head(image, ROOT) as usize;
+    let mut way = Vec::new();
+    for _ in 0..head(image, HEIGHT) {
+        let entries = u32_at(image, page, ENTRY_COUNT_AT) as usize;
+        let i =
+            (0..entries).rfind(|i| u32_at(image, page, start_at(*i)) <= t).expect("the first starts at t or before");
+        way.push(Place { page, i, entries });
+        page = u32_at(image, page, child_at(capacity(image), i)) as usize;
+    }
+    way
+}
+
+/// The starts of a page's entries.
+pub fn starts_of(image: &[u8], page: usize) -> Vec<u32> {
+    (0..u32_at(image, page, ENTRY_COUNT_AT) as usize).map(|i| u32_at(image, page, start_at(i))).collect()
+}
+
+/// The pair of an entry.
+pub fn pair_at(image: &[u8], page: usize, i: usize) -> Pair {
+    let at = sum_at(capacity(image), i);
+    let halves = [u32_at(image, page, at), u32_at(image, page, at + 4)].map(u64::from);
+    Pair { sum: (halves[0] | halves[1] << 32) as i64, count: u32_at(image, page, at + 8) as i32 }
+}
+
 /// A start of the page, often its first, and so an instant whose way is likely to meet it; any if it is no tree page.
 pub fn instant_of(image: &[u8], page: usize, random: &mut Random) -> u32 {
     if page == 0 || page >= pages_of(image) || level(image, page) > 9 {

@@ -12,6 +12,7 @@ mod comparer;
 mod groups;
 mod guarded;
 mod images;
+mod places;
 mod random;
 mod scratches;
 mod steps;

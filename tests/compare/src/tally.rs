@@ -2,6 +2,7 @@
 
 use crate::calls::{Answer, Call, NAMES};
 use crate::capacities::Capacities;
+use crate::places::Places;
 use crate::scratches::Scratches;
 use crate::steps::Steps;
 
@@ -23,6 +24,7 @@ pub struct Tally {
     /// Averages by their case: none, hundredths, beyond.
     averages: [u64; 3],
     pub capacities: Capacities,
+    places: Places,
     pub scratches: Scratches,
     /// Of the changes that were accepted.
     pub steps: Steps,
@@ -36,6 +38,7 @@ impl Default for Tally {
             refused_pages: [0; MOST_PAGES_READ + 1],
             averages: [0; 3],
             capacities: Capacities::default(),
+            places: Places::default(),
             scratches: Scratches::default(),
             steps: Steps::default(),
         }
@@ -48,7 +51,10 @@ impl Tally {
         self.capacities.add_call(call, answer, image);
         self.statuses[call.place()][answer.status as usize] += 1;
         match call {
-            Call::Instant { .. } if answer.status == 0 => self.answered_pages[answer.pages as usize] += 1,
+            Call::Instant { t } if answer.status == 0 => {
+                self.answered_pages[answer.pages as usize] += 1;
+                self.places.add(image, t);
+            }
             Call::Instant { .. } if answer.status == 21 => self.refused_pages[answer.pages as usize] += 1,
             Call::AverageOf { .. } => self.averages[answer.average as usize] += 1,
             _ => {}
@@ -63,6 +69,7 @@ impl Tally {
         add(&mut self.refused_pages, &other.refused_pages);
         add(&mut self.averages, &other.averages);
         self.capacities.add_all(&other.capacities);
+        self.places.add_all(&other.places);
         self.scratches.add_all(&other.scratches);
         self.steps.add_all(&other.steps);
     }
@@ -87,6 +94,7 @@ impl Tally {
             "averages of pairs: none {}, hundredths {}, beyond {}",
             self.averages[0], self.averages[1], self.averages[2]
         );
+        self.places.print();
         self.scratches.print();
         self.steps.print();
         self.capacities.print();
@@ -113,6 +121,7 @@ impl Tally {
         lacking.extend(self.steps.lacking());
         lacking.extend(self.capacities.lacking());
         lacking.extend(self.scratches.lacking());
+        lacking.extend(self.places.lacking());
         if self.calls() < FEWEST_CALLS || self.steps.changes() < FEWEST_CHANGES {
             lacking.push(format!("{FEWEST_CALLS} calls and {FEWEST_CHANGES} accepted changes"));
         }

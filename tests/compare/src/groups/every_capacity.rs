@@ -10,7 +10,7 @@ use crate::groups::{grow_shrink, random_bookings};
 use crate::images::{fresh_of, head, Pool, CAPACITIES, CAPACITY};
 
 /// Each K, and 0 for the image without the field.
-const EACH: [usize; 12] = [4, 6, 8, 10, 12, 14, 16, 18, 20, 22, 24, 0];
+pub const EACH: [usize; 12] = [4, 6, 8, 10, 12, 14, 16, 18, 20, 22, 24, 0];
 const SORTS: usize = 6;
 pub const PARTS: usize = EACH.len() * SORTS;
 

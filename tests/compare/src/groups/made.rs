@@ -2,14 +2,14 @@
 //! K. Document 02, (xi): "A sound image may have height 10 at K = 4, and the head's range becomes 1 to 10 at every K."
 
 use plain::making::one_way;
-use plain::END;
+use plain::{Pair, END};
 
 use crate::calls::{Answer, Call};
 use crate::comparer::Comparer;
 use crate::groups::cycles::swap_pages;
 use crate::images::{
-    capacity, count_at, head, made, page_bytes, pages_of, pages_of_level, scratch_bytes, start_at, sum_at, u32_at,
-    wanted, Drawn, Pool, CAPACITIES, ENTRY_COUNT_AT, HEIGHT, KIND,
+    capacity, head, made, page_bytes, pages_of, pages_of_level, pair_at, scratch_bytes, start_at, u32_at, wanted,
+    Drawn, Pool, CAPACITIES, ENTRY_COUNT_AT, HEIGHT, KIND,
 };
 use crate::random::Random;
 
@@ -72,7 +72,7 @@ fn swap_used(image: &mut [u8], one: u32, other: u32) {
     }
 }
 
-fn leaf_entries(image: &[u8]) -> usize {
+pub fn leaf_entries(image: &[u8]) -> usize {
     pages_of_level(image, 0).iter().map(|page| u32_at(image, *page, ENTRY_COUNT_AT) as usize).sum()
 }
 
@@ -113,7 +113,7 @@ fn drawn(comparer: &mut Comparer, kind: u32, span: usize, heals: bool) -> (bool,
 }
 
 fn healing(image: &[u8], random: &mut Random) -> Option<(bool, i64, u32, u32)> {
-    let (k, kind) = (capacity(image), head(image, KIND));
+    let kind = head(image, KIND);
     let leaves = pages_of_level(image, 0);
     for _ in 0..40 {
         let page = random.pick(&leaves);
@@ -122,19 +122,23 @@ fn healing(image: &[u8], random: &mut Random) -> Option<(bool, i64, u32, u32)> {
         if i >= entries {
             continue;
         }
-        // Sums are small here, so that their low half tells them.
-        let pair = |i: usize| (u32_at(image, page, sum_at(k, i)) as i32, u32_at(image, page, count_at(k, i)) as i32);
-        let ((before, marked), (sum, count)) = (pair(i - 1), pair(i));
         let s = u32_at(image, page, start_at(i));
         let e = if i + 1 < entries { u32_at(image, page, start_at(i + 1)) } else { s + 5 };
-        if kind == 1 && (marked - count).abs() == 1 {
-            return Some((marked < count, i64::from((before - sum) * (marked - count)), s, e));
-        }
-        if kind != 1 && marked == 1 && count == 0 {
-            return Some((false, i64::from(before), s, e));
+        if let Some((withdrawal, v)) = equalling(kind, pair_at(image, page, i), pair_at(image, page, i - 1)) {
+            return Some((withdrawal, v, s, e));
         }
     }
     None
+}
+
+/// Whether to withdraw, and what, so that `from` becomes `to`; none where no single change does it.
+pub fn equalling(kind: u32, from: Pair, to: Pair) -> Option<(bool, i64)> {
+    let more = i64::from(to.count) - i64::from(from.count);
+    match kind {
+        1 => (more.abs() == 1).then(|| (more < 0, more * (to.sum - from.sum))),
+        _ if from.count == 1 && to.count == 1 => ((kind == 2) == (to.sum > from.sum)).then_some((false, to.sum)),
+        _ => (more == 1).then_some((false, to.sum)),
+    }
 }
 
 // ---------------------------------------------------------------- one way

@@ -16,6 +16,7 @@ mod random_bookings;
 mod random_bytes;
 mod refusals;
 mod scratch;
+mod search;
 
 use crate::comparer::Comparer;
 use crate::images::{Pool, IMAGES, OTHER, OTHER_BY_BYTES, SMALL};
@@ -101,6 +102,13 @@ pub const GROUPS: &[Group] = &[
         parts: scratch::PARTS,
         random: true,
         run: scratch::scratch,
+    },
+    Group {
+        name: "search",
+        what: "every number of entries, every index, starts of every sort",
+        parts: search::PARTS,
+        random: true,
+        run: search::search,
     },
     Group {
         name: "split_merge",

@@ -2,32 +2,8 @@
 //! counts to at most changes": ways whose sums and counts are just that, or one more.
 
 use crate::comparer::Comparer;
-use crate::images::{
-    capacity, child_at, count_at, head, page_bytes, start_at, sum_at, u32_at, Pool, CHANGES, ENTRY_COUNT_AT, HEIGHT,
-    KIND, ROOT,
-};
+use crate::images::{capacity, count_at, head, page_bytes, sum_at, way, Pool, CHANGES, KIND};
 use crate::random::Random;
-
-/// An entry on a way: its page, its index there, and the page's entry count.
-struct Step {
-    page: usize,
-    i: usize,
-    entries: usize,
-}
-
-/// From the root to the leaf that has t.
-fn way(image: &[u8], t: u32) -> Vec<Step> {
-    let mut page = head(image, ROOT) as usize;
-    let mut way = Vec::new();
-    for _ in 0..head(image, HEIGHT) {
-        let entries = u32_at(image, page, ENTRY_COUNT_AT) as usize;
-        let i =
-            (0..entries).rfind(|i| u32_at(image, page, start_at(*i)) <= t).expect("the first starts at t or before");
-        way.push(Step { page, i, entries });
-        page = u32_at(image, page, child_at(capacity(image), i)) as usize;
-    }
-    way
-}
 
 pub fn pair_bounds(comparer: &mut Comparer, pool: &Pool, _: usize) {
     let images: Vec<&Vec<u8>> = pool.all().filter(|image| head(image, KIND) == 1).collect();
@@ -58,17 +34,17 @@ pub fn pair_bounds(comparer: &mut Comparer, pool: &Pool, _: usize) {
 /// Sets all pairs of the pages on the way to nothing but for one entry each, mostly the way's own.
 fn lay_way(comparer: &mut Comparer, t: u32, changes: u32) {
     let (k, length) = (capacity(comparer.image()), page_bytes(comparer.image()));
-    let steps = way(comparer.image(), t);
+    let places = way(comparer.image(), t);
     let over = comparer.random.pick(&[0, 0, 0, 1, -1]);
-    let sums = shares(1_000_000 * i64::from(changes) + over, steps.len(), &mut comparer.random);
+    let sums = shares(1_000_000 * i64::from(changes) + over, places.len(), &mut comparer.random);
     let over = comparer.random.pick(&[0, 0, 0, 1, -1]);
-    let counts = shares(i64::from(changes) + over, steps.len(), &mut comparer.random);
-    for (step, (sum, count)) in steps.iter().zip(sums.into_iter().zip(counts)) {
-        let chosen = if comparer.random.one_in(6) { comparer.random.below(step.entries) } else { step.i };
-        for i in 0..step.entries {
+    let counts = shares(i64::from(changes) + over, places.len(), &mut comparer.random);
+    for (place, (sum, count)) in places.iter().zip(sums.into_iter().zip(counts)) {
+        let chosen = if comparer.random.one_in(6) { comparer.random.below(place.entries) } else { place.i };
+        for i in 0..place.entries {
             let (sum, count) = if i == chosen { (sum, count as i32) } else { (0, 0) };
-            comparer.set(length * step.page + sum_at(k, i), &sum.to_le_bytes());
-            comparer.set(length * step.page + count_at(k, i), &count.to_le_bytes());
+            comparer.set(length * place.page + sum_at(k, i), &sum.to_le_bytes());
+            comparer.set(length * place.page + count_at(k, i), &count.to_le_bytes());
         }
     }
 }
