@@ -31,6 +31,10 @@ pub length-entry-bytes : (e : Entry) → length (entry-bytes e) ≡ 16
 unfolding entry-bytes
 length-entry-bytes e = simp (length-append, i64 .length-bytes, i32 .length-bytes, u32 .length-bytes)
 
+-- ahead of its child stand its sum and its count
+length-ahead : (e : Entry) → length (i64-bytes (e .pair .sum) ++ i32-bytes (e .pair .count)) ≡ 12
+length-ahead e = simp (length-append, i64 .length-bytes, i32 .length-bytes)
+
 pub bytes-entry-bytes : (e : Entry) → Bytes (entry-bytes e)
 unfolding entry-bytes
 bytes-entry-bytes e =
@@ -56,12 +60,11 @@ module _ (half : ℕ) (s : List ℕ) (i : ℕ) where
       let b : List ℕ = i32-bytes (e .pair .count) in
       let c : List ℕ = u32-bytes (e .child) in
       let la : length a ≡ 8 = i64 .length-bytes (e .pair .sum) in
-      let lb : length b ≡ 4 = i32 .length-bytes (e .pair .count) in
-      let lab : length (a ++ b) ≡ 12 = length-append a b ∙ (λ j. la j + lb j) in
       let k : part s o 16 ≡ a ++ b ++ (c ++ []) = g ∙ sym (append-assoc a b c) ∙ ap (λ l. a ++ b ++ l) (sym (append-nil c)) in
       let sum : part s o 8 ≡ a = ap (λ p. part s p 8) (sym (add-zero o)) ∙ part-inside s o 16 [] a (b ++ c) 0 8 g refl la (omega arith) in
-      let count : part s (o + 8) 4 ≡ b = part-inside s o 16 a b c 8 4 g la lb (omega arith) in
-      let child : part s (o + 12) 4 ≡ c = part-inside s o 16 (a ++ b) c [] 12 4 k lab (u32 .length-bytes (e .child)) (omega arith) in
+      let count : part s (o + 8) 4 ≡ b = part-inside s o 16 a b c 8 4 g la (i32 .length-bytes (e .pair .count)) (omega arith) in
+      let child : part s (o + 12) 4 ≡ c =
+      part-inside s o 16 (a ++ b) c [] 12 4 k (length-ahead e) (u32 .length-bytes (e .child)) (omega arith) in
       λ j. record {
         start = u32 .at-bytes s (start-offset i) (e .start) f (w .start) j;
         pair = record {
@@ -106,9 +109,6 @@ patch-entry s o e h =
     let a : List ℕ = i64-bytes (e .pair .sum) in
     let b : List ℕ = i32-bytes (e .pair .count) in
     let c : List ℕ = u32-bytes (e .child) in
-    let la : length a ≡ 8 = i64 .length-bytes (e .pair .sum) in
-    let lb : length b ≡ 4 = i32 .length-bytes (e .pair .count) in
-    let lab : length (a ++ b) ≡ 12 = length-append a b ∙ (λ j. la j + lb j) in
-    ap (λ l. patch l (o + 12) c) (patch-patch-next s o a b (o + 8) (ap (λ k. o + k) la) (omega arith))
-    ∙ patch-patch-next s o (a ++ b) c (o + 12) (ap (λ k. o + k) lab) (omega arith)
+    ap (λ l. patch l (o + 12) c) (patch-patch-next s o a b (o + 8) (ap (λ k. o + k) (i64 .length-bytes (e .pair .sum))) (omega arith))
+    ∙ patch-patch-next s o (a ++ b) c (o + 12) (ap (λ k. o + k) (length-ahead e)) (omega arith)
     ∙ ap (patch s o) (append-assoc a b c)
