@@ -10,13 +10,13 @@ use Rattle.page.specs.Entries.{at}
 use Rattle.page.specs.Layout.{capacity}
 use Rattle.image.specs.Images.{Image, tree, entries-in}
 use Rattle.steps.specs.Supply.{entries, put}
-use Rattle.steps.specs.Combine.{next-start, combine-entries}
+use Rattle.steps.specs.Combine.{next-start, combine-entries, end-in}
 use Rattle.store.specs.Encoding.{Encodes, Pre, Post, Pre-level, Post-level}
 use Rattle.store.specs.Preconditions.{Tree-page, Has-entry}
 use Rattle.store.proofs.Encoding.{same-pages}
 use Rattle.store.proofs.Chains.{some-then}
 use Rattle.combine_span.specs.declared.SpanEffect.{SpanEffect}
-use Rattle.combine_span.specs.SpanCombinable.{end-in, all-took, page-by, sent-by, Takes, Entries-combinable, Below-combinable}
+use Rattle.combine_span.specs.SpanCombinable.{all-took, page-by, sent-by, Takes, Entries-combinable, Below-combinable}
 use Rattle.combine_span.specs.SpanCombinable.{Page-takes, Page-combinable, Entry-combinable}
 use Rattle.combine_span.proofs.Laws.{all-sent, none-sent, page-whole}
 

@@ -12,13 +12,13 @@ use Rattle.page.specs.Entries.{at, no-entry}
 use Rattle.page.specs.Layout.{capacity}
 use Rattle.image.specs.Images.{Image, tree, entries-in}
 use Rattle.steps.specs.Supply.{entries, put}
-use Rattle.steps.specs.Combine.{next-start}
+use Rattle.steps.specs.Combine.{next-start, end-in}
 use Rattle.steps.proofs.Supply.{put-at, put-again, put-same}
 use Rattle.store.specs.Encoding.{Encodes, Pre-level, Post-level}
 use Rattle.store.specs.Preconditions.{Tree-page}
 use Rattle.store.proofs.Supplying.{within-put}
 use Rattle.combine_span.specs.declared.SpanEffect.{SpanEffect}
-use Rattle.combine_span.specs.SpanCombinable.{end-in, took-by, all-took, Takes, Entry-takes, Page-takes}
+use Rattle.combine_span.specs.SpanCombinable.{took-by, all-took, Takes, Entry-takes, Page-takes}
 
 entries-put : (p level : ℕ) (es : List Entry) (X : Image) → entries (put p (tree level es) X) p ≡ es
 unfolding entries entries-in

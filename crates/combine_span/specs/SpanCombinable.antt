@@ -4,7 +4,7 @@ use Prim.Native.Nat.{ℕ, zero, suc, _-_, _≤_, _<_}
 use mathlib.Core.Path.{_≡_}
 use mathlib.Core.Bool.{Bool, true, false}
 use mathlib.Core.List.{List, [], _∷_}
-use lib.ListN.{length, drop}
+use lib.ListN.{length}
 use Rattle.rule.specs.Pairs.{combine}
 use Rattle.rule.specs.Bounds.{Combinable}
 use Rattle.rule.specs.Time.{END, overlaps}
@@ -12,7 +12,7 @@ use Rattle.page.specs.declared.Entry.{Entry}
 use Rattle.page.specs.Entries.{at}
 use Rattle.image.specs.Images.{Image}
 use Rattle.steps.specs.Supply.{entries}
-use Rattle.steps.specs.Combine.{inside, next-start, took, sent, combine-page, combine-span}
+use Rattle.steps.specs.Combine.{inside, next-start, end-in, took, sent, combine-page, combine-span}
 use Rattle.store.specs.Preconditions.{Tree-page, Has-entry}
 use Rattle.combine_span.specs.declared.SpanEffect.{SpanEffect}
 
@@ -31,10 +31,6 @@ took-by q = took (combine (q .kind)) (q .s) (q .e) (q .effect)
 unfoldable pub all-took : SpanEffect → ℕ → List Entry → List Entry
 all-took q hi [] = []
 all-took q hi (x ∷ xs) = took-by q (next-start hi xs) x ∷ all-took q hi xs
-
--- where the i-th entry of such a page ends
-abbrev pub end-in : ℕ → List Entry → ℕ → ℕ
-end-in hi es i = next-start hi (drop (suc i) es)
 
 abbrev pub page-by : SpanEffect → ℕ → ℕ → ℕ → Image → Image
 page-by q = combine-page (combine (q .kind)) (q .s) (q .e) (q .effect)

@@ -14,9 +14,9 @@ ghost use Rattle.rule.specs.Bounds.{Combinable};
 ghost use Rattle.page.specs.Entries.{at, entry};
 ghost use Rattle.image.specs.Images.{tree};
 ghost use Rattle.steps.specs.Supply.{entries, put};
-ghost use Rattle.steps.specs.Combine.{inside};
+ghost use Rattle.steps.specs.Combine.{inside, end-in};
 ghost use Rattle.store.specs.Encoding.{Encodes, Pre-level, Post-level};
-ghost use Rattle.combine_span.specs.SpanCombinable.{end-in, took-by, all-took, Entry-takes, Page-takes};
+ghost use Rattle.combine_span.specs.SpanCombinable.{took-by, all-took, Entry-takes, Page-takes};
 
 // Whether [lo, hi) lies wholly inside [s, e).
 pub(crate) fn inside(s: u32, e: u32, lo: u32, hi: u32) -> bool

@@ -4,12 +4,13 @@ use page::PageContext;
 use page::at::entry_count;
 use page::at::pair_at;
 use page::at::start_at;
+use rule::Pair;
 use rule::limits::END;
 use rule::numbers::magnitude;
 ghost use mathlib.Core.Path.{_≡_};
 ghost use Prim.Native.Nat.{_≤_, _<_};
 ghost use lib.ListN.{length};
-ghost use Rattle.page.specs.Fit.{root-context, end-at, context-below};
+ghost use Rattle.page.specs.Fit.{root-context, end-at, context-under, context-below};
 ghost use Rattle.page.specs.Layout.{capacity, start-offset, page-size, entry-count};
 ghost use Rattle.fit.specs.Contexts.{Bounded};
 
@@ -40,20 +41,27 @@ pub fn end_at(s: &[u8], hi: u32, i: usize) -> u32
     }
 }
 
-// The context of the page under the i-th entry of an inner page: the entry's absolute sum and count are added up along the path.
+// The context of the page under an entry of an inner page: the entry's absolute sum and count are added up along the path.
+pub fn context_under(at: PageContext, start: u32, end: u32, pair: Pair) -> PageContext
+    requires { ⌜ (1 ≤ at .level) × Bounded at ⌝ }
+    ensures { λ r. ⌜ r ≡ context-under at start end pair ⌝ }
+{
+    PageContext {
+        level: at.level - 1,
+        is_root: false,
+        lo: start,
+        hi: end,
+        sums: at.sums + magnitude(pair.sum),
+        counts: at.counts + magnitude(pair.count as i64),
+    }
+}
+
+// The context of the page under the i-th entry.
 pub fn context_below(half: usize, s: &[u8], at: PageContext, i: usize) -> PageContext
     requires { ⌜ length (now s) ≡ page-size half ⌝ }
     requires { ⌜ (i < capacity half) × (entry-count (now s) ≤ capacity half) ⌝ }
     requires { ⌜ (1 ≤ at .level) × Bounded at ⌝ }
     ensures { λ r. ⌜ r ≡ context-below half (now (s .entry)) at i ⌝ }
 {
-    let p = pair_at(half, s, i);
-    PageContext {
-        level: at.level - 1,
-        is_root: false,
-        lo: start_at(s, i),
-        hi: end_at(s, at.hi, i),
-        sums: at.sums + magnitude(p.sum),
-        counts: at.counts + magnitude(p.count as i64),
-    }
+    context_under(at, start_at(s, i), end_at(s, at.hi, i), pair_at(half, s, i))
 }

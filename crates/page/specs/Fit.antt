@@ -24,17 +24,21 @@ root-context h = record { level = h .height - 1; «is_root» = true; lo = 0; hi 
 unfoldable pub end-at : List ℕ → ℕ → ℕ → ℕ
 end-at s hi i = cond (ltb (suc i) (entry-count s)) (start-at s (suc i)) hi
 
--- the context of the page under the i-th entry
-unfoldable pub context-below : ℕ → List ℕ → Page-context → ℕ → Page-context
-context-below half s at i =
+-- the context of the page under an entry of those numbers
+abbrev pub context-under : Page-context → ℕ → ℕ → Pair → Page-context
+context-under at start end pair =
     record {
       level = at .level - 1;
       «is_root» = false;
-      lo = start-at s i;
-      hi = end-at s (at .hi) i;
-      sums = at .sums + natAbs (pair-at half s i .sum);
-      counts = at .counts + natAbs (pair-at half s i .count);
+      lo = start;
+      hi = end;
+      sums = at .sums + natAbs (pair .sum);
+      counts = at .counts + natAbs (pair .count);
     }
+
+-- the context of the page under the i-th entry
+unfoldable pub context-below : ℕ → List ℕ → Page-context → ℕ → Page-context
+context-below half s at i = context-under at (start-at s i) (end-at s (at .hi) i) (pair-at half s i)
 
 -- "it has 12 to 24 entries (root leaf 1 to 24, inner root 2 to 24)", which is K/2 to K at K = 24
 unfoldable pub fewest : ℕ → Page-context → ℕ

@@ -2,6 +2,7 @@
 use Prim.Native.Nat.{ℕ, zero, suc, _-_}
 use mathlib.Core.Bool.{Bool, cond, _&&_}
 use mathlib.Core.List.{List, [], _∷_}
+use lib.ListN.{drop}
 use lib.Dec.{leb}
 use Rattle.rule.specs.declared.Pair.{Pair}
 use Rattle.rule.specs.Time.{END, overlaps}
@@ -23,6 +24,10 @@ inside s e lo hi = leb s lo && leb hi e
 unfoldable pub next-start : ℕ → List Entry → ℕ
 next-start hi [] = hi
 next-start hi (e ∷ es) = e .start
+
+-- where the i-th entry of a page that ends at hi ends
+abbrev pub end-in : ℕ → List Entry → ℕ → ℕ
+end-in hi es i = next-start hi (drop (suc i) es)
 
 module _ (_⊕_ : Pair → Pair → Pair) (s e : ℕ) (effect : Pair) where
   infixl 60 _⊕_

@@ -20,7 +20,7 @@ use Rattle.image.specs.Images.{Image, page-at}
 use Rattle.lookup.specs.Levels.{Page-searchable, Index-found}
 use Rattle.edit.proofs.Edits.{has-len}
 use Rattle.steps.specs.Supply.{entries}
-use Rattle.steps.specs.Combine.{next-start}
+use Rattle.steps.specs.Combine.{next-start, end-in}
 use Rattle.store.specs.Encoding.{Encodes, Loaded}
 use Rattle.store.specs.Preconditions.{Tree-page, Has-entry, Searchable, found-in}
 use Rattle.store.proofs.Encoding.{Tree-read, tree-read, holds-within, holds-size}
@@ -71,7 +71,7 @@ module _ {half : ℕ} {img : List ℕ} {X : Image} {l p : ℕ} (h : Encodes half
         sym (at-entries-of half s i (omega (arith, r .len)) (omega (arith, r .few))) ∙ ap (λ es. at es i) (r .entries)
 
     -- where the i-th entry ends: at the next one's start, the last at the page's own end
-    pub lent-end : (hi i : ℕ) → end-at s hi i ≡ next-start hi (drop (suc i) (entries X p))
+    pub lent-end : (hi i : ℕ) → end-at s hi i ≡ end-in hi (entries X p) i
     unfolding end-at entry-at next-start
     lent-end hi i =
         let es : List Entry = entries X p in

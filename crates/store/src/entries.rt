@@ -7,12 +7,12 @@ use page::Entry;
 use page::at::entry_at;
 use page::at::entry_count;
 ghost use mathlib.Core.Path.{_≡_};
-ghost use Prim.Native.Nat.{suc, _≤_};
-ghost use lib.ListN.{length, drop};
+ghost use Prim.Native.Nat.{_≤_};
+ghost use lib.ListN.{length};
 ghost use Rattle.page.specs.Entries.{at};
 ghost use Rattle.page.specs.Layout.{capacity};
 ghost use Rattle.steps.specs.Supply.{entries};
-ghost use Rattle.steps.specs.Combine.{next-start};
+ghost use Rattle.steps.specs.Combine.{end-in};
 ghost use Rattle.store.specs.Encoding.{Pre-level, Post-level};
 ghost use Rattle.store.specs.Preconditions.{Tree-page, Has-entry, Searchable, found-in};
 
@@ -35,7 +35,7 @@ pub fn entry_of(half: usize, img: &[u8], p: u32, i: usize) -> Entry
 // Where the i-th entry of page p ends, if the page ends at hi.
 pub fn entry_end(half: usize, img: &[u8], p: u32, hi: u32, i: usize) -> u32
     requires { ⌜ Pre-level half (now img) (λ l. Has-entry l p i) ⌝ }
-    ensures { λ r. ⌜ Post-level half (now (img .entry)) (λ l. Has-entry l p i) (λ l X. r ≡ next-start hi (drop (suc i) (entries X p))) ⌝ }
+    ensures { λ r. ⌜ Post-level half (now (img .entry)) (λ l. Has-entry l p i) (λ l X. r ≡ end-in hi (entries X p) i) ⌝ }
 {
     end_at(page_at(half, img, p), hi, i)
 }

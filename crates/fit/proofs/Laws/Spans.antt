@@ -49,6 +49,15 @@ module _ {half : ℕ} {h : Head} {at : Page-context} {s : List ℕ} (f : PageFit
           omega (arith, bound-past s (at .hi) 0 (omega arith), rw d at (f .last), f .first)
 
   -- an entry's span lies in its page's
+  pub start-within : (i : ℕ) → i < entry-count s → at .lo ≤ start-at s i
+  start-within i l =
+      omega (
+        arith,
+        first-low,
+        bound-in s (at .hi) i l,
+        rises (entry-count s) (bound s (at .hi)) bound-rises 0 i (omega arith) (omega arith),
+      )
+
   pub end-after : (i : ℕ) → i < entry-count s → start-at s i < end-at s (at .hi) i
   end-after i l = omega (arith, bound-in s (at .hi) i l, bound-rises i l, bound-next s (at .hi) i)
 

@@ -1,13 +1,13 @@
 -- The entry that has an instant: it stands in its page, and it is the last that starts at the instant or before. Assumes nothing.
 use Prim.Native.Nat.{ℕ, zero, suc, _+_, _≤_, _<_, min}
-use mathlib.Core.Path.{_≡_, ap, _∙_}
-use mathlib.Core.Bool.{cond}
+use mathlib.Core.Path.{_≡_, refl, ap, _∙_}
+use mathlib.Core.Bool.{Bool, true, false, cond}
 use mathlib.Core.List.{List, [], _∷_, _++_}
 use native.Mathlib.Decide.{decLt}
 use native.Mathlib.Omega.{arith}
 use lib.Dec.{leb}
 use lib.ListN.{length}
-use borrow.Author.Tests.{leb-true, le-leb, lt-leb}
+use borrow.Author.Tests.{leb-true, leb-false, le-leb, lt-leb}
 use Rattle.lists.specs.Lists.{listed}
 use Rattle.lists.proofs.Choices.{cond-one, either}
 use Rattle.lists.proofs.Listed.{length-listed}
@@ -48,6 +48,20 @@ module _ (t : ℕ) (f : ℕ → Entry) where
   found-started first (suc n) =
       rw (found-more n) (cond-one (λ k. f k .start ≤ t) (leb (f n .start) t) (leb-true (f n .start) t) (λ e. found-started first n))
 
+  -- the one behind it starts after t
+  found-next : (n : ℕ) → suc (found n) < n → t < f (suc (found n)) .start
+  found-next zero l = absurd (omega arith)
+  found-next (suc n) l = rw (found-more n) (go (leb (f n .start) t) refl (rw (found-more n) at l) (decLt (suc (found n)) n) (found-next n))
+    where
+      go : (b : Bool) → leb (f n .start) t ≡ b → suc (cond b n (found n)) < suc n → Dec (suc (found n) < n)
+          → (suc (found n) < n → t < f (suc (found n)) .start)
+          → t < f (suc (cond b n (found n))) .start
+      go true e l d below = absurd (omega arith)
+      go false e l (yes m) below = below m
+      go false e l (no m) below =
+          let same : suc (found n) ≡ n = omega arith in
+          rw same (leb-false (f n .start) t e)
+
   -- an entry that starts at t or before, and every later one after t
   found-is : (n k : ℕ) → k < n → f k .start ≤ t → ((i : ℕ) → k < i → i < n → t < f i .start) → found n ≡ k
   found-is zero k l h later = absurd (omega arith)
@@ -79,6 +93,11 @@ module _ (half : ℕ) (s : List ℕ) (t : ℕ) (most : entry-count s ≤ capacit
   pub index-started : start-at s 0 ≤ t → start-at s (index-of t (entries-of half s)) ≤ t
   unfolding entry-at
   index-started first = rw index-found (found-started t (entry-at half s) first (entry-count s))
+
+  -- and the one behind it after t
+  pub index-next : suc (index-of t (entries-of half s)) < entry-count s → t < start-at s (suc (index-of t (entries-of half s)))
+  unfolding entry-at
+  index-next l = rw index-found (found-next t (entry-at half s) (entry-count s) (rw index-found at l))
 
   -- the one of which this holds is the one found
   pub index-is : (k : ℕ) → k < entry-count s → start-at s k ≤ t → ((i : ℕ) → k < i → i < entry-count s → t < start-at s i)

@@ -8,8 +8,9 @@ use Rattle.lists.specs.Lists.{splice}
 use Rattle.page.specs.Entries.{at}
 use Rattle.image.specs.Images.{Image, tree}
 use Rattle.steps.specs.Supply.{entries, put}
+use Rattle.steps.specs.Combine.{end-in}
 use Rattle.store.specs.Encoding.{Encodes}
-use Rattle.combine_span.specs.SpanCombinable.{took-by, end-in, Takes, Entry-takes}
+use Rattle.combine_span.specs.SpanCombinable.{took-by, Takes, Entry-takes}
 use Rattle.combine_span.proofs.Laws.{took-inside, took-outside}
 use Rattle.combine_span.proofs.Taken.{untaken}
 use Rattle.combine_span.proofs.entries.entry_takes.Statement.{statement}
