@@ -11,7 +11,7 @@ use Rattle.rule.specs.Pairs.{none}
 use Rattle.page.specs.declared.Head.{Head}
 use Rattle.page.specs.Fit.{root-context}
 use Rattle.image.specs.Images.{page-at, pages-in, length-ok}
-use Rattle.image.specs.Instant.{look-up}
+use Rattle.image.specs.Instant.{Lookup, look-up}
 use Rattle.calls.specs.Refusals.{first}
 use Rattle.calls.specs.Calls.{head, head-ok, instant, instant-status}
 use Rattle.fit.proofs.Laws.Heads.{fit-ranges}
@@ -49,6 +49,22 @@ module _ (half t : ℕ) (img : List ℕ) where
   unfolding instant
   instant-pages f =
       λ j. cond (f .length-fits j && (lt-ltb t END (f .before-end) j && f .head-fits j)) (look-up half img t .pages) 0
+
+  -- all that it answers
+  pub instant-is : Answered half t img → let w = look-up half img t in
+      instant half t img ≡ record { status = 0; pair = w .pair; start = w .start; end = w .end; pages = w .pages }
+  unfolding instant
+  instant-is f =
+      let w : Lookup = look-up half img t in
+      let z = answers f in
+      let pages = instant-pages f in
+      λ j. record {
+        status = z j;
+        pair = cond (eqb (z j) 0) (w .pair) none;
+        start = cond (eqb (z j) 0) (w .start) 0;
+        end = cond (eqb (z j) 0) (w .end) 0;
+        pages = pages j;
+      }
 
   -- a fit head has a height of 1 or more, so that the pages read are as many as the tree is high
   pub look-up-pages : head-ok half img ≡ true → look-up half img t .fit ≡ true → look-up half img t .pages ≡ head half img .height

@@ -29,7 +29,8 @@ use Rattle.calls.proofs.Steps.{index-book-keeps, index-format-keeps}
 use Rattle.fit.proofs.Laws.Heads.{fit-ranges}
 use Rattle.answers.proofs.Rows.{kept}
 use Rattle.answers.proofs.Scratch.{booking-leaves, audit-leaves}
-use Rattle.answers.proofs.Look.{half-some, look-top, look-sum}
+use Rattle.answers.proofs.Look.{half-some, look-top}
+use Rattle.lookup.proofs.Laws.Looks.{look-paired}
 use Rattle.answers.proofs.Calls.{Answered, answered, instant-pair, instant-pages, look-up-pages}
 
 -- ---- the pages that an instant reports
@@ -73,7 +74,8 @@ look-up-sum half t img f one =
     let k = fit-ranges half (pages-in half img) (page-at half img 0) (f .head-fits) in
     let top = look-top half h img t (h .height - 1) (root-context h) (h .root) (f .look-fits) in
     let some = half-some half h (page-at half img (h .root)) top in
-    omega (arith, look-sum half h img t some one (h .height - 1) (root-context h) (h .root) (f .look-fits), k .changes-most)
+    omega
+    (arith, look-paired half h img t some (h .height - 1) (root-context h) (h .root) (f .look-fits) .total one .sums, k .changes-most)
 
 never-beyond : (half t : ℕ) (img : List ℕ) → average-at half t img .average ≢ Beyond
 unfolding average-at
@@ -97,7 +99,8 @@ demand-1 =
       of-format = index-format-keeps;
       of-booking = index-book-keeps;
       of-instant = λ t img.
-          by-judge _ (λ half. instant half t img) img (λ (r : Instant). r .status ≢ 0 → r .pair ≡ none) (λ g n. kept _ _ _ n) (λ r n. refl);
+          by-judge _ (λ half. instant half t img) img (λ (r : Instant). r .status ≢ 0 → (r .pair ≡ none) × (r .start ≡ 0) × (r .end ≡ 0))
+          (λ g n. (kept _ _ none n, kept _ _ 0 n, kept _ _ 0 n)) (λ r n. (refl, refl, refl));
       of-average = λ t img.
           by-judge _ (λ half. average-at half t img) img (λ (r : Averaged). r .status ≢ 0 → r .average ≡ Nothing) (λ g n. kept _ _ Nothing n)
           (λ r n. refl);

@@ -1,25 +1,21 @@
--- What a lookup that met only fit pages says: how many it read, and how large its pair can be. Assumes nothing.
-use Prim.Native.Nat.{ℕ, zero, suc, _+_, _*_, _≤_, _<_}
+-- What a lookup that met only fit pages says: its pair, and how many pages it read. Assumes nothing.
+use Prim.Native.Nat.{ℕ, zero, suc, _≤_, _<_}
 use mathlib.Core.Path.{_≡_, refl, ap, _∙_}
 use mathlib.Core.Bool.{Bool, true, cond}
 use mathlib.Core.List.{List}
 use native.Mathlib.Omega.{arith}
-use lib.Dec.{eqb}
-use lib.IntN.{natAbs}
 use Rattle.lists.proofs.Choices.{chose}
 use Rattle.rule.specs.declared.Pair.{Pair}
-use Rattle.rule.specs.Time.{most-value}
 use Rattle.rule.specs.Pairs.{none, combine}
-use Rattle.rule.proofs.Laws.{combine-sum-bound}
 use Rattle.page.specs.declared.Head.{Head}
 use Rattle.page.specs.Entries.{index-of}
-use Rattle.page.specs.Layout.{entry-count, pair-at, child-at, entries-of}
-use Rattle.page.specs.Fit.{Page-context, root-context, context-below, page-fit}
+use Rattle.page.specs.Layout.{entry-count, start-at, pair-at, child-at, entries-of}
+use Rattle.page.specs.Fit.{Page-context, root-context, end-at, context-below, page-fit}
 use Rattle.fit.proofs.Laws.Parts.{fewest-pos}
 use Rattle.fit.proofs.Laws.Pages.{page-fit-is}
 use Rattle.image.specs.Images.{page-at}
 use Rattle.image.specs.Sound.{tree-fit}
-use Rattle.image.specs.Instant.{Lookup, stopped, leaf-answer, above, look}
+use Rattle.image.specs.Instant.{Lookup, stopped, leaf-answer, above, look-by, look}
 use Rattle.image.proofs.Trails.{root-some}
 use Rattle.soundness.proofs.Tree.{top-fit, tree-parts}
 use Rattle.page.proofs.Laws.Indices.{index-within}
@@ -44,17 +40,18 @@ module _ (half : ℕ) (h : Head) (img : List ℕ) (t : ℕ) where
 
   module _ (at : Page-context) (p i : ℕ) (fits : page-fit half h at (page-at half img p) ≡ true)
       (at-i : index-of t (entries-of half (page-at half img p)) ≡ i) where
-    leaf-is : look half h img t zero at p ≡ leaf-answer (pair-at half (page-at half img p) i)
-    unfolding look
+    pub leaf-is : let s = page-at half img p in
+        look half h img t zero at p ≡ leaf-answer (pair-at half s i) (start-at s i) (end-at s (at .hi) i)
+    unfolding look-by
     leaf-is =
         let s : List ℕ = page-at half img p in
-        ap (λ c. cond c (leaf-answer (pair-at half s (index-of t (entries-of half s)))) stopped) fits
-        ∙ ap (λ k. leaf-answer (pair-at half s k)) at-i
+        let a : ℕ → Lookup = λ k. leaf-answer (pair-at half s k) (start-at s k) (end-at s (at .hi) k) in
+        ap (λ c. cond c (a (index-of t (entries-of half s))) stopped) fits ∙ ap a at-i
 
-    inner-is : (l : ℕ) → look half h img t (suc l) at p
+    pub inner-is : (l : ℕ) → look half h img t (suc l) at p
         ≡ above (combine (h .kind)) (pair-at half (page-at half img p) i)
         (look half h img t l (context-below half (page-at half img p) at i) (child-at half (page-at half img p) i))
-    unfolding look
+    unfolding look-by
     inner-is l =
         let s : List ℕ = page-at half img p in
         let a : ℕ → Lookup =
@@ -82,14 +79,14 @@ module _ (half : ℕ) (h : Head) (img : List ℕ) (t : ℕ) where
 
   -- the page on which a lookup begins
   pub look-top : (l : ℕ) (at : Page-context) (p : ℕ) → look half h img t l at p .fit ≡ true → page-fit half h at (page-at half img p) ≡ true
-  unfolding look
+  unfolding look-by
   look-top zero at p e = went-on _ _ e .0
   look-top (suc l) at p e = went-on _ _ e .0
 
-  look-below : (l : ℕ) (at : Page-context) (p : ℕ) → look half h img t (suc l) at p .fit ≡ true
+  pub look-below : (l : ℕ) (at : Page-context) (p : ℕ) → look half h img t (suc l) at p .fit ≡ true
       → look half h img t l (context-below half (page-at half img p) at (index-of t (entries-of half (page-at half img p))))
       (child-at half (page-at half img p) (index-of t (entries-of half (page-at half img p)))) .fit ≡ true
-  unfolding look above
+  unfolding look-by above
   look-below l at p e =
       let s : List ℕ = page-at half img p in
       let i : ℕ = index-of t (entries-of half s) in
@@ -103,39 +100,10 @@ module _ (half : ℕ) (h : Head) (img : List ℕ) (t : ℕ) where
       ap (λ (r : Lookup). r .pages) (inner-is at p _ (look-top (suc l) at p e) refl l) ∙ ap suc (look-pages l _ _ (look-below l at p e))
 
   module _ (some : 1 ≤ half) where
-    inside : (at : Page-context) (s : List ℕ) → page-fit half h at s ≡ true → index-of t (entries-of half s) < entry-count s
+    pub inside : (at : Page-context) (s : List ℕ) → page-fit half h at s ≡ true → index-of t (entries-of half s) < entry-count s
     inside at s e =
         let f = page-fit-is half h at s .0 e in
         index-within half s t (f .most) (omega (arith, fewest-pos half at some, f .least))
-
-    -- kind 1: the absolute sums on a fit page's way have a bound, and so has the sum found
-    pub look-sum : eqb (h .kind) 1 ≡ true → (l : ℕ) (at : Page-context) (p : ℕ) → look half h img t l at p .fit ≡ true
-        → at .sums + natAbs (look half h img t l at p .pair .sum) ≤ most-value * h .changes
-    unfolding context-below
-    look-sum one zero at p e =
-        let s : List ℕ = page-at half img p in
-        let i : ℕ = index-of t (entries-of half s) in
-        let top = look-top zero at p e in
-        let v = found-leaf at p i top refl in
-        omega (
-          arith,
-          ap (λ (q : Pair). natAbs (q .sum)) (v .pair),
-          page-fit-is half h at s .0 top .pairs i (inside at s top) .total
-              one .sums,
-        )
-    look-sum one (suc l) at p e =
-        let s : List ℕ = page-at half img p in
-        let i : ℕ = index-of t (entries-of half s) in
-        let top = look-top (suc l) at p e in
-        let low = look-below l at p e in
-        let below : Lookup = look half h img t l (context-below half s at i) (child-at half s i) in
-        let v = found-inner at p i top refl l (record { fit = low; pair = refl }) in
-        omega (
-          arith,
-          ap (λ (q : Pair). natAbs (q .sum)) (v .pair),
-          combine-sum-bound (h .kind) (pair-at half s i) (below .pair),
-          look-sum one l (context-below half s at i) (child-at half s i) low,
-        )
 
     -- ---- where every page of the tree is fit
 

@@ -94,6 +94,7 @@ list-cases =
       bad-capacity = refl;
       refused-leaves = (refl, refl);
       left-one = refl;
+      not-left = refl;
       left-twice = refl;
       left-two = refl;
       left-three = refl;

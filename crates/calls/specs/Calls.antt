@@ -100,10 +100,17 @@ module _ (bytes-for : ℕ → ℕ) where
 
 -- Instant
 
+-- Document 02, (viii): "the instant answer gains the start and end of its leaf entry."
 pub record Instant : Type 0 where
   pub status : ℕ
   pub pair : Pair
+  pub start : ℕ
+  pub end : ℕ
   pub pages : ℕ
+
+-- "A refusal returns its number and zeros (instant: the pages read too)." "Refusals give zeros for both new numbers."
+abbrev pub no-instant : ℕ → ℕ → Instant
+no-instant status pages = record { status = status; pair = none; start = 0; end = 0; pages = pages }
 
 unfoldable pub instant-status : ℕ → ℕ → List ℕ → ℕ
 instant-status half t img =
@@ -122,6 +129,8 @@ instant half t img =
     record {
       status = number;
       pair = cond (eqb number 0) (looked .pair) none;
+      start = cond (eqb number 0) (looked .start) 0;
+      end = cond (eqb number 0) (looked .end) 0;
       pages = cond (length-ok half img && (ltb t END && head-ok half img)) (looked .pages) 0;
     }
 

@@ -27,6 +27,7 @@ use Rattle.calls.specs.Book.{Book, entered, book-of, book-pair, listing-
 use Rattle.calls.specs.Trace.{Trace, Throughout, change-made, Steps}
 use Rattle.calls.specs.Aggregate.{aggregate, Matched, live-from}
 use Rattle.calls.specs.Accepted.{Every-change}
+use Rattle.calls.specs.Until.{Until-when}
 
 -- Demand 1. "A caller may hand any public call any image, span, value or output buffer, unchecked; the call returns, and what
 -- document 01 turns back is refused by its number there, with image and output as before." That a call returns is part of every
@@ -39,7 +40,10 @@ pub record Demand-1 : Type 0 where
       (side : Side) (v : ℤ) (s e : ℕ) (img scratch : List ℕ)
       → index-book side v s e img scratch .status ≢ 0
       → index-book side v s e img scratch .image ≡ img
-  pub of-instant : (t : ℕ) (img : List ℕ) → index-instant t img .status ≢ 0 → index-instant t img .pair ≡ none
+  pub of-instant :
+      (t : ℕ) (img : List ℕ)
+      → index-instant t img .status ≢ 0
+      → (index-instant t img .pair ≡ none) × (index-instant t img .start ≡ 0) × (index-instant t img .end ≡ 0)
   pub of-average : (t : ℕ) (img : List ℕ) → index-average t img .status ≢ 0 → index-average t img .average ≡ Nothing
   pub of-listing :
       (a b : ℕ) (img out : List ℕ)
@@ -66,6 +70,11 @@ pub record Demand-2 (kind window : ℕ) (img : List ℕ) (cs : List Change) : Ty
   pub instants :
       (t : ℕ) → t < END
       → (index-instant t img .status ≡ 0) × (index-instant t img .pair ≡ aggregate kind window cs t)
+  -- and it is the same from the start told up to the end told, the end left out: document 02, (viii)
+  pub holding :
+      (t u : ℕ) → t < END
+      → index-instant t img .start ≤ u → u < index-instant t img .end
+      → aggregate kind window cs u ≡ aggregate kind window cs t
   pub averages :
       (t : ℕ) → t < END
       → index-average t img ≡ record { status = 0; average = average kind (aggregate kind window cs t) }
@@ -161,6 +170,7 @@ pub record Headed (kind window field : ℕ) (img : List ℕ) (cs : List Change) 
 pub record The-demands : Type 0 where
   pub demand-1 : Demand-1
   pub demand-1-statuses : Turned-back
+  pub until-when : Until-when
   pub steps : Steps
   -- "The book is fed .. each call's arguments and, of enter and withdraw, the number returned; never the image."
   pub fed :

@@ -8,12 +8,12 @@ use lib.ListN.{length}
 use lib.Dec.{eqb, ltb}
 use lib.IntN.{ℤ}
 use Rattle.rule.specs.declared.Average.the-variants.{Nothing}
-use Rattle.rule.specs.Pairs.{none}
 use Rattle.page.specs.Layout.{capacity-ok, capacity-named, no-field}
 use Rattle.image.specs.Images.{capacity-field, half-of}
 use Rattle.calls.specs.Changes.{Side}
 use Rattle.calls.specs.Refusals.{first, borrowed}
-use Rattle.calls.specs.Calls.{Formatted, Booked, Instant, Averaged, Listed, Audited, format, book, instant, average-at, listing, audit}
+use Rattle.calls.specs.Calls.{Formatted, Booked, Instant, Averaged, Listed, Audited}
+use Rattle.calls.specs.Calls.{format, book, no-instant, instant, average-at, listing, audit}
 
 -- the field names a capacity
 unfoldable pub names-capacity : List ℕ → Bool
@@ -48,7 +48,7 @@ index-book-bytewise side v s e img scratch =
     (λ half. book (λ pages. pages) half side v s e img scratch) img
 
 unfoldable pub index-instant : ℕ → List ℕ → Instant
-index-instant t img = judged (λ number. record { status = number; pair = none; pages = 0 }) (λ half. instant half t img) img
+index-instant t img = judged (λ number. no-instant number 0) (λ half. instant half t img) img
 
 unfoldable pub index-average : ℕ → List ℕ → Averaged
 index-average t img = judged (λ number. record { status = number; average = Nothing }) (λ half. average-at half t img) img

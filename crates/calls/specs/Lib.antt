@@ -2,6 +2,7 @@ pub mod Changes
 pub mod Refusals
 pub mod Calls
 pub mod Index
+pub mod Until
 pub mod Tables
 pub mod Scratch
 pub mod Book

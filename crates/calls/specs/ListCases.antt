@@ -10,7 +10,7 @@ use Rattle.rule.specs.Time.{END}
 use Rattle.rule.specs.Pairs.{pair, none}
 use Rattle.fields.specs.Bytes.{patch}
 use Rattle.calls.specs.Changes.{entering, withdrawing, Change}
-use Rattle.calls.specs.Calls.{Booked}
+use Rattle.calls.specs.Calls.{Booked, no-instant}
 use Rattle.calls.specs.Index.{index-format, format-before, index-book, index-instant, index-average, index-listing, index-audit}
 use Rattle.calls.specs.Book.{Book, empty-book, entered, book-of}
 use Rattle.calls.specs.Trace.{Step, Trace, Throughout, change-made}
@@ -88,7 +88,8 @@ pub record List-cases : Type 0 where
   -- What a refused booking and a refused format leave is what they found.
   pub refused-leaves : (enters (pos 3) 20 50 after-one .image ≡ after-one) × (index-format 4 0 4 after-one .image ≡ after-one)
   -- What a booking leaves is what the next call finds.
-  pub left-one : index-instant 20 after-one ≡ record { status = 0; pair = pair (pos 6) (pos 1); pages = 1 }
+  pub left-one : index-instant 20 after-one ≡ record { status = 0; pair = pair (pos 6) (pos 1); start = 10; end = 40; pages = 1 }
+  pub not-left : index-instant END after-one ≡ no-instant 12 0
   pub left-twice : index-instant 20 (enters (pos 6) 10 40 after-one .image) .pair ≡ pair (pos 12) (pos 2)
   pub left-two : index-instant 20 after-two .pair ≡ none
   pub left-three :
@@ -100,7 +101,7 @@ pub record List-cases : Type 0 where
       × (index-average 40 after-one ≡ record { status = 0; average = Nothing })
       × (index-average END after-one ≡ record { status = 12; average = Nothing })
   pub averaged-greatest :
-      (index-instant 20 greatest-one ≡ record { status = 0; pair = pair (pos 6) (pos 1); pages = 1 })
+      (index-instant 20 greatest-one ≡ record { status = 0; pair = pair (pos 6) (pos 1); start = 10; end = 40; pages = 1 })
       × (index-average 20 greatest-one ≡ record { status = 0; average = Nothing })
   -- A booking that returned 0 made its change, and one that was refused made none.
   pub made-by-status : (change-made 0 (entry (pos 3) 20 50) ≡ entry (pos 3) 20 50 ∷ []) × (change-made 24 (entry (pos 3) 20 50) ≡ [])

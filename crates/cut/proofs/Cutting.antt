@@ -17,7 +17,7 @@ use Rattle.steps.specs.Cut.{Cutting, cut-leaf-entry, not-split, split, split-if
 use Rattle.store.specs.declared.Found.{Found}
 use Rattle.store.specs.Encoding.{Encodes, Post-level}
 use Rattle.store.specs.Preconditions.{In-image, Searchable, found-in, entry-for}
-use Rattle.store.proofs.Reading.{slot-inside}
+use Rattle.page.proofs.Laws.Indices.{index-in}
 use Rattle.store.proofs.Supplying.{within-put, within-taken}
 use Rattle.cut.specs.declared.SplitOutcome.{SplitOutcome}
 use Rattle.cut.specs.declared.SplitOutcome.the-variants.{Same, Split}
@@ -86,12 +86,12 @@ pub record Searched (half : ℕ) (e : Entry) (level t : ℕ) (X : Image) (f : Fo
   pub index : f .index ≡ index-of t (entries X (e .child))
   pub entry : f .entry ≡ entry-for t (e .child) X
 
-pub searched : {half : ℕ} {img : List ℕ} {level t : ℕ} {X : Image} {f : Found} (e : Entry) → (level ≡ 0 → ⊥) → Encodes half img X
+pub searched : {half : ℕ} {img : List ℕ} {level t : ℕ} {X : Image} {f : Found} (e : Entry) (hi : ℕ) → (level ≡ 0 → ⊥) → Encodes half img X
     → Entry-cuttable half level e t X
-    → Post-level half img (λ l. Searchable l (e .child) t) (λ l Y. f ≡ found-in t (entries Y (e .child)))
+    → Post-level half img (λ l. Searchable l (e .child) t) (λ l Y. f ≡ found-in hi t (entries Y (e .child)))
     → Searched half e level t X f
 unfolding found-in
-searched {half} {level = level} {t} {X} e d h r finds =
+searched {half} {level = level} {t} {X} e hi d h r finds =
     let k = page-cuttable e d r in
     let found = finds X h (level - 1) (k .0 .searchable) in
     record {
@@ -149,7 +149,7 @@ module _ {half : ℕ} {e : Entry} {level t : ℕ} {X : Image} {f : Found} (k : S
                           (s .tree-page .within);
                       page = r .kept ∙ s .tree-page .page ∙ ap (tree (level - 1)) (sym same-entries);
                     };
-                inside = omega (arith, n, k .index, slot-inside t (entries X p) (s .some));
+                inside = omega (arith, n, k .index, index-in t (entries X p) (s .some));
               };
           low = r .low;
           room = λ many. r .room (omega (arith, two)) (omega (arith, n));

@@ -18,7 +18,7 @@ pub fn cut(half: usize, img: &mut [u8], t: u32)
         return;
     }
     let h = head_of(half, img);
-    let SplitOutcome::Split(start, q) = cut_entry(half, img, h.height, root_entry(h), t) else {
+    let SplitOutcome::Split(start, q) = cut_entry(half, img, h.height, root_entry(h), END, t) else {
         return;
     };
     grow_root(half, img, h.root, start, q)

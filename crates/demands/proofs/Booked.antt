@@ -22,7 +22,7 @@ use Rattle.page.specs.Layout.{page-size}
 use Rattle.page.specs.Fit.{most-changes, most-height}
 use Rattle.image.specs.Images.{Image, capacity-field, page-at, cell-bytes, image-of, image-bytes}
 use Rattle.image.specs.Sound.{sound}
-use Rattle.image.specs.Instant.{Lookup, look-up}
+use Rattle.image.specs.Instant.{look-up}
 use Rattle.soundness.proofs.Sound.{the-head, sound-facts}
 use Rattle.steps.specs.Change.{change, change-names}
 use Rattle.calls.specs.Refusals.{borrowed}
@@ -165,8 +165,8 @@ module _ {half : ℕ} (two : 2 ≤ half) (side : Side) (v : ℤ) (s e : ℕ) (im
       let k : the-head half (image-bytes half Z) .kind ≡ X .head .kind =
       ap (λ (h : Head). h .kind) (head-read-back half Z U some (g′ .structure) tall′) ∙ c .kind in
       let before : look-up half img t .pair ≡ pair-at (combine (X .head .kind)) (Y .tree) t =
-      ap (λ (r : Lookup). r .pair) (look-invariant half img some (sound-facts half img (a .whole)) Y (g .structure .shown) t .looked) in
-      ap (λ (r : Lookup). r .pair) (look-written half Z U some (g′ .structure) tall′ t .looked)
+      look-invariant half img some (sound-facts half img (a .whole)) Y (g .structure .shown) t .looked .pair in
+      look-written half Z U some (g′ .structure) tall′ t .looked .pair
       ∙ ap (λ n. pair-at (combine n) (U .tree) t) k
       ∙ next-pairs two s end added g t below
       ∙ ap (λ q. cond (covers s end t) (combine (X .head .kind) q (effect side v)) q) (sym before)

@@ -2,13 +2,14 @@
 use Prim.Native.Nat.{ℕ, _<_}
 use mathlib.Core.Path.{_≡_, sym, ap, _∙_}
 use mathlib.Core.List.{List}
+use native.Mathlib.Omega.{arith}
 use lib.ListN.{length}
 use Rattle.rule.specs.Time.{END}
 use Rattle.rule.specs.Averages.{average}
 use Rattle.calls.specs.Changes.{Change}
 use Rattle.image.specs.Sound.{sound}
-use Rattle.calls.specs.Calls.{head}
-use Rattle.calls.specs.Index.{index-listing}
+use Rattle.calls.specs.Calls.{Instant, head}
+use Rattle.calls.specs.Index.{index-instant, index-listing}
 use Rattle.calls.specs.Book.{Book, book-of, book-pair}
 use Rattle.calls.specs.Aggregate.{aggregate}
 use Rattle.calls.specs.Trace.{Trace, formatted, formatted-before, extended, Throughout}
@@ -16,6 +17,7 @@ use Rattle.calls.specs.Demands.{Demand-2, Demand-3-list, Same-changes, Headed, 
 use Rattle.calls.proofs.Tables.{turned-back}
 use Rattle.calls.proofs.Steps.{steps}
 use Rattle.answers.proofs.Demand.{demand-1}
+use Rattle.answers.proofs.Until.{until-when}
 use Rattle.answers.proofs.Own.{sound-own}
 use Rattle.demands.proofs.Book.Books.{book-fed, book-is, items-length}
 use Rattle.demands.proofs.Book.Aggregates.{book-aggregate, aggregate-live}
@@ -28,7 +30,10 @@ module _ {kind window field : ℕ} where
   demand-2 : {img : List ℕ} {cs : List Change} → Reached kind window field img cs → Demand-2 kind window img cs
   demand-2 {img} {cs} R =
       record {
-        instants = λ t l. let r = instant-told (R .kept) t l in (r .0, r .1 ∙ pair-is t l);
+        instants = told;
+        holding = λ t u l a b.
+            let k = until-when .holds t img (told t l .0) in
+            sym (told u (omega (arith, k .most)) .1) ∙ ap (λ (r : Instant). r .pair) (k .same u a b) ∙ told t l .1;
         averages =
             λ t l. average-told (R .kept) t l
             ∙ (λ i. record { status = 0; average = average (book-kind kind window cs i) (pair-is t l i) });
@@ -39,6 +44,9 @@ module _ {kind window field : ℕ} where
     where
       pair-is : (t : ℕ) → t < END → book-pair (book-of kind window cs) t ≡ aggregate kind window cs t
       pair-is t l = book-aggregate kind window t l (R .spanned) (R .sided)
+
+      told : (t : ℕ) → t < END → (index-instant t img .status ≡ 0) × (index-instant t img .pair ≡ aggregate kind window cs t)
+      told t l = let r = instant-told (R .kept) t l in (r .0, r .1 ∙ pair-is t l)
 
   headed : {img : List ℕ} {cs : List Change} → Reached kind window field img cs → Headed kind window field img cs
   headed {img} {cs} R =
@@ -72,6 +80,7 @@ the-demands =
     record {
       demand-1 = demand-1;
       demand-1-statuses = turned-back;
+      until-when = until-when;
       steps = steps;
       fed = book-fed;
       demand-2 = λ T. demand-2 (reached T);

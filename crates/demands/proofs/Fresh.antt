@@ -18,7 +18,6 @@ use Rattle.page.specs.Fit.{most-height, field-ok}
 use Rattle.image.specs.Images.{Image, capacity-field, pages-in, length-ok, image-of, image-bytes, fresh}
 use Rattle.lists.specs.Lists.{times}
 use Rattle.image.specs.Sound.{sound}
-use Rattle.image.specs.Instant.{Lookup}
 use Rattle.calls.specs.Calls.{head, format-status, format}
 use Rattle.calls.specs.Book.{empty-book, items-pair, book-pair}
 use Rattle.tree.specs.Tree.{Node, Subtree, node-of, pair-under, pair-in, pages-under}
@@ -114,7 +113,7 @@ module _ (half pages kind window field : ℕ) (some : 1 ≤ half) (least : 2 ≤
         changes = ap (λ (g : Head). g .changes) h ∙ unfold fresh in refl;
         pairs =
             λ t below.
-            ap (λ (r : Lookup). r .pair) (look-written half X fresh-state some fresh-structure tall t .looked) ∙ fresh-pair _ t;
+            look-written half X fresh-state some fresh-structure tall t .looked .pair ∙ fresh-pair _ t;
       }
 
 -- ---- format

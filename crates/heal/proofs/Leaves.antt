@@ -36,7 +36,7 @@ module _ (t i : ℕ) (es : List Entry) where
 
 -- ---- the entry that has t
 
-module _ (t p : ℕ) (X : Image) {f : Found} (g : f ≡ found-in t (entries X p)) where
+module _ (hi t p : ℕ) (X : Image) {f : Found} (g : f ≡ found-in hi t (entries X p)) where
   pub found-read : {level : ℕ} → Searchable level p t X → Entry-read (f .entry) level p (f .index) X
   unfolding found-in
   found-read {level} s =

@@ -58,11 +58,11 @@ pub record Found-inner (half kind t level p : ℕ) (X : Image) (f : Found) : Typ
       (heal-page half (combine kind) t (level - 1) (f .entry .child) X)
       ≡ heal-page half (combine kind) t level p X
 
-pub found-inner : {half : ℕ} {img : List ℕ} {kind t p level : ℕ} {X : Image} {f : Found} → (level ≡ 0 → ⊥) → Encodes half img X
+pub found-inner : {half : ℕ} {img : List ℕ} {kind t p level : ℕ} {X : Image} {f : Found} (hi : ℕ) → (level ≡ 0 → ⊥) → Encodes half img X
     → Page-healable half kind t level p X
-    → Post-level half img (λ v. Searchable v p t) (λ v Y. f ≡ found-in t (entries Y p)) → Found-inner half kind t level p X f
+    → Post-level half img (λ v. Searchable v p t) (λ v Y. f ≡ found-in hi t (entries Y p)) → Found-inner half kind t level p X f
 unfolding heal-page rebalance-if-short found-in
-found-inner {half} {kind = kind} {t} {p} {level} {X} e h r finds =
+found-inner {half} {kind = kind} {t} {p} {level} {X} hi e h r finds =
     let above : suc (level - 1) ≡ level = omega arith in
     let k = inner e r in
     subst⁻¹ (Found-inner half kind t level p X) (finds X h _ (k .searchable))

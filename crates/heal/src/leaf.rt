@@ -34,13 +34,13 @@ fn heals(half: usize, img: &[u8], p: u32, i: usize, e: Entry, t: u32) -> bool
     (e.start == t) & alike(e, before)
 }
 
-// The leaf p. Nothing is written where no entry goes. The kind's rule has no part in it.
-pub(crate) fn heal_leaf(half: usize, img: &mut [u8], p: u32, t: u32)
+// The leaf p, which ends at hi. Nothing is written where no entry goes. The kind's rule has no part in it.
+pub(crate) fn heal_leaf(half: usize, img: &mut [u8], p: u32, hi: u32, t: u32)
     requires { ⌜ Pre half (now img) (Searchable 0 p t) ⌝ }
     ensures { λ _. ⌜ Post half (now (img .entry)) (Searchable 0 p t)
         (λ X. (kind : ℕ) → Encodes half (now (img .exit)) (heal-page half (combine kind) t 0 p X)) ⌝ }
 {
-    let found = find_entry(half, img, p, t);
+    let found = find_entry(half, img, p, hi, t);
     let i = found.index;
     if heals(half, img, p, i, found.entry, t) {
         remove_entry(half, img, p, i);

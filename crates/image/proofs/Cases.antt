@@ -1,7 +1,7 @@
 -- The cases hold: each is computed. Assumes nothing.
 use mathlib.Core.Path.{refl}
 use Rattle.rule.specs.Time.{value-ok, kind-ok, window-ok, overlaps}
-use Rattle.rule.specs.Pairs.{same-number, same-pair}
+use Rattle.rule.specs.Pairs.{same-number, same-pair, added, combine}
 use Rattle.fields.specs.Bytes.{part, patch, unused, all-are, every}
 use Rattle.fields.specs.Numbers.{num, digits, u32-at, i32-at, i64-at, u32-bytes, i32-bytes, i64-bytes}
 use Rattle.page.specs.Entries.{last-from, index-of}
@@ -15,11 +15,12 @@ use Rattle.image.specs.Sound.{tree-fit, tree-pages, chain-pages, each-on
 use Rattle.lists.specs.Lists.{times, all-of}
 use Rattle.image.specs.Trail.{each-in-turn, finds-fit, all-fit, up-to-unfit, visits, trail, entry-of, entries-over, every-entry}
 use Rattle.image.specs.Trail.{instant-trail, listing-trail, audit-trail}
+use Rattle.image.specs.Instant.{stopped, leaf-answer, above, look-by, look-up}
 use Rattle.image.specs.Looks.{pages-of, found-fit, chain-looks, audit-looks}
-use Rattle.image.specs.Cases.{cell, pages, both, whole, hurt, Cases}
+use Rattle.image.specs.Cases.{cell, pages, both, whole, hurt, tall-cell, tall, Cases}
 
 pub cases : Cases
-unfolding value-ok kind-ok window-ok same-number same-pair part patch unused all-are every num digits u32-at i32-at i64-at u32-bytes i32-bytes i64-bytes last-from index-of level-of entry-count listed start-at pair-at child-at entry-at entries-of unused-ok concat-map entry-bytes tree-bytes next-of free-bytes free-ok never-used-ok head-of head-bytes root-context end-at context-below fewest entry-count-ok starts-ok child-ok children-ok pair-ok pairs-ok page-fit capacity-ok capacity-named ranges-ok field-ok head-fit page-at pages-in length-ok cell-bytes image-bytes tree-fit tree-pages chain-pages times all-of each-once sound overlaps each-in-turn finds-fit all-fit up-to-unfit visits trail entry-of entries-over every-entry instant-trail listing-trail audit-trail pages-of found-fit chain-looks audit-looks cell pages both whole hurt
+unfolding value-ok kind-ok window-ok same-number same-pair part patch unused all-are every num digits u32-at i32-at i64-at u32-bytes i32-bytes i64-bytes last-from index-of level-of entry-count listed start-at pair-at child-at entry-at entries-of unused-ok concat-map entry-bytes tree-bytes next-of free-bytes free-ok never-used-ok head-of head-bytes root-context end-at context-below fewest entry-count-ok starts-ok child-ok children-ok pair-ok pairs-ok page-fit capacity-ok capacity-named ranges-ok field-ok head-fit page-at pages-in length-ok cell-bytes image-bytes tree-fit tree-pages chain-pages times all-of each-once sound overlaps each-in-turn finds-fit all-fit up-to-unfit visits trail entry-of entries-over every-entry instant-trail listing-trail audit-trail pages-of found-fit chain-looks audit-looks added combine stopped leaf-answer above look-by look-up cell pages both whole hurt tall-cell tall
 cases =
     record {
       whole-sound = refl;
@@ -37,6 +38,10 @@ cases =
       chain-to-tree = refl;
       chain-short = refl;
       chain-out = refl;
+      starts = refl;
+      ends = refl;
+      tall-ends = (refl, refl);
+      not-told = refl;
       listing-both = refl;
       listing-left = refl;
       listing-right = refl;

@@ -18,7 +18,7 @@ use Rattle.page.specs.Entries.{index-of}
 use Rattle.page.specs.Layout.{entry-count, start-at, pair-at, child-at, entries-of, head-of}
 use Rattle.page.specs.Fit.{Page-context, root-context, context-below, fewest, end-at, page-fit}
 use Rattle.image.specs.Images.{page-at}
-use Rattle.image.specs.Instant.{Lookup, stopped, leaf-answer, above, look, look-up}
+use Rattle.image.specs.Instant.{Lookup, stopped, leaf-answer, above, look-by, look, look-up}
 use Rattle.image.specs.Listing.{Walked, nothing, then, in-turn, under, leaf-run, walk-page, walk, walk-over}
 use Rattle.image.specs.Listing
 use Rattle.image.specs.Trail.{Visit, each-in-turn, finds-fit, all-fit, up-to-unfit, Ends-unfit, visits, trail, entry-of, entries-over}
@@ -33,7 +33,7 @@ each-none f k zero l = refl
 each-none f k (suc n) l =
     λ j. each-none f k n (omega arith) j ++ cond (ne-eqb n k (λ e. omega arith) j) (f n) []
 
-each-one : (f : ℕ → List Visit) (k n : ℕ) → k < n → each-in-turn n (λ i. cond (eqb i k) (f i) []) ≡ f k
+pub each-one : (f : ℕ → List Visit) (k n : ℕ) → k < n → each-in-turn n (λ i. cond (eqb i k) (f i) []) ≡ f k
 unfolding each-in-turn
 each-one f k zero l = absurd (omega arith)
 each-one f k (suc n) l = go (decLt k n) (each-one f k n)
@@ -65,6 +65,14 @@ module _ (half : ℕ) (h : Head) (img : List ℕ) where
           → c && all-fit half h img (cond c (up-to-unfit half h img vs) []) ≡ c && all-fit half h img vs
       go true e = e
       go false e = refl
+
+  -- and one that meets none is the whole
+  pub up-to-all : (vs : List Visit) → all-fit half h img vs ≡ true → up-to-unfit half h img vs ≡ vs
+  unfolding all-fit up-to-unfit
+  up-to-all [] e = refl
+  up-to-all (v ∷ vs) e =
+      let k = and-eq-true-iff (finds-fit half h img v) (all-fit half h img vs) .0 e in
+      λ j. v ∷ (ap (λ c. cond c (up-to-unfit half h img vs) []) (k .0) ∙ up-to-all vs (k .1)) j
 
   pub each-fits : {v : Visit} {vs : List Visit} → List·Memᴰ v vs → all-fit half h img vs ≡ true → finds-fit half h img v ≡ true
   unfolding all-fit
@@ -106,14 +114,15 @@ module _ (half : ℕ) (h : Head) (img : List ℕ) where
   -- ---- an instant
 
   -- what was found, by the looks: whether all pages are fit, and how many were read
-  record Told (r : Lookup) (vs : List Visit) : Type 0 where
+  pub record Told (r : Lookup) (vs : List Visit) : Type 0 where
     pub fit : r .fit ≡ all-fit half h img vs
     pub pages : r .pages ≡ length (up-to-unfit half h img vs)
 
-  at-leaf : (c : Bool) (q : Pair) (v : Visit) → finds-fit half h img v ≡ c → Told (cond c (leaf-answer q) stopped) (v ∷ [])
+  at-leaf : (c : Bool) (q : Pair) (start end : ℕ) (v : Visit) → finds-fit half h img v ≡ c
+      → Told (cond c (leaf-answer q start end) stopped) (v ∷ [])
   unfolding all-fit up-to-unfit leaf-answer stopped
-  at-leaf true q v e = record { fit = λ j. sym e j && true; pages = λ j. length (v ∷ cond (sym e j) [] []) }
-  at-leaf false q v e = record { fit = λ j. sym e j && true; pages = λ j. length (v ∷ cond (sym e j) [] []) }
+  at-leaf true q start end v e = record { fit = λ j. sym e j && true; pages = λ j. length (v ∷ cond (sym e j) [] []) }
+  at-leaf false q start end v e = record { fit = λ j. sym e j && true; pages = λ j. length (v ∷ cond (sym e j) [] []) }
 
   at-inner : (c : Bool) (comb : Pair → Pair → Pair) (q : Pair) (r : Lookup) (v : Visit) (below : List Visit)
       → finds-fit half h img v ≡ c
@@ -128,10 +137,10 @@ module _ (half : ℕ) (h : Head) (img : List ℕ) where
       }
   at-inner false comb q r v below e told = record { fit = λ j. sym e j && true; pages = λ j. length (v ∷ cond (sym e j) [] []) }
 
-  look-told : (t l : ℕ) (at : Page-context) (p : ℕ) → 1 ≤ fewest half at
+  pub look-told : (t l : ℕ) (at : Page-context) (p : ℕ) → 1 ≤ fewest half at
       → Told (look half h img t l at p) (visits half h img (entry-of half t) l at p)
-  unfolding look visits finds-fit entry-of fewest context-below
-  look-told t zero at p some = at-leaf (page-fit half h at (page-at half img p)) _ (record { at = at; page = p }) refl
+  unfolding look-by visits finds-fit entry-of fewest context-below
+  look-told t zero at p some = at-leaf (page-fit half h at (page-at half img p)) _ _ _ (record { at = at; page = p }) refl
   look-told t (suc l) at p some =
       at-inner (page-fit half h at s) (combine (h .kind)) (pair-at half s i)
       (look half h img t l (context-below half s at i) (child-at half s i))

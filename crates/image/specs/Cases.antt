@@ -1,8 +1,9 @@
--- Cases of the looks of a walk that compute, on pages of four entries (half of which is 2). Assumes nothing.
+-- Cases of the looks of a walk, and of the start and the end that an instant tells, that compute, on pages of four entries (half of which is
+-- 2). Assumes nothing.
 use Prim.Native.Nat.{ℕ, _*_, _+_}
 use mathlib.Core.Path.{_≡_}
-use mathlib.Core.Bool.{true, cond}
-use mathlib.Core.List.{List, [], _∷_}
+use mathlib.Core.Bool.{true, false, cond}
+use mathlib.Core.List.{List, [], _∷_, map}
 use lib.Dec.{eqb}
 use Rattle.rule.specs.Time.{END}
 use Rattle.rule.specs.Pairs.{none}
@@ -13,6 +14,7 @@ use Rattle.page.specs.Layout.{head-of}
 use Rattle.page.specs.Fit.{root-context}
 use Rattle.image.specs.Images.{Cell, tree, free, never-used, page-at, image-bytes}
 use Rattle.image.specs.Sound.{sound}
+use Rattle.image.specs.Instant.{look-up}
 use Rattle.image.specs.Trail.{visits, every-entry, instant-trail, listing-trail, audit-trail}
 use Rattle.image.specs.Looks.{pages-of, found-fit, audit-looks}
 
@@ -59,6 +61,37 @@ whole = pages 7 5 2 6 both
 unfoldable pub hurt : ℕ → List ℕ → List ℕ
 hurt p img = patch img (112 * p + 8) (0 ∷ [])
 
+-- Height 3: leaves from 0, 10, 20 and 30 on, of two entries each, on pages 1 to 4; over them pages 5 and 6, and the root, page 7.
+unfoldable pub tall-cell : ℕ → Cell
+tall-cell p =
+    cond (eqb p 1) (tree 0 (entry 0 none 0 ∷ entry 5 none 0 ∷ []))
+    (cond (eqb p 2) (tree 0 (entry 10 none 0 ∷ entry 15 none 0 ∷ []))
+    (cond (eqb p 3) (tree 0 (entry 20 none 0 ∷ entry 25 none 0 ∷ []))
+    (cond (eqb p 4) (tree 0 (entry 30 none 0 ∷ entry 35 none 0 ∷ []))
+    (cond (eqb p 5) (tree 1 (entry 0 none 1 ∷ entry 10 none 2 ∷ []))
+    (cond (eqb p 6) (tree 1 (entry 20 none 3 ∷ entry 30 none 4 ∷ []))
+    (tree 2 (entry 0 none 5 ∷ entry 20 none 6 ∷ [])))))))
+
+unfoldable pub tall : List ℕ
+tall =
+    image-bytes 2
+    (record {
+      head =
+          record {
+            pages = 8;
+            height = 3;
+            root = 7;
+            free = 0;
+            chain = 0;
+            mark = 8;
+            kind = 1;
+            window = 0;
+            changes = 0;
+            capacity = 4;
+          };
+      page = tall-cell;
+    })
+
 pub record Cases : Type 0 where
   -- An audit of a sound image looks at each page once.
   pub whole-sound : sound 2 whole ≡ true
@@ -88,6 +121,19 @@ pub record Cases : Type 0 where
   pub chain-short : audit-looks 2 (pages 7 4 2 6 both) ≡ 3 ∷ 1 ∷ 2 ∷ 4 ∷ 6 ∷ []
   -- A link to the page behind the last is not followed.
   pub chain-out : audit-looks 2 (patch (pages 7 5 2 6 both) (112 * 5 + 4) (7 ∷ [])) ≡ 3 ∷ 1 ∷ 2 ∷ 5 ∷ 6 ∷ []
+  -- An instant tells the start and the end of its leaf entry: the last one of a page ends where the page does, the very last at END.
+  pub starts :
+      map (λ t. look-up 2 whole t .start) (0 ∷ 9 ∷ 10 ∷ 14 ∷ 15 ∷ 24 ∷ 25 ∷ 4294967294 ∷ [])
+      ≡ 0 ∷ 0 ∷ 10 ∷ 10 ∷ 15 ∷ 20 ∷ 25 ∷ 25 ∷ []
+  pub ends :
+      map (λ t. look-up 2 whole t .end) (0 ∷ 9 ∷ 10 ∷ 14 ∷ 15 ∷ 24 ∷ 25 ∷ 4294967294 ∷ [])
+      ≡ 10 ∷ 10 ∷ 15 ∷ 15 ∷ 20 ∷ 25 ∷ END ∷ END ∷ []
+  -- At height 3 the last entry of a page ends where its parent does, be that the last of its page too.
+  pub tall-ends :
+      (map (λ t. look-up 2 tall t .start) (4 ∷ 9 ∷ 19 ∷ 29 ∷ 35 ∷ []) ≡ 0 ∷ 5 ∷ 15 ∷ 25 ∷ 35 ∷ [])
+      × (map (λ t. look-up 2 tall t .end) (4 ∷ 9 ∷ 19 ∷ 29 ∷ 35 ∷ []) ≡ 5 ∷ 10 ∷ 20 ∷ 30 ∷ END ∷ [])
+  -- and neither where a page that it met is unfit
+  pub not-told : look-up 2 (hurt 2 whole) 20 ≡ record { fit = false; pair = none; start = 0; end = 0; pages = 2 }
   -- A listing meets no page that ends at a or starts at b, hurt or not.
   pub listing-both : pages-of (listing-trail 2 14 16 whole) ≡ 3 ∷ 1 ∷ 2 ∷ []
   pub listing-left : pages-of (listing-trail 2 0 15 (hurt 2 whole)) ≡ 3 ∷ 1 ∷ []

@@ -1,6 +1,7 @@
 pub mod Images
 pub mod Sound
 pub mod Instant
+pub mod Descent
 pub mod Listing
 pub mod Trail
 pub mod Looks

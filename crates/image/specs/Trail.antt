@@ -1,7 +1,7 @@
 -- The pages that a walk from the root looks at, each with the context where it stands, in turn. An instant goes below the entry that
 -- has it, a listing below each entry that overlaps its span, an audit below every entry. "if a page is unfit, the pages up to and
 -- including it": there a walk ends. Assumes nothing.
-use Prim.Native.Nat.{ℕ, zero, suc, _-_}
+use Prim.Native.Nat.{ℕ, zero, suc, _-_, _<_}
 use mathlib.Core.Path.{_≡_}
 use mathlib.Core.Bool.{Bool, true, false, cond, _&&_}
 use mathlib.Core.List.{List, [], _∷_, _++_}
@@ -59,6 +59,17 @@ module _ (half : ℕ) (h : Head) (img : List ℕ) where
   -- a walk from the root
   unfoldable pub trail : (Page-context → List ℕ → ℕ → Bool) → List Visit
   trail into = up-to-unfit (visits into (h .height - 1) (root-context h) (h .root))
+
+-- Looks that end at a leaf, and the start and the end of one of its entries. Document 02, (viii): "the start and end of its leaf entry".
+pub record Leaf-entry (half : ℕ) (img : List ℕ) (looks : List Visit) (start end : ℕ) : Type 0 where
+  pub before : List Visit
+  pub last : Visit
+  pub in-turn : looks ≡ before ++ (last ∷ [])
+  pub leaf : last .at .level ≡ 0
+  pub index : ℕ
+  pub one : index < entry-count (page-at half img (last .page))
+  pub starts : start ≡ start-at (page-at half img (last .page)) index
+  pub ends : end ≡ end-at (page-at half img (last .page)) (last .at .hi) index
 
 -- the last entry that starts at t or before; each entry that overlaps [a, b); every entry
 unfoldable pub entry-of : ℕ → ℕ → Page-context → List ℕ → ℕ → Bool

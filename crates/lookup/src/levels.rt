@@ -2,19 +2,15 @@
 use super::LevelAnswer;
 use super::find::find;
 use access::pages::page_at;
-use fit::contexts::context_below;
 use fit::tree_page::page_fit;
 use page::Head;
 use page::PageContext;
-use page::at::child_at;
+use page::at::entry_at;
 use page::at::entry_count;
-use page::at::pair_at;
 ghost use mathlib.Core.Path.{_≡_};
-ghost use Prim.Native.Nat.{_≤_, _<_};
+ghost use Prim.Native.Nat.{_≤_};
 ghost use lib.ListN.{length};
-ghost use Rattle.page.specs.Fit.{context-below};
-ghost use Rattle.page.specs.Layout.{capacity, page-size, entry-count};
-ghost use Rattle.fit.specs.Contexts.{Bounded};
+ghost use Rattle.page.specs.Layout.{page-size};
 ghost use Rattle.image.specs.Images.{page-at};
 ghost use Rattle.access.specs.Access.{Page-in};
 ghost use Rattle.lookup.specs.Levels.{On-path, level-answer};
@@ -28,8 +24,8 @@ fn page_answer(half: usize, s: &[u8], h: Head, at: PageContext, t: u32) -> Level
     if !page_fit(half, s, h, at) {
         return LevelAnswer::Unfit;
     }
-    let i = find(s, entry_count(s) as usize, t);
-    LevelAnswer::Entry(pair_at(half, s, i), child_at(half, s, i), i)
+    let found = find(s, entry_count(s) as usize, at.hi, t);
+    LevelAnswer::Entry(entry_at(half, s, found.index), found.end)
 }
 
 // The answer of page p of the image.
@@ -46,14 +42,4 @@ pub(crate) fn level_answer(
     ensures { λ r. ⌜ r ≡ level-answer half h at t (page-at half (now (img .entry)) p) ⌝ }
 {
     page_answer(half, page_at(half, img, p), h, at, t)
-}
-
-// The context under the i-th entry of page p, which has been found fit.
-pub(crate) fn below(half: usize, img: &[u8], p: u32, at: PageContext, i: usize) -> PageContext
-    requires { ⌜ Page-in half (now img) p ⌝ }
-    requires { ⌜ (i < capacity half) × (entry-count (page-at half (now img) p) ≤ capacity half) ⌝ }
-    requires { ⌜ (1 ≤ at .level) × Bounded at ⌝ }
-    ensures { λ r. ⌜ r ≡ context-below half (page-at half (now (img .entry)) p) at i ⌝ }
-{
-    context_below(half, page_at(half, img, p), at, i)
 }

@@ -22,7 +22,8 @@ judgement img = cond (eqb (judge img) 0) (Half (half-of img)) (Refused (judge im
 
 -- the numbers of an instant call's answer
 unfoldable pub instant-answer : Instant → InstantAnswer
-instant-answer r = record { status = r .status; pages = r .pages; sum = r .pair .sum; count = r .pair .count }
+instant-answer r =
+    record { status = r .status; pages = r .pages; sum = r .pair .sum; count = r .pair .count; start = r .start; end = r .end }
 
 -- its pair
 abbrev pub pair-of : InstantAnswer → Pair

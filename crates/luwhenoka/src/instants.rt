@@ -1,4 +1,4 @@
-// "An instant's answer combines the pairs on its way from root to leaf."
+// "An instant's answer combines the pairs on its way from root to leaf." "the instant answer gains the start and end of its leaf entry."
 use crate::InstantAnswer;
 use crate::Judged;
 use crate::judge::judge;
@@ -9,41 +9,46 @@ use calls::refusals::ACCEPTED;
 use calls::refusals::IMAGE_LENGTH;
 use calls::refusals::INSTANT_END;
 use calls::refusals::UNSOUND;
+use lookup::Holding;
 use lookup::LookupAnswer;
 use lookup::look_up::look_up;
-use rule::Pair;
 use rule::limits::END;
 ghost use mathlib.Core.Path.{_≡_};
 ghost use Prim.Native.Nat.{_≤_};
-ghost use Rattle.rule.specs.Pairs.{none};
-ghost use Rattle.calls.specs.Calls.{instant};
+ghost use Rattle.calls.specs.Calls.{no-instant, instant};
 ghost use Rattle.luwhenoka.specs.Answers.{instant-answer};
 ghost use Rattle.luwhenoka.specs.Promises.{Answers};
 
 // "A refusal returns its number and zeros (instant: the pages read too)."
 fn refused(status: u32, pages: u32) -> InstantAnswer
-    ensures { λ r. ⌜ r ≡ instant-answer (record { status = status; pair = none; pages = pages }) ⌝ }
+    ensures { λ r. ⌜ r ≡ instant-answer (no-instant status pages) ⌝ }
 {
     InstantAnswer {
         status: status,
         pages: pages,
         sum: 0,
         count: 0,
+        start: 0,
+        end: 0,
     }
 }
 
-fn accepted(pair: Pair, pages: u32) -> InstantAnswer
-    ensures { λ r. ⌜ r ≡ instant-answer (record { status = 0; pair = pair; pages = pages }) ⌝ }
+fn accepted(found: Holding, pages: u32) -> InstantAnswer
+    ensures { λ r. ⌜ r ≡ instant-answer
+        (record { status = 0; pair = found .pair; start = found .start; end = found .end; pages = pages }) ⌝ }
 {
+    let pair = found.pair;
     InstantAnswer {
         status: ACCEPTED,
         pages: pages,
         sum: pair.sum,
         count: pair.count,
+        start: found.start,
+        end: found.end,
     }
 }
 
-// The pair at t, and how many tree pages were read, by half the capacity. The order is 16, 12, 21.
+// The pair at t, from when until when it holds, and how many tree pages were read, by half the capacity. The order is 16, 12, 21.
 fn instant(half: usize, img: &[u8], t: u32) -> InstantAnswer
     requires { ⌜ (2 ≤ half) × (half ≤ 12) ⌝ }
     ensures { λ r. ⌜ r ≡ instant-answer (instant half t (now (img .entry))) ⌝ }
@@ -58,7 +63,7 @@ fn instant(half: usize, img: &[u8], t: u32) -> InstantAnswer
         return refused(UNSOUND, 0);
     };
     match look_up(half, img, h, t) {
-        LookupAnswer::Answered(pair, pages) => accepted(pair, pages),
+        LookupAnswer::Answered(found, pages) => accepted(found, pages),
         LookupAnswer::Unfit(pages) => refused(UNSOUND, pages),
     }
 }

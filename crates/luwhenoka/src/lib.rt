@@ -15,13 +15,15 @@ pub(crate) enum Judged {
     Refused(u32),
 }
 
-// The status, document 01's number, with the pair and the pages read.
+// The status, document 01's number, with the pair, the pages read, and the start and the end of the leaf entry that has the instant.
 #[repr(C)]
 pub struct InstantAnswer {
     pub status: u32,
     pub pages: u32,
     pub sum: i64,
     pub count: i32,
+    pub start: u32,
+    pub end: u32,
 }
 
 // What an average's answer is.

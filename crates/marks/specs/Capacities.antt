@@ -15,7 +15,7 @@ use Rattle.page.specs.Entries.{entry}
 use Rattle.page.specs.Layout.{capacity-ok, entries-of}
 use Rattle.image.specs.Images.{half-of, page-at}
 use Rattle.calls.specs.Changes.{entering}
-use Rattle.calls.specs.Calls.{Booked}
+use Rattle.calls.specs.Calls.{Booked, no-instant}
 use Rattle.calls.specs.Index.{judge, index-format, format-before, index-book, index-instant, index-average, index-listing, index-audit}
 
 -- two fresh pages of four entries
@@ -78,7 +78,7 @@ pub record Capacity-cases : Type 0 where
   -- "scratch untouched", and no page is read
   pub bad-scratch : enters (with-field 5 of-four) ≡ record { status = 21; image = with-field 5 of-four; scratch = 7 ∷ 7 ∷ 7 ∷ [] }
   pub bad-audit : index-audit (with-field 5 of-four) (7 ∷ []) ≡ record { status = 21; scratch = 7 ∷ [] }
-  pub bad-instant : index-instant 4294967295 (with-field 5 of-four) ≡ record { status = 21; pair = none; pages = 0 }
+  pub bad-instant : index-instant 4294967295 (with-field 5 of-four) ≡ no-instant 21 0
   pub bad-average : index-average 0 (with-field 5 of-four) ≡ record { status = 21; average = Nothing }
   pub bad-listing : index-listing 9 9 (with-field 5 of-four) (7 ∷ []) ≡ record { status = 21; runs = 0; output = 7 ∷ [] }
   -- a length that is right for another K
@@ -87,17 +87,18 @@ pub record Capacity-cases : Type 0 where
   pub before : part of-before 36 4 ≡ replicate 4 255
   pub before-reads : (half-of of-before ≡ 12) × (statuses of-before ≡ replicate 5 0)
   pub before-kept : part (enters of-before .image) 36 4 ≡ replicate 4 255
-  pub before-answers : index-instant 39 (enters of-before .image) ≡ record { status = 0; pair = pair (pos 6) (pos 1); pages = 1 }
+  pub before-answers : index-instant 39 (enters of-before .image) ≡
+      record { status = 0; pair = pair (pos 6) (pos 1); start = 10; end = 40; pages = 1 }
   pub field-kept : part (enters of-four .image) 36 4 ≡ 4 ∷ 0 ∷ 0 ∷ 0 ∷ []
   -- FF in an image of other pages: 16
   pub before-length : statuses (with-field 4294967295 of-four) ≡ replicate 5 16
   -- "the head's range becomes 1 to 10 at every K"
-  pub height-10 : index-instant 0 (patch of-four 4 (u32-bytes 10)) ≡ record { status = 21; pair = none; pages = 1 }
-  pub height-11 : index-instant 0 (patch of-four 4 (u32-bytes 11)) ≡ record { status = 21; pair = none; pages = 0 }
+  pub height-10 : index-instant 0 (patch of-four 4 (u32-bytes 10)) ≡ no-instant 21 1
+  pub height-11 : index-instant 0 (patch of-four 4 (u32-bytes 11)) ≡ no-instant 21 0
   pub height-24 : map (λ img. index-instant 0 (patch img 4 (u32-bytes 10)) .pages) (of-before ∷ with-field 24 of-before ∷ []) ≡ 1 ∷ 1 ∷ []
   -- a page of four entries that says it has five: the fifth start would be a part of the first entry's sum
-  pub four : index-instant 0 (counted 4) ≡ record { status = 0; pair = pair (pos 4) (pos 0); pages = 1 }
-  pub five : index-instant 0 (counted 5) ≡ record { status = 21; pair = none; pages = 1 }
+  pub four : index-instant 0 (counted 4) ≡ record { status = 0; pair = pair (pos 4) (pos 0); start = 0; end = 1; pages = 1 }
+  pub five : index-instant 0 (counted 5) ≡ no-instant 21 1
   -- "a split keeps K/2 and moves K/2 + 1, and a neighbour gives from K/2 + 1 up"
   pub six-keeps : entries-of 3 (page-at 3 of-six 1) ≡ entry 0 none 0 ∷ entry 10 (pair (pos 1) (pos 1)) 0 ∷ entry 20 none 0 ∷ []
   pub six-moves : entries-of 3 (page-at 3 of-six 2) ≡
@@ -107,6 +108,6 @@ pub record Capacity-cases : Type 0 where
   -- "Half is K/2": a leaf left with two of its three entries is unfit
   pub six-fewest :
       index-instant 12 (patch (patch (patch of-six (152 + 4) (u32-bytes 2)) (152 + 40) (replicate 4 255)) (152 + 88) (replicate 16 255))
-      ≡ record { status = 21; pair = none; pages = 2 }
+      ≡ no-instant 21 2
   -- an image without the field is that of 24 but for these four bytes, after a change too
   pub before-alone : with-field 24 (enters of-before .image) ≡ enters (index-format 1 0 24 (replicate (512 * 2) 0) .image) .image

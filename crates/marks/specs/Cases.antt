@@ -16,7 +16,7 @@ use Rattle.image.specs.Images.{page-at, image-bytes, fresh}
 use Rattle.image.specs.Sound.{sound}
 use Rattle.image.specs.Listing.{run}
 use Rattle.calls.specs.Changes.{Side, entering, withdrawing}
-use Rattle.calls.specs.Calls.{head, runs-over}
+use Rattle.calls.specs.Calls.{head, no-instant, runs-over}
 use Rattle.calls.specs.Refusals.{borrowed}
 use Rattle.calls.specs.Index.{index-format, index-book, index-instant, index-listing, index-audit, index-audit-bytewise}
 use Rattle.calls.specs.Program.{program}
@@ -90,13 +90,24 @@ pub record Cases : Type 0 where
   pub clip : runs-over half 20 30 one-booking ≡ run 20 (pair (pos 6) (pos 1)) ∷ []
   pub clip-3 : runs-over half 20 41 one-booking ≡ run 20 (pair (pos 6) (pos 1)) ∷ run 40 none ∷ []
   -- At height 2 two pages are read, a leaf that is hurt counts, and after a hurt root no page.
-  pub pages-2 : index-instant 10 grown-root ≡ record { status = 0; pair = pair (pos 1) (pos 1); pages = 2 }
+  pub pages-2 : index-instant 10 grown-root ≡ record { status = 0; pair = pair (pos 1) (pos 1); start = 10; end = 15; pages = 2 }
   pub height-2 : runs-over 2 0 END grown-root ≡ run 0 none ∷ run 10 (pair (pos 1) (pos 1)) ∷ run 15 none
       ∷ run 20 (pair (pos 1) (pos 1)) ∷ run 25 none ∷ []
-  pub pages-hurt-leaf : index-instant 21 hurt-leaf ≡ record { status = 21; pair = none; pages = 2 }
-  pub left-leaf-unhurt : index-instant 11 hurt-leaf ≡ record { status = 0; pair = pair (pos 1) (pos 1); pages = 2 }
-  pub pages-hurt-root : index-instant 11 hurt-root ≡ record { status = 21; pair = none; pages = 1 }
-  pub pages-end : index-instant END hurt-root ≡ record { status = 12; pair = none; pages = 0 }
+  -- The start and the end are the leaf entry's: the last one of a page ends where the entry above does, the very last at END.
+  pub starts :
+      map (λ t. index-instant t grown-root .start) (0 ∷ 9 ∷ 10 ∷ 14 ∷ 15 ∷ 19 ∷ 24 ∷ 25 ∷ 4294967294 ∷ [])
+      ≡ 0 ∷ 0 ∷ 10 ∷ 10 ∷ 15 ∷ 15 ∷ 20 ∷ 25 ∷ 25 ∷ []
+  pub ends :
+      map (λ t. index-instant t grown-root .end) (0 ∷ 9 ∷ 10 ∷ 14 ∷ 15 ∷ 19 ∷ 24 ∷ 25 ∷ 4294967294 ∷ [])
+      ≡ 10 ∷ 10 ∷ 15 ∷ 15 ∷ 20 ∷ 20 ∷ 25 ∷ END ∷ END ∷ []
+  -- A refusal tells neither, though the tree has them at that instant: at END, at another length, with a high mark past the last page.
+  pub told-12 : index-instant END grown-root ≡ no-instant 12 0
+  pub told-16 : index-instant 20 (grown-root ++ (255 ∷ [])) ≡ no-instant 16 0
+  pub told-21 : index-instant 20 (patch grown-root 20 (u32-bytes 7)) ≡ no-instant 21 0
+  pub pages-hurt-leaf : index-instant 21 hurt-leaf ≡ no-instant 21 2
+  pub left-leaf-unhurt : index-instant 11 hurt-leaf ≡ record { status = 0; pair = pair (pos 1) (pos 1); start = 10; end = 15; pages = 2 }
+  pub pages-hurt-root : index-instant 11 hurt-root ≡ no-instant 21 1
+  pub pages-end : index-instant END hurt-root ≡ no-instant 12 0
   -- A page that starts at b is not met.
   pub b-starts-hurt : index-listing 0 15 hurt-leaf [] .status ≡ 15
   pub b-past-hurt : index-listing 0 16 hurt-leaf [] .status ≡ 21
@@ -174,11 +185,11 @@ pub record Cases : Type 0 where
       record { pages = 6; height = 2; root = 2; free = 0; chain = 0; mark = 4; kind = 1; window = 0; changes = 4; capacity = 4 }
   pub chain-root : entries-of 2 (page-at 2 again 2) ≡ entry 0 none 1 ∷ entry 15 none 3 ∷ []
   -- Absolute sums add up along the path; and every entry of a page that is met is asked.
-  pub path-bound : index-instant 0 (patch grown-root (3 * 112 + 48) (i64-bytes (pos 2000000))) ≡ record { status = 21; pair = none; pages = 2 }
+  pub path-bound : index-instant 0 (patch grown-root (3 * 112 + 48) (i64-bytes (pos 2000000))) ≡ no-instant 21 2
   pub path-within : index-instant 0 (patch grown-root (3 * 112 + 48) (i64-bytes (pos 1999999))) ≡
-      record { status = 0; pair = pair (pos 1999999) (pos 0); pages = 2 }
+      record { status = 0; pair = pair (pos 1999999) (pos 0); start = 0; end = 10; pages = 2 }
   pub other-entry : index-instant 5 (patch one-booking (512 + 32 + 96 + 16) (i64-bytes (pos 1000001))) ≡
-      record { status = 21; pair = none; pages = 1 }
+      no-instant 21 1
   -- A page split below the root: the parent gains an entry with the same pair.
   pub parent-pair-3 : entries-of 2 (page-at 2 split-below 3) ≡ entry 0 (pair (negsuc 1) (negsuc 0)) 1
       ∷ entry 4 (pair (negsuc 1) (negsuc 0)) 4 ∷ entry 9 (pair (pos 0) (pos 0)) 2 ∷ []

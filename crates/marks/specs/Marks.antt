@@ -69,7 +69,7 @@ example =
 
 pub record Marks : Type 0 where
   -- * "Fresh: instant 0 gives (0, 0), 1 page read."
-  pub fresh : index-instant 0 (formatted 64 1 0) ≡ record { status = 0; pair = none; pages = 1 }
+  pub fresh : index-instant 0 (formatted 64 1 0) ≡ record { status = 0; pair = none; start = 0; end = END; pages = 1 }
   -- * "Enter 6 on [10, 40): instant 9 (0, 0); * 10 and 39 (6, 1); * 40 (0, 0)."
   pub enters : status entering (pos 6) 10 40 (formatted 64 1 0) ≡ 0
   pub before : status-and-pair 9 one-booking ≡ (0, none)

@@ -3,25 +3,30 @@ use Prim.Native.Nat.{ℕ, zero, suc, _*_, _-_, _≤_, _<_}
 use mathlib.Core.Path.{_≡_, refl, sym, ap, _∙_, subst, subst⁻¹}
 use mathlib.Core.Bool.{Bool, true, false, cond}
 use mathlib.Core.List.{List}
+use native.Mathlib.Decide.{decLt}
 use native.Mathlib.Omega.{arith}
 use lib.Dec.{eqb}
 use lib.ListN.{length}
 use borrow.Author.Tests.{eq-eqb, ne-eqb}
+use Rattle.lists.proofs.Totals.{rises}
 use Rattle.page.specs.declared.Entry.{Entry}
 use Rattle.page.specs.Entries.{at as entry-in, index-of}
 use Rattle.page.specs.Layout.{capacity, level-of, entry-count, start-at, entry-at, entries-of}
-use Rattle.page.specs.Fit.{context-below, most-height}
+use Rattle.page.specs.Fit.{end-at, context-below, most-height}
 use Rattle.page.proofs.Laws.Trees.{length-entries-of, at-entries-of}
+use Rattle.fit.proofs.Laws.Spans.{bound-next, bound-in, bound-past}
 use Rattle.fit.proofs.Laws.Pages.{PageFit, entry-first}
 use Rattle.image.specs.Images.{Image, tree, entries-in, page-at, image-of}
 use Rattle.soundness.proofs.Tree.{tree-parts}
-use Rattle.page.proofs.Laws.Indices.{index-within, index-started}
+use Rattle.page.proofs.Laws.Indices.{index-within, index-started, index-is, index-next}
 use Rattle.store.specs.declared.Found.{Found}
 use Rattle.store.specs.Encoding.{Pre-level, Post-level}
 use Rattle.store.specs.Preconditions.{Searchable, found-in}
 use Rattle.store.proofs.Encoding.{holds-pages}
 use Rattle.soundness.proofs.Tree.{tree-top}
+use Rattle.store.proofs.Reading.{lent-end}
 use Rattle.steps.specs.Supply.{entries}
+use Rattle.steps.specs.Combine.{end-in}
 use Rattle.image.proofs.Cells.{cell-tree}
 use Rattle.page_need.specs.declared.Need.{Need}
 use Rattle.page_need.specs.Needs.{add-needs, leaf-need, page-need, one-cut, parted-cuts, both-cuts}
@@ -127,39 +132,33 @@ later-fit k lt =
 pub fit-some : {half : ℕ} {img : List ℕ} {t l p : ℕ} → Fit-from half img t l p → Pre-level half img (λ v. Searchable v p t)
 fit-some {half} {img} {l = l} k = record { image = image-of half img; holds = k .holds; ready = (l, fit-searchable k) }
 
--- what was found in its page: any search that find_entry's contract allows
-pub record Found-below (half : ℕ) (img : List ℕ) (t l : ℕ) (e : Entry) (m : Found) : Type 0 where
+-- what was found in its page, if that ends at hi: any search that find_entry's contract allows
+pub record Found-below (half : ℕ) (img : List ℕ) (hi t l : ℕ) (e : Entry) (m : Found) : Type 0 where
   pub inner : ¬ (l ≡ 0)
   pub page : Fit-from half img t (l - 1) (e .child)
-  pub is : m ≡ found-in t (entries (image-of half img) (e .child))
+  pub is : m ≡ found-in hi t (entries (image-of half img) (e .child))
 
-abbrev Finds : ℕ → List ℕ → ℕ → ℕ → Found → Type 0
-Finds half img t p m = Post-level half img (λ v. Searchable v p t) (λ v X. m ≡ found-in t (entries X p))
+abbrev Finds : ℕ → List ℕ → ℕ → ℕ → ℕ → Found → Type 0
+Finds half img hi t p m = Post-level half img (λ v. Searchable v p t) (λ v X. m ≡ found-in hi t (entries X p))
 
-found-at : {half : ℕ} {img : List ℕ} {t l : ℕ} {m : Found} (e : Entry) → ¬ (l ≡ 0) → Fit-from half img t (l - 1) (e .child)
-    → Finds half img t (e .child) m
-    → Found-below half img t l e m
+found-at : {half : ℕ} {img : List ℕ} {hi t l : ℕ} {m : Found} (e : Entry) → ¬ (l ≡ 0) → Fit-from half img t (l - 1) (e .child)
+    → Finds half img hi t (e .child) m
+    → Found-below half img hi t l e m
 found-at {half} {img} {l = l} e h k each =
     record { inner = h; page = k; is = each (image-of half img) (k .holds) (l - 1) (fit-searchable k) }
 
-pub found-below : {half : ℕ} {img : List ℕ} {t l : ℕ} {m : Found} (e : Entry) → Leads half img t l e → ¬ (l ≡ 0)
-    → Finds half img t (e .child) m
-    → Found-below half img t l e m
+pub found-below : {half : ℕ} {img : List ℕ} {hi t l : ℕ} {m : Found} (e : Entry) → Leads half img t l e → ¬ (l ≡ 0)
+    → Finds half img hi t (e .child) m
+    → Found-below half img hi t l e m
 found-below e k h each = found-at e h (leads-on e k h) each
 
 -- and for a later instant
-abbrev pub Both-below : ℕ → List ℕ → ℕ → ℕ → ℕ → Entry → Found → Found → Type 0
-Both-below half img s t l e m n = Found-below half img s l e m × Found-below half img t l e n
+pub found-later : {half : ℕ} {img : List ℕ} {hi s t l : ℕ} {m n : Found} (e : Entry) → Found-below half img hi s l e m → s < t
+    → Finds half img hi t (e .child) n
+    → Found-below half img hi t l e n
+found-later e k later each = found-at e (k .inner) (later-fit (k .page) later) each
 
-pub both-below : {half : ℕ} {img : List ℕ} {s t l : ℕ} {m n : Found} (e : Entry) → Leads half img s l e × (s < t) → ¬ (l ≡ 0)
-    → Finds half img s (e .child) m
-    → Finds half img t (e .child) n
-    → Both-below half img s t l e m n
-both-below e k h first second =
-    let page = leads-on e (k .0) h in
-    (found-at e h page first, found-at e h (later-fit page (k .1)) second)
-
-module _ {half : ℕ} {img : List ℕ} {t l : ℕ} {e : Entry} {m : Found} (k : Found-below half img t l e m) where
+module _ {half : ℕ} {img : List ℕ} {hi t l : ℕ} {e : Entry} {m : Found} (k : Found-below half img hi t l e m) where
   pub found-most : m .count ≤ capacity half
   unfolding found-in
   found-most = omega (arith, ap (λ (n : Found). n .count) (k .is), number-read (k .page), page-is-fit (k .page) .most)
@@ -177,6 +176,61 @@ module _ {half : ℕ} {img : List ℕ} {t l : ℕ} {e : Entry} {m : Found} (k : 
       subst⁻¹ (Leads half img t (l - 1)) same
       (entry-leads (l - 1) (k .page) i r (index-started half s t (f .most) (omega (arith, f .first, k .page .begun))))
 
+  -- the entry found has a later instant too exactly where it ends behind that, in a page that does
+  module _ {u : ℕ} (later : t < u) where
+    abbrev es : List Entry
+    es = entries (image-of half img) (e .child)
+
+    abbrev bytes : List ℕ
+    bytes = page-at half img (e .child)
+
+    abbrev i : ℕ
+    i = index-of t (entries-of half bytes)
+
+    slot-read : (v : ℕ) → index-of v es ≡ index-of v (entries-of half bytes)
+    slot-read v = ap (index-of v) (entries-read (k .page))
+
+    end-read : m .end ≡ end-at bytes hi i
+    unfolding found-in
+    end-read =
+        ap (λ (n : Found). n .end) (k .is)
+        ∙ ap (end-in hi es) (slot-read t)
+        ∙ sym (lent-end (k .page .holds) (fit-searchable (k .page) .tree-page) refl hi i)
+
+    pub has-later : u < m .end → index-of t es ≡ index-of u es
+    has-later before = slot-read t ∙ sym (index-is half bytes u (f .most) i r (omega (arith, begun)) behind) ∙ sym (slot-read u)
+      where
+        f : PageFit half (k .page .head) (k .page .at) bytes
+        f = page-is-fit (k .page)
+
+        r : i < entry-count bytes
+        r = index-within half bytes t (f .most) (entry-first f (omega (arith, k .page .holds .half-least)))
+
+        begun : start-at bytes i ≤ t
+        begun = index-started half bytes t (f .most) (omega (arith, f .first, k .page .begun))
+
+        behind : (j : ℕ) → i < j → j < entry-count bytes → u < start-at bytes j
+        behind j a b =
+            omega (
+              arith,
+              end-read,
+              bound-next bytes hi i,
+              bound-in bytes hi (suc i) (omega arith),
+              rises (entry-count bytes - 1) (start-at bytes) (f .rising) (suc i) j (omega arith) (omega arith),
+            )
+
+    pub not-later : u < hi → m .end ≤ u → ¬ (index-of t es ≡ index-of u es)
+    not-later low past same = go (decLt (suc i) (entry-count bytes))
+      where
+        here : index-of u (entries-of half bytes) ≡ i
+        here = sym (slot-read u) ∙ sym same ∙ slot-read t
+
+        go : Dec (suc i < entry-count bytes) → ⊥
+        go (yes l) =
+            let next = index-next half bytes u (page-is-fit (k .page) .most) in
+            omega (arith, past, end-read, bound-next bytes hi i, bound-in bytes hi (suc i) l, rw here at next l)
+        go (no l) = omega (arith, past, end-read, bound-next bytes hi i, bound-past bytes hi (suc i) (omega arith))
+
 -- ---- the counts, level by level
 
 module _ (half t : ℕ) (X : Image) where
@@ -185,12 +239,12 @@ module _ (half t : ℕ) (X : Image) where
   one-leaf zero e z h = h
   one-leaf (suc l) e z h = absurd (omega arith)
 
-  inner-one : (l : ℕ) (e : Entry) {m : Found} {n r : Need} → ¬ (l ≡ 0) → m ≡ found-in t (entries X (e .child))
+  inner-one : (l : ℕ) (e : Entry) (hi : ℕ) {m : Found} {n r : Need} → ¬ (l ≡ 0) → m ≡ found-in hi t (entries X (e .child))
       → n ≡ one-cut half t (l - 1) (m .entry) X
       → r ≡ page-need half (m .count) n → r ≡ one-cut half t l e X
   unfolding one-cut found-in
-  inner-one zero e z a b c = absurd (z refl)
-  inner-one (suc l) e {m = m} z a b c =
+  inner-one zero e hi z a b c = absurd (z refl)
+  inner-one (suc l) e hi {m = m} z a b c =
       let d : suc l - 1 ≡ l = omega arith in
       c
       ∙ (ap (page-need half (m .count)) (b ∙ ap (λ i. one-cut half t i (m .entry) X) d)
@@ -208,14 +262,14 @@ module _ (half s t : ℕ) (X : Image) where
   both-leaf (suc l) e z a b c = absurd (omega arith)
 
   -- the two go on to the same entry, or part there
-  inner-both : (l : ℕ) (e : Entry) {m k : Found} {n r : Need} → ¬ (l ≡ 0) → m ≡ found-in s (entries X (e .child))
-      → k ≡ found-in t (entries X (e .child))
+  inner-both : (l : ℕ) (e : Entry) (hi : ℕ) {m k : Found} {n r : Need} → ¬ (l ≡ 0) → m ≡ found-in hi s (entries X (e .child))
+      → k ≡ found-in hi t (entries X (e .child))
       → n ≡ cond (eqb (m .index) (k .index)) (both-cuts half s t (l - 1) (m .entry) X)
       (parted-cuts half s t (l - 1) (m .entry) (k .entry) X)
       → r ≡ page-need half (m .count) n → r ≡ both-cuts half s t l e X
   unfolding both-cuts found-in
-  inner-both zero e z a b c d = absurd (z refl)
-  inner-both (suc l) e {m} z a b c d =
+  inner-both zero e hi z a b c d = absurd (z refl)
+  inner-both (suc l) e hi {m} z a b c d =
       let v : suc l - 1 ≡ l = omega arith in
       d
       ∙ ap (page-need half (m .count)) c
@@ -274,32 +328,47 @@ small-apart half s t X l x y low h = subst⁻¹ Small h (omega (arith, one-most 
 
 -- ---- where the counts go on, by what was found
 
-module _ {half : ℕ} {img : List ℕ} {t l : ℕ} {e : Entry} {m : Found} (k : Found-below half img t l e m) {n : Need}
+module _ {half : ℕ} {img : List ℕ} {hi t l : ℕ} {e : Entry} {m : Found} (k : Found-below half img hi t l e m) {n : Need}
     (h : n ≡ one-cut half t (l - 1) (m .entry) (image-of half img)) where
   pub one-small : Small n
   one-small = small-one half (image-of half img) (l - 1) (m .entry) (omega (arith, k .page .low)) t h
 
   pub one-inner : {r : Need} → r ≡ page-need half (m .count) n → r ≡ one-cut half t l e (image-of half img)
-  one-inner = inner-one half t (image-of half img) l e (k .inner) (k .is) h
+  one-inner = inner-one half t (image-of half img) l e hi (k .inner) (k .is) h
 
-module _ {half : ℕ} {img : List ℕ} {s t l : ℕ} {e : Entry} {m m′ : Found} (k : Both-below half img s t l e m m′) where
+module _ {half : ℕ} {img : List ℕ} {hi s l : ℕ} {e : Entry} {m : Found} (k : Found-below half img hi s l e m) {t : ℕ} (later : s < t) where
   abbrev X : Image
   X = image-of half img
 
-  abbrev on : Bool → Need
-  on b = cond b (both-cuts half s t (l - 1) (m .entry) X) (parted-cuts half s t (l - 1) (m .entry) (m′ .entry) X)
+  abbrev on : Entry → Bool → Need
+  on y b = cond b (both-cuts half s t (l - 1) (m .entry) X) (parted-cuts half s t (l - 1) (m .entry) y X)
+
+  first-slot : m .index ≡ index-of s (entries X (e .child))
+  unfolding found-in
+  first-slot = ap (λ (n : Found). n .index) (k .is)
 
   module _ {n : Need} (h : n ≡ both-cuts half s t (l - 1) (m .entry) X) where
     pub same-small : Small n
-    same-small = small-both half X (l - 1) (m .entry) (omega (arith, k .0 .page .low)) s t h
+    same-small = small-both half X (l - 1) (m .entry) (omega (arith, k .page .low)) s t h
 
-    pub same-inner : {r : Need} → m .index ≡ m′ .index → r ≡ page-need half (m .count) n → r ≡ both-cuts half s t l e X
-    same-inner same = inner-both half s t X l e (k .0 .inner) (k .0 .is) (k .1 .is) (h ∙ ap on (sym (eq-eqb (m .index) (m′ .index) same)))
+    pub same-inner : {r : Need} → t < m .end → r ≡ page-need half (m .count) n → r ≡ both-cuts half s t l e X
+    unfolding found-in
+    same-inner before =
+        let es = entries X (e .child) in
+        inner-both half s t X l e hi (k .inner) (k .is) refl
+        (h ∙ ap (on (found-in hi t es .entry)) (sym (eq-eqb (m .index) (index-of t es) (first-slot ∙ has-later k later before))))
 
-  module _ {n : Need} (h : n ≡ parted-cuts half s t (l - 1) (m .entry) (m′ .entry) X) where
+  module _ {m′ : Found} (k′ : Found-below half img hi t l e m′) {n : Need}
+      (h : n ≡ parted-cuts half s t (l - 1) (m .entry) (m′ .entry) X) where
     pub apart-small : Small n
-    apart-small = small-apart half s t X (l - 1) (m .entry) (m′ .entry) (omega (arith, k .0 .page .low)) h
+    apart-small = small-apart half s t X (l - 1) (m .entry) (m′ .entry) (omega (arith, k .page .low)) h
 
-    pub apart-inner : {r : Need} → ¬ (m .index ≡ m′ .index) → r ≡ page-need half (m .count) n → r ≡ both-cuts half s t l e X
-    apart-inner other = inner-both half s t X l e (k .0 .inner) (k .0 .is) (k .1 .is)
-        (h ∙ ap on (sym (ne-eqb (m .index) (m′ .index) other)))
+    second-slot : m′ .index ≡ index-of t (entries X (e .child))
+    unfolding found-in
+    second-slot = ap (λ (n : Found). n .index) (k′ .is)
+
+    pub apart-inner : {r : Need} → t < hi → m .end ≤ t → r ≡ page-need half (m .count) n → r ≡ both-cuts half s t l e X
+    apart-inner low past =
+        inner-both half s t X l e hi (k .inner) (k .is) (k′ .is)
+        (h ∙ ap (on (m′ .entry))
+        (sym (ne-eqb (m .index) (m′ .index) (λ z. not-later k later low past (sym first-slot ∙ z ∙ second-slot)))))

@@ -20,9 +20,9 @@ fn cuts_need(half: usize, img: &[u8], h: Head, s: u32, e: u32) -> Need
 {
     let root = root_entry(h);
     if e == END {
-        return one_cut(half, img, s, h.height, root);
+        return one_cut(half, img, s, h.height, root, END);
     }
-    both_cuts(half, img, s, e, h.height, root)
+    both_cuts(half, img, s, e, h.height, root, END)
 }
 
 // 24's condition, of a sound image and its head, before anything is written: "A and B together take more pages than chain and

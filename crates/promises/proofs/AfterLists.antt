@@ -25,7 +25,7 @@ use Rattle.promises.specs.AfterLists.{After-lists, Instant-as, Average-a
 use Rattle.promises.proofs.Changes.{every-change-promised}
 
 pub instant-as : (t : ℕ) (img : List ℕ) (r : InstantAnswer)
-    → record { status = r .status; pair = pair-of r; pages = r .pages } ≡ index-instant t img
+    → record { status = r .status; pair = pair-of r; start = r .start; end = r .end; pages = r .pages } ≡ index-instant t img
     → After-lists img (Instant-as t r)
 unfolding After-lists
 instant-as t img r p kind window field cs T =

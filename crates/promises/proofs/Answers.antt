@@ -18,6 +18,14 @@ pub answer-pair : (t : ℕ) (img : List ℕ) {r : InstantAnswer} → Answers t i
 unfolding instant-answer
 answer-pair t img p = ap (λ (a : InstantAnswer). pair-of a) p
 
+pub answer-start : (t : ℕ) (img : List ℕ) {r : InstantAnswer} → Answers t img r → r .start ≡ index-instant t img .start
+unfolding instant-answer
+answer-start t img p = ap (λ (a : InstantAnswer). a .start) p
+
+pub answer-end : (t : ℕ) (img : List ℕ) {r : InstantAnswer} → Answers t img r → r .end ≡ index-instant t img .end
+unfolding instant-answer
+answer-end t img p = ap (λ (a : InstantAnswer). a .end) p
+
 pub answer-pages : (t : ℕ) (img : List ℕ) {r : InstantAnswer} → Answers t img r → r .pages ≡ index-instant t img .pages
 unfolding instant-answer
 answer-pages t img p = ap (λ (a : InstantAnswer). a .pages) p

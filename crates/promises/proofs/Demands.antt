@@ -5,6 +5,7 @@ use Rattle.promises.proofs.Refusing.{refusing}
 use Rattle.promises.proofs.Tables.{by-status}
 use Rattle.promises.proofs.Changes.{every-change-promised}
 use Rattle.promises.proofs.SameAnswers.{same-answers}
+use Rattle.promises.proofs.Until.{until-promised}
 use Rattle.promises.proofs.Header.{header-runs, header-scratch}
 
 pub demands-met : Demands-met
@@ -15,6 +16,7 @@ demands-met =
       by-status = by-status;
       every-change = every-change-promised;
       same-answers = same-answers;
+      until-promised = until-promised;
       header-runs = header-runs;
       header-scratch = header-scratch;
     }

@@ -5,4 +5,5 @@ pub mod SameAnswers
 pub mod Changes
 pub mod Header
 pub mod AfterLists
+pub mod Until
 pub mod Demands

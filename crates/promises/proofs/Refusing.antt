@@ -18,7 +18,7 @@ use Rattle.luwhenoka.specs.declared.AverageAnswer.{AverageAnswer}
 use Rattle.luwhenoka.specs.Answers.{average-answer, averaged-answer, listing-answer}
 use Rattle.luwhenoka.specs.Promises.{Averages}
 use Rattle.promises.specs.Refusing.{Refusing}
-use Rattle.promises.proofs.Answers.{answer-status, answer-pair, answer-pages, average-status}
+use Rattle.promises.proofs.Answers.{answer-status, answer-pair, answer-start, answer-end, answer-pages, average-status}
 
 abbrev d1 : Demand-1
 d1 = demand-1
@@ -66,7 +66,14 @@ refusing =
           let n = answer-status t img p in
           let q = answer-pair t img p in
           let g = d1 .of-pages t img in (
-            λ d. let z = q ∙ d1 .of-instant t img (λ y. d (n ∙ y)) in (ap (λ (a : Pair). a .sum) z, ap (λ (a : Pair). a .count) z),
+            λ d.
+                let k = d1 .of-instant t img (λ y. d (n ∙ y)) in
+                let z = q ∙ k .0 in (
+                  ap (λ (a : Pair). a .sum) z,
+                  ap (λ (a : Pair). a .count) z,
+                  answer-start t img p ∙ k .1,
+                  answer-end t img p ∙ k .2,
+                ),
             λ z. answer-pages t img p ∙ g .0 (sym n ∙ z),
             λ d f. answer-pages t img p ∙ g .1 (λ y. d (n ∙ y)) (λ y. f (n ∙ y)),
           );

@@ -24,7 +24,7 @@ pub record Refusing : Type 0 where
       → (r ≢ 0 → after ≡ img) × Scratch-left img scratch r left
   pub of-instant :
       (t : ℕ) (img : List ℕ) (r : InstantAnswer) → Answers t img r
-      → (r .status ≢ 0 → (r .sum ≡ pos 0) × (r .count ≡ pos 0))
+      → (r .status ≢ 0 → (r .sum ≡ pos 0) × (r .count ≡ pos 0) × (r .start ≡ 0) × (r .end ≡ 0))
       × (r .status ≡ 0 → r .pages ≡ head (half-of img) img .height)
       × (r .status ≢ 0 → r .status ≢ 21 → r .pages ≡ 0)
   pub of-average :

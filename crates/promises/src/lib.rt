@@ -58,7 +58,13 @@ pub fn withdraw(img: &mut [u8], scratch: &mut [u8], v: i64, s: u32, e: u32) -> u
 
 // Who only reads an image keeps it, and tells after any list of calls what the book does.
 pub fn instant(img: &[u8], t: u32) -> InstantAnswer
-    ensures { λ r. ⌜ record { status = r .status; pair = record { sum = r .sum; count = r .count }; pages = r .pages }
+    ensures { λ r. ⌜ record {
+      status = r .status;
+      pair = record { sum = r .sum; count = r .count };
+      start = r .start;
+      end = r .end;
+      pages = r .pages;
+    }
         ≡ calls.index-instant t (now (img .entry)) ⌝ }
     ensures { λ r. ⌜ Step (now (img .entry)) [] (now (img .exit)) ⌝ }
     ensures { λ r. ⌜ After-lists (now (img .entry)) (Instant-as t r) ⌝ }

@@ -1,23 +1,24 @@
 -- A tree page's entries, read from its bytes: their number, one of them, where it ends, and the one that has an instant. Assumes nothing.
 use Prim.Native.Nat.{ℕ, suc, _+_, _*_, _≤_, _<_}
 use mathlib.Core.Path.{_≡_, sym, ap, _∙_, subst⁻¹}
-use mathlib.Core.Bool.{cond}
-use mathlib.Core.List.{List, [], _∷_}
+use mathlib.Core.List.{List}
 use native.Mathlib.Omega.{arith}
-use lib.Dec.{leb, ltb}
+use lib.Dec.{ltb}
 use lib.ListN.{length, drop, drop-of-length-le}
 use lib.Seq.{drop-cons}
 use borrow.Author.Tests.{ltb-true, ltb-false}
-use Rattle.lists.proofs.Choices.{cond-one, either}
+use Rattle.lists.proofs.Choices.{cond-one}
 use Rattle.page.specs.declared.Entry.{Entry}
 use Rattle.page.specs.declared.Page.{Page}
 use Rattle.page.specs.Decoded.{entry-list}
-use Rattle.page.specs.Entries.{at, no-entry, last-from, index-of}
+use Rattle.page.specs.Entries.{at, no-entry, index-of}
 use Rattle.page.specs.Fit.{end-at}
 use Rattle.page.specs.Layout.{capacity, page-size, entry-count, start-at, entry-at, entries-of}
+use Rattle.page.proofs.Laws.Indices.{index-in}
 use Rattle.page.proofs.Laws.Trees.{at-entries-of}
 use Rattle.image.specs.Images.{Image, page-at}
-use Rattle.lookup.specs.Levels.{Page-searchable, Index-found}
+use Rattle.lookup.specs.declared.FoundAt.{FoundAt}
+use Rattle.lookup.specs.Levels.{Page-searchable, Index-found, Entry-found}
 use Rattle.edit.proofs.Edits.{has-len}
 use Rattle.steps.specs.Supply.{entries}
 use Rattle.steps.specs.Combine.{next-start, end-in}
@@ -25,21 +26,9 @@ use Rattle.store.specs.Encoding.{Encodes, Loaded}
 use Rattle.store.specs.Preconditions.{Tree-page, Has-entry, Searchable, found-in}
 use Rattle.store.proofs.Encoding.{Tree-read, tree-read, holds-within, holds-size}
 
--- ---- the index of an instant is an entry's
-
-last-inside : (t i found n : ℕ) (es : List Entry) → found < n → i + length es ≤ n → last-from t i found es < n
-unfolding last-from
-last-inside t i found n [] h k = h
-last-inside t i found n (e ∷ es) h k =
-    last-inside t (suc i) (cond (leb (e .start) t) i found) n es (either (λ k. k < n) (omega arith) h (leb (e .start) t)) (omega arith)
-
-pub slot-inside : (t : ℕ) (es : List Entry) → 1 ≤ length es → index-of t es < length es
-unfolding index-of
-slot-inside t es some = last-inside t 0 0 (length es) es some (omega arith)
-
 -- a page that can be searched has the entry that is found
 pub searchable-entry : {l p t : ℕ} {X : Image} → Searchable l p t X → Has-entry l p (index-of t (entries X p)) X
-searchable-entry {p = p} {t} {X} s = record { tree-page = s .tree-page; inside = slot-inside t (entries X p) (s .some) }
+searchable-entry {p = p} {t} {X} s = record { tree-page = s .tree-page; inside = index-in t (entries X p) (s .some) }
 
 -- ---- a decoded page
 
@@ -105,20 +94,22 @@ module _ {half : ℕ} {img : List ℕ} {X : Image} {l p t : ℕ} (h : Encodes ha
         first = omega (arith, start-is 0 (k .some), k .first);
       }
 
-  pub lent-found : {n i : ℕ} {e : Entry} → n ≡ entry-count s → Index-found t s i → e ≡ entry-at half s i
-      → record { count = n; index = i; entry = e } ≡ found-in t (entries X p)
+  pub lent-found : {n hi : ℕ} {f : FoundAt} {e : Entry} → n ≡ entry-count s → Entry-found hi t s f → e ≡ entry-at half s (f .index)
+      → record { count = n; index = f .index; entry = e; end = f .end } ≡ found-in hi t (entries X p)
   unfolding found-in
-  lent-found {n} {i} {e} a b c =
+  lent-found {n} {hi} {f} {e} a b c =
       let r = lent-read h (k .tree-page) same in
       let es : List Entry = entries X p in
-      let here : i ≡ index-of t es = lent-slot h (k .tree-page) same t (b half (omega (arith, r .len, r .few))) in
+      let here : f .index ≡ index-of t es = lent-slot h (k .tree-page) same t (b .index half (omega (arith, r .len, r .few))) in
       let found : e ≡ at es (index-of t es) =
-      c ∙ ap (entry-at half s) here ∙ lent-entry h (k .tree-page) same (index-of t es) (slot-inside t es (k .some)) in
+      c ∙ ap (entry-at half s) here ∙ lent-entry h (k .tree-page) same (index-of t es) (index-in t es (k .some)) in
+      let ends : f .end ≡ end-in hi es (index-of t es) =
+      b .end ∙ ap (end-at s hi) here ∙ lent-end h (k .tree-page) same hi (index-of t es) in
       let count : n ≡ length es = a ∙ r .len in
-      λ j. record { count = count j; index = here j; entry = found j }
+      λ j. record { count = count j; index = here j; entry = found j; end = ends j }
 
   pub lent-inside : {i : ℕ} → Index-found t s i → i < capacity half
   lent-inside {i} b =
       let r = lent-read h (k .tree-page) same in
       let here = lent-slot h (k .tree-page) same t (b half (omega (arith, r .len, r .few))) in
-      omega (arith, here, slot-inside t (entries X p) (k .some), r .few)
+      omega (arith, here, index-in t (entries X p) (k .some), r .few)

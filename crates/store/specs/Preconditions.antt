@@ -11,6 +11,7 @@ use Rattle.page.specs.Entries.{at, index-of}
 use Rattle.page.specs.Layout.{capacity}
 use Rattle.image.specs.Images.{Image, Cell, tree, free}
 use Rattle.steps.specs.Supply.{entries, spare}
+use Rattle.steps.specs.Combine.{end-in}
 use Rattle.store.specs.declared.Found.{Found}
 
 -- ---- a page
@@ -43,9 +44,12 @@ pub record Searchable (level p t : ℕ) (X : Image) : Type 0 where
   pub rising : (i : ℕ) → suc i < length (entries X p) → at (entries X p) i .start < at (entries X p) (suc i) .start
   pub first : at (entries X p) 0 .start ≤ t
 
--- what a search for t finds among these entries
-unfoldable pub found-in : ℕ → List Entry → Found
-found-in t es = record { count = length es; index = index-of t es; entry = at es (index-of t es) }
+-- What a search for t finds among these entries, of a page that ends at hi. Document 02, (viii): "Finding the entry in a page shall give its
+-- end as well as its place, and all who use it pass that up".
+unfoldable pub found-in : ℕ → ℕ → List Entry → Found
+found-in hi t es =
+    let i = index-of t es in
+    record { count = length es; index = i; entry = at es i; end = end-in hi es i }
 
 -- the entry of page p that has t
 abbrev pub entry-for : ℕ → ℕ → Image → Entry

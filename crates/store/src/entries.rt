@@ -40,17 +40,18 @@ pub fn entry_end(half: usize, img: &[u8], p: u32, hi: u32, i: usize) -> u32
     end_at(page_at(half, img, p), hi, i)
 }
 
-// The last entry of page p starting at t or before.
-pub fn find_entry(half: usize, img: &[u8], p: u32, t: u32) -> Found
+// The last entry of page p starting at t or before, if the page ends at hi.
+pub fn find_entry(half: usize, img: &[u8], p: u32, hi: u32, t: u32) -> Found
     requires { ⌜ Pre-level half (now img) (λ l. Searchable l p t) ⌝ }
-    ensures { λ r. ⌜ Post-level half (now (img .entry)) (λ l. Searchable l p t) (λ l X. r ≡ found-in t (entries X p)) ⌝ }
+    ensures { λ r. ⌜ Post-level half (now (img .entry)) (λ l. Searchable l p t) (λ l X. r ≡ found-in hi t (entries X p)) ⌝ }
 {
     let s = page_at(half, img, p);
     let n = entry_count(s) as usize;
-    let i = find(s, n, t);
+    let found = find(s, n, hi, t);
     Found {
         count: n,
-        index: i,
-        entry: entry_at(half, s, i),
+        index: found.index,
+        entry: entry_at(half, s, found.index),
+        end: found.end,
     }
 }

@@ -10,9 +10,10 @@ pub mod pages;
 pub mod root;
 pub mod supply;
 
-// What a search for an instant finds in a page: the number of entries, and the one that has the instant, with its index.
+// What a search for an instant finds in a page: the number of entries, and the one that has the instant, with its index and its end.
 pub struct Found {
     pub count: usize,
     pub index: usize,
     pub entry: Entry,
+    pub end: u32,
 }

@@ -1,7 +1,7 @@
 -- What an instant call finds in a sound image is the pair of the tree that it shows. Assumes nothing.
 use Prim.Native.Nat.{ℕ, zero, suc, _-_, _≤_, _<_}
-use mathlib.Core.Path.{_≡_, sym, ap, _∙_}
-use mathlib.Core.Bool.{true, cond}
+use mathlib.Core.Path.{_≡_, refl, sym, ap, _∙_, subst⁻¹}
+use mathlib.Core.Bool.{true}
 use mathlib.Core.List.{List}
 use native.Mathlib.Omega.{arith}
 use lib.ListN.{length, length-map}
@@ -18,7 +18,7 @@ use Rattle.page.proofs.Laws.Trees.{length-entries-of, at-entries-of}
 use Rattle.image.specs.Images.{entries-in, page-at, pages-in, image-of}
 use Rattle.image.specs.Sound.{tree-fit}
 use Rattle.image.proofs.Cells.{cell-tree}
-use Rattle.image.specs.Instant.{Lookup, stopped, leaf-answer, above, look, look-up}
+use Rattle.image.specs.Instant.{Lookup, leaf-answer, above, look-by, look, look-up}
 use Rattle.tree.specs.Tree.{Node, Subtree, Nodes, no-node, flat, node-of, pair-under, pair-in}
 use Rattle.tree.specs.Cut.{State, root-node}
 use Rattle.refinement.specs.Represents.{Stores, Represents}
@@ -32,8 +32,10 @@ use Rattle.fit.proofs.Laws.Pages.{PageFit}
 use Rattle.soundness.proofs.Tree.{top-fit}
 
 -- an answer: all pages fit, the pair, and so many pages read
-abbrev pub answer : Pair → ℕ → Lookup
-answer pair pages = record { fit = true; pair = pair; pages = pages }
+pub record Found (w : Lookup) (p : Pair) (pages : ℕ) : Type 0 where
+  pub fit : w .fit ≡ true
+  pub pair : w .pair ≡ p
+  pub read : w .pages ≡ pages
 
 module _ (half : ℕ) (h : Head) (img : List ℕ) (t : ℕ) where
   -- the page is fit in its context the entry found on a page is the tree's
@@ -74,14 +76,12 @@ module _ (half : ℕ) (h : Head) (img : List ℕ) (t : ℕ) where
   module _ (some : 1 ≤ half) where
     look-represented : (l : ℕ) (at : Page-context) (x : Node (Subtree (suc l))) → at .level ≡ l → l < free-level → 1 ≤ fewest half at
         → tree-fit half h img l at (x .entry .child) ≡ true → Stores (suc l) (image-of half img .page) x
-        → look half h img t l at (x .entry .child) ≡ answer (pair-in (combine (h .kind)) l t (x .subtree)) (suc l)
-    unfolding look leaf-answer above pair-in pair-under entry-at context-below fewest
+        → Found (look half h img t l at (x .entry .child)) (pair-in (combine (h .kind)) l t (x .subtree)) (suc l)
+    unfolding look-by leaf-answer above pair-in pair-under entry-at context-below fewest
     look-represented zero at x v small n e shown =
-        let s : List ℕ = page-at half img (x .entry .child) in
         let k = step zero at x v small n (tree-top half h img zero at (x .entry .child) e) shown in
-        ap (λ c. cond c (leaf-answer (pair-at half s (index-of t (entries-of half s)))) stopped)
-        (top-fit half h img zero at (x .entry .child) e)
-        ∙ ap (λ (y : Entry). answer (y .pair) 1) (k .same)
+        rw (top-fit half h img zero at (x .entry .child) e)
+        (record { fit = refl; pair = ap (λ (y : Entry). y .pair) (k .same); read = refl })
     look-represented (suc l) at x v small n e shown =
         let s : List ℕ = page-at half img (x .entry .child) in
         let i : ℕ = index-of t (entries-of half s) in
@@ -90,13 +90,15 @@ module _ (half : ℕ) (h : Head) (img : List ℕ) (t : ℕ) where
         let f = tree-parts half h img l at (x .entry .child) e in
         let k = step (suc l) at x v small n (f .0) shown in
         let c : child-at half s i ≡ y .entry .child = ap (λ (z : Entry). z .child) (k .same) in
-        let rest : look half h img t l d (child-at half s i) ≡ answer (pair-in (combine (h .kind)) l t (y .subtree)) (suc l) =
-        ap (look half h img t l d) c
-        ∙ look-represented l d y (omega arith) (omega arith) some (rw c at (f .1 i (k .inside))) (deeper (suc l) x (k .found) shown) in
-        ap (λ q. cond q (above (combine (h .kind)) (pair-at half s i) (look half h img t l d (child-at half s i))) stopped)
-        (top-fit half h img (suc l) at (x .entry .child) e)
-        ∙ ap (above (combine (h .kind)) (pair-at half s i)) rest
-        ∙ ap (λ (z : Entry). answer (combine (h .kind) (z .pair) (pair-in (combine (h .kind)) l t (y .subtree))) (suc (suc l))) (k .same)
+        let p : pair-at half s i ≡ y .entry .pair = ap (λ (z : Entry). z .pair) (k .same) in
+        let rest : Found (look half h img t l d (child-at half s i)) (pair-in (combine (h .kind)) l t (y .subtree)) (suc l) =
+        rw c (look-represented l d y (omega arith) (omega arith) some (rw c at (f .1 i (k .inside))) (deeper (suc l) x (k .found) shown)) in
+        rw (top-fit half h img (suc l) at (x .entry .child) e)
+        (record {
+          fit = rest .fit;
+          pair = rw (rest .fit) (λ j. combine (h .kind) (p j) (rest .pair j));
+          read = ap suc (rest .read);
+        })
 
 -- ---- from the root
 
@@ -104,8 +106,8 @@ module _ (half : ℕ) (h : Head) (img : List ℕ) (t : ℕ) where
 -- pages are read as the tree is high.
 pub record Answered (half : ℕ) (img : List ℕ) (t : ℕ) (Y : State) : Type 0 where
   pub head : head-fit half (pages-in half img) (page-at half img 0) ≡ true
-  pub looked : look-up half img t ≡
-      answer (pair-in (combine (the-head half img .kind)) (Y .tree .level) t (Y .tree .nodes)) (the-head half img .height)
+  pub looked : Found (look-up half img t) (pair-in (combine (the-head half img .kind)) (Y .tree .level) t (Y .tree .nodes))
+      (the-head half img .height)
 
 pub look-invariant : (half : ℕ) (img : List ℕ) → 1 ≤ half → Sound-facts half img → (Y : State) → Represents (image-of half img) Y → (t : ℕ)
     → Answered half img t Y
@@ -117,11 +119,12 @@ look-invariant half img some f Y shown t =
     let low : 1 ≤ fewest half (root-context h) = omega (arith, root-fewest half h l v, least-one l) in
     let fits : tree-fit half h img l (root-context h) (Y .tree .root) ≡ true =
     (λ j. tree-fit half h img (sym v j) (root-context h) (sym (shown .root) j)) ∙ f .fit .tree in
+    let found = look-represented half h img t some l (root-context h) (root-node (Y .tree)) v
+    (omega (arith, f .fit .head .height-most)) low fits (shown .below) in
     record {
       head = f .fit .head-fits;
       looked =
+          subst⁻¹ (λ (w : Lookup). Found w (pair-in (combine (h .kind)) l t (Y .tree .nodes)) (h .height))
           (λ j. look half h img t (v j) (root-context h) (shown .root j))
-          ∙ look-represented half h img t some l (root-context h) (root-node (Y .tree)) v
-          (omega (arith, f .fit .head .height-most)) low fits (shown .below)
-          ∙ ap (λ n. answer (pair-in (combine (h .kind)) l t (Y .tree .nodes)) n) (sym (shown .height));
+          (record { fit = found .fit; pair = found .pair; read = found .read ∙ sym (shown .height) });
     }

@@ -4,9 +4,10 @@ use mathlib.Core.List.{List}
 use Prim.Native.Nat.{ℕ, _+_, _-_, _≤_, _<_}
 use native.Mathlib.Decide.{decLt}
 use native.Mathlib.Omega.{arith}
+use lib.ListN.{length}
 use Rattle.lists.proofs.Totals.{rises}
 use Rattle.page.specs.Layout.{start-at}
-use Rattle.page.proofs.Laws.Indices.{index-is}
+use Rattle.page.proofs.Laws.Indices.{index-within, index-is}
 use Rattle.lookup.specs.Levels.{Page-searchable, Index-found}
 
 -- from either end: it stands between an entry that starts at t or before and one that doesn't, and the starts rise
@@ -76,3 +77,9 @@ module _ {s : List ℕ} {n t : ℕ} (ok : Page-searchable s n t) where
         next l =
             let behind : n - 1 - later + 1 ≡ n - later = omega (arith, not-all) in
             rw behind (c .after (omega arith))
+
+-- the index found is one of the page's
+pub found-inside : {s : List ℕ} {n t k : ℕ} → Page-searchable s n t → Index-found t s k → k < length s
+found-inside {s} {n} {t} ok found =
+    let e = found n (omega (arith, ok .len)) in
+    omega (arith, e, index-within n s t (omega (arith, ok .len)) (omega (arith, ok .len, ok .some)), ok .inside, ok .len)

@@ -1,135 +1,124 @@
--- A walk down combines the pairs as it goes, and its answer is that of the definition, which combines them on the way back. Assumes
--- nothing.
-use mathlib.Core.Path.{_≡_, refl, sym, ap, _∙_}
-use mathlib.Core.Bool.{Bool, true, false, cond}
+-- Where a lookup stands on its way down, and what it has found when it comes back. Assumes nothing.
+use mathlib.Core.Path.{_≡_, refl, sym, ap, _∙_, subst}
+use mathlib.Core.Bool.{true, false}
 use mathlib.Core.List.{List}
 use Prim.Native.Nat.{ℕ, suc, _+_, _-_, _≤_, _<_}
 use native.Mathlib.Omega.{arith}
 use Rattle.rule.specs.declared.Pair.{Pair}
-use Rattle.rule.specs.Pairs.{none, combine, Lawful}
-use Rattle.rule.specs.Bounds.{Combinable}
-use Rattle.rule.proofs.Laws.{lawful}
+use Rattle.rule.specs.Pairs.{none, combine}
+use Rattle.page.specs.declared.Entry.{Entry}
 use Rattle.page.specs.declared.Head.{Head}
-use Rattle.page.specs.Layout.{capacity, entry-count}
-use Rattle.page.specs.Fit.{Page-context, root-context, context-below, page-fit}
+use Rattle.page.specs.Fit.{Page-context, root-context, context-under, page-fit}
+use Rattle.page.proofs.Laws.Indices.{index-started}
 use Rattle.fit.specs.Paths.{Path}
 use Rattle.fit.proofs.Laws.Paths.{root-path, path-bounded, below-path}
 use Rattle.image.specs.Images.{page-at}
 use Rattle.image.specs.Instant as image
 use Rattle.image.specs.Instant.{stopped, leaf-answer, above, look, look-up}
-use Rattle.lookup.specs.declared.LookupAnswer.the-variants.{Answered, Unfit}
 use Rattle.access.specs.Access.{Page-in, Open-image}
 use Rattle.access.proofs.Laws.{opened-ranges, opened-within}
-use Rattle.lookup.specs.Levels.{On-path}
-use Rattle.lookup.specs.Answers.{lookup-of}
-use Rattle.page.proofs.Laws.Indices.{index-started}
-use Rattle.lookup.proofs.Laws.Levels.{Found, found-fit, found-in}
-use Rattle.lookup.proofs.Laws.Bounds.{Carried, carried-none, carried-below, carried-combinable}
-use Rattle.lookup.proofs.Laws.Looks.{look-unfit, look-leaf, look-inner, look-none, under-below}
+use Rattle.lookup.specs.declared.Holding.{Holding}
+use Rattle.lookup.specs.declared.LookupAnswer.{LookupAnswer}
+use Rattle.lookup.specs.declared.LookupAnswer.the-variants.{Answered, Unfit}
+use Rattle.lookup.specs.Levels.{On-path, Come-to}
+use Rattle.lookup.specs.Answers.{lookup-of, Combinable-above}
+use Rattle.lookup.proofs.Laws.Levels.{Found, found-fit, found-in, found-start, found-pair, found-child, found-context}
+use Rattle.lookup.proofs.Laws.Bounds.{paired-combinable}
+use Rattle.lookup.proofs.Laws.Looks.{look-unfit, look-leaf, look-inner, look-few, look-paired}
 
--- ---- the answer below, seen from the root
+-- ---- an entry above what was found
 
--- acc combined with what was found, after n pages
-unfoldable pub gone : (Pair → Pair → Pair) → Pair → ℕ → image.Lookup → image.Lookup
-gone comb acc n w = record { fit = w .fit; pair = cond (w .fit) (comb acc (w .pair)) none; pages = n + w .pages }
+module _ (comb : Pair → Pair → Pair) (p : Pair) (n : ℕ) where
+  one-more : n + 1 ≡ suc n
+  one-more = omega arith
 
-module _ {comb : Pair → Pair → Pair} (laws : Lawful comb) where
-  gone-none : (w : image.Lookup) → (w .fit ≡ false → w .pair ≡ none) → gone comb none 0 w ≡ w
-  unfolding gone
-  gone-none w a = λ j. record { fit = w .fit; pair = go (w .fit) refl j; pages = e j }
-    where
-      go : (b : Bool) → w .fit ≡ b → cond b (comb none (w .pair)) none ≡ w .pair
-      go true f = laws .unit (w .pair)
-      go false f = sym (a f)
+  pub answered-above : (x : Holding) → lookup-of (Answered (record { pair = comb p (x .pair); start = x .start; end = x .end }) (n + 1))
+      ≡ above comb p (lookup-of (Answered x n))
+  unfolding lookup-of above
+  answered-above x = λ j. record { fit = true; pair = comb p (x .pair); start = x .start; end = x .end; pages = one-more j }
 
-      e : 0 + w .pages ≡ w .pages
-      e = omega arith
+  pub unfit-above : lookup-of (Unfit (n + 1)) ≡ above comb p (lookup-of (Unfit n))
+  unfolding lookup-of above
+  unfit-above = λ j. record { fit = false; pair = none; start = 0; end = 0; pages = one-more j }
 
-  gone-above : (acc p : Pair) (n : ℕ) (w : image.Lookup) → gone comb acc n (above comb p w) ≡ gone comb (comb acc p) (n + 1) w
-  unfolding gone above
-  gone-above acc p n w = λ j. record { fit = w .fit; pair = go (w .fit) j; pages = e j }
-    where
-      go : (b : Bool) → cond b (comb acc (cond b (comb p (w .pair)) none)) none ≡ cond b (comb (comb acc p) (w .pair)) none
-      go true = sym (laws .assoc acc p (w .pair))
-      go false = refl
-
-      e : n + suc (w .pages) ≡ n + 1 + w .pages
-      e = omega arith
-
-gone-leaf : (comb : Pair → Pair → Pair) (acc p : Pair) (n : ℕ) → gone comb acc n (leaf-answer p) ≡ lookup-of (Answered (comb acc p) (n + 1))
-unfolding gone leaf-answer lookup-of
-gone-leaf comb acc p n = refl
-
-gone-stopped : (comb : Pair → Pair → Pair) (acc : Pair) (n : ℕ) → gone comb acc n stopped ≡ lookup-of (Unfit (n + 1))
-unfolding gone stopped lookup-of
-gone-stopped comb acc n = refl
-
--- ---- the walk
-
--- On the path to t, before page p is read in its context: acc combines the pairs of the n pages above, and with what is found from here on
--- it is the answer.
-pub record Walk (half : ℕ) (img : List ℕ) (h : Head) (t : ℕ) (at : Page-context) (p : ℕ) (acc : Pair) (n : ℕ) : Type 0 where
-  pub path : Path h n at
-  pub here : p < h .pages
-  pub begun : at .lo ≤ t
-  pub carried : Carried h at acc
-  pub answer : gone (combine (h .kind)) acc n (look half h img t (at .level) at p) ≡ look-up half img t
+-- ---- on the way down
 
 module _ {half : ℕ} {img : List ℕ} {h : Head} (some : 1 ≤ half) (o : Open-image half img h) where
-  pub walk-root : (t : ℕ) → Walk half img h t (root-context h) (h .root) none 0
-  unfolding look-up root-context
-  walk-root t =
+  pub come-root : (t : ℕ) → Come-to h (root-context h) (h .root) t
+  unfolding root-context
+  come-root t =
       let r = opened-ranges o in
-      record {
-        path = root-path _ _ h r;
-        here = omega (arith, r .root-below, r .pages-is);
-        begun = omega arith;
-        carried = carried-none h (root-context h);
-        answer = gone-none (lawful (h .kind)) _ (look-none half h img t _ _ _)
-            ∙ ap (λ k. look half k img t (k .height - 1) (root-context k) (k .root)) (o .shown);
-      }
+      record { entries-above = 0; path = root-path _ _ h r; here = omega (arith, r .root-below, r .pages-is); begun = omega arith }
 
-  module _ {t : ℕ} {at : Page-context} {p : ℕ} {acc : Pair} {n : ℕ} (w : Walk half img h t at p acc n) where
-    pub walk-within : Page-in half img p
-    walk-within = opened-within o p (w .here)
+  -- from the root
+  pub root-looked : (t : ℕ) → look half h img t (root-context h .level) (root-context h) (h .root) ≡ look-up half img t
+  unfolding look-up root-context
+  root-looked t = ap (λ k. look half k img t (k .height - 1) (root-context k) (k .root)) (o .shown)
 
-    pub walk-met : On-path at t
-    walk-met = record { begun = w .begun; bounded = path-bounded (w .path) (opened-ranges o .changes-most) }
+  module _ {at : Page-context} {p t : ℕ} (w : Come-to h at p t) where
+    pub come-within : Page-in half img p
+    come-within = opened-within o p (w .here)
 
-    pub walk-unfit : page-fit half h at (page-at half img p) ≡ false → lookup-of (Unfit (n + 1)) ≡ look-up half img t
-    walk-unfit e =
-        sym (gone-stopped (combine (h .kind)) acc n)
-        ∙ ap (gone (combine (h .kind)) acc n) (sym (look-unfit half h img t at p (at .level) e)) ∙ w .answer
+    pub come-met : On-path at t
+    come-met = record { begun = w .begun; bounded = path-bounded (w .path) (opened-ranges o .changes-most) }
 
-    module _ {pair : Pair} {child i : ℕ} (f : Found half h at t (page-at half img p) pair child i) where
-      pub walk-number : (i < capacity half) × (entry-count (page-at half img p) ≤ capacity half)
-      walk-number = omega (arith, found-in f (omega arith), found-fit f .most)
+    pub unfit-looked : page-fit half h at (page-at half img p) ≡ false → lookup-of (Unfit 1) ≡ look half h img t (at .level) at p
+    unfolding lookup-of stopped
+    unfit-looked e = sym (look-unfit half h img t at p (at .level) e)
 
-      pub walk-combinable : Combinable acc pair
-      walk-combinable =
-          rw (f .pairs) (carried-combinable (w .carried) (found-fit f .pairs i (found-in f (omega arith))) (opened-ranges o .changes-most))
+    module _ {e : Entry} {end : ℕ} (f : Found half h at t (page-at half img p) e end) where
+      pub leaf-looked : at .level ≡ 0
+          → lookup-of (Answered (record { pair = e .pair; start = e .start; end = end }) 1) ≡ look half h img t (at .level) at p
+      unfolding lookup-of leaf-answer
+      leaf-looked z = sym (ap (λ l. look half h img t l at p) z ∙ look-leaf half h img t at p f)
 
-      pub walk-leaf : at .level ≡ 0 → lookup-of (Answered (combine (h .kind) acc pair) (n + 1)) ≡ look-up half img t
-      walk-leaf e =
-          let c = combine (h .kind) in
-          sym (gone-leaf c acc pair n)
-          ∙ ap (gone c acc n) (sym (ap (λ l. look half h img t l at p) e ∙ look-leaf half h img t at p f)) ∙ w .answer
+      module _ (inner : 1 ≤ at .level) where
+        abbrev under : Page-context
+        under = context-under at (e .start) end (e .pair)
 
-      pub walk-below : 1 ≤ at .level
-          → Walk half img h t (context-below half (page-at half img p) at i) child (combine (h .kind) acc pair) (n + 1)
-      unfolding context-below
-      walk-below v =
-          let c = combine (h .kind) in
-          let s = page-at half img p in
-          let fit = found-fit f in
-          let m = found-in f (omega arith) in
-          let l : at .level ≡ suc (at .level - 1) = omega arith in
-          record {
-            path = below-path (w .path) fit (omega arith) i m v;
-            here = rw (f .children) (fit .children i m .inner v .1);
-            begun = rw (f .here) (index-started half s t (fit .most) (omega (arith, fit .first, w .begun)));
-            carried = rw (f .pairs) (carried-below (under-below half s at i) (w .carried) (fit .pairs i m));
-            answer = sym (gone-above (lawful (h .kind)) acc pair n _)
-                ∙ ap (gone c acc n) (sym (ap (λ k. look half h img t k at p) l ∙ look-inner half h img t at p f (at .level - 1)))
-                ∙ w .answer;
-          }
+        pub come-below : Come-to h under (e .child) t
+        come-below =
+            let s = page-at half img p in
+            let fit = found-fit f in
+            let m = found-in f (omega arith) in
+            record {
+              entries-above = w .entries-above + 1;
+              path = rw (found-context f) (below-path (w .path) fit (omega arith) _ m inner);
+              here = rw (found-child f) (fit .children _ m .inner inner .1);
+              begun = rw (found-start f) (index-started half s t (fit .most) (omega (arith, fit .first, w .begun)));
+            }
+
+        inner-by : (w : image.Lookup) → w ≡ look half h img t (under .level) under (e .child)
+            → above (combine (h .kind)) (e .pair) w ≡ look half h img t (at .level) at p
+        inner-by w below =
+            let l : at .level ≡ suc (at .level - 1) = omega arith in
+            ap (above (combine (h .kind)) (e .pair)) below
+            ∙ sym (ap (λ k. look half h img t k at p) l ∙ look-inner half h img t at p f (at .level - 1))
+
+        -- the page below is unfit
+        pub unfit-below : page-fit half h under (page-at half img (e .child)) ≡ false
+            → lookup-of (Unfit 2) ≡ look half h img t (at .level) at p
+        unfolding lookup-of above stopped
+        unfit-below z = inner-by stopped (sym (look-unfit half h img t under (e .child) (under .level) z))
+
+        module _ (r : LookupAnswer) (below : lookup-of r ≡ look half h img t (under .level) under (e .child)) where
+          pub below-combinable : Combinable-above (e .pair) r
+          below-combinable =
+              let m = found-in f (omega arith) in
+              let fit = found-fit f in
+              record {
+                pairs = λ b.
+                    let low = ap (λ (x : image.Lookup). x .fit) (sym below) ∙ b in
+                    rw (ap (λ (x : image.Lookup). x .pair) below)
+                    (paired-combinable {at = at} (rw (found-pair f) (fit .pairs _ m)) (look-paired half h img t some _ under (e .child) low)
+                    (opened-ranges o .changes-most));
+                pages = omega (
+                  arith,
+                  ap (λ (x : image.Lookup). x .pages) below,
+                  look-few half h img t (under .level) under (e .child),
+                  w .path .level,
+                );
+              }
+
+          pub inner-looked : above (combine (h .kind)) (e .pair) (lookup-of r) ≡ look half h img t (at .level) at p
+          inner-looked = inner-by (lookup-of r) below

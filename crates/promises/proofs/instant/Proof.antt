@@ -13,7 +13,9 @@ use Rattle.promises.proofs.instant.Tie as tie
 returns : tie.Need-returns
 unfolding instant-answer
 returns c =
-    let p = ap {B = Instant} (λ (r : InstantAnswer). record { status = r .status; pair = pair-of r; pages = r .pages })
+    let p =
+    ap {B = Instant}
+    (λ (r : InstantAnswer). record { status = r .status; pair = pair-of r; start = r .start; end = r .end; pages = r .pages })
     (c .luw-instant .ensures) in
     (p, (kept, instant-as _ _ _ p))
 

@@ -44,7 +44,8 @@ pub +cut-entry-spec : {M : Type 1} → statement M
     let else = found .before .before in
     let start = else .before .before in (
       omega (arith, start .pre .0, else .if1 .left),
-      readied (start .pre .1) (λ X h r. searched (start .args .e) (else .if1 .left) h r (found .find-entry .ensures) .below),
+      readied (start .pre .1)
+          (λ X h r. searched (start .args .e) (start .args .hi) (else .if1 .left) h r (found .find-entry .ensures) .below),
     ))
     -- enum-known-start, enum-told, same-length
     (λ c. search needs) (λ c. search needs) (λ c. search needs)
@@ -54,7 +55,7 @@ pub +cut-entry-spec : {M : Type 1} → statement M
     let call = answer .before .before in
     let found = call .before .before in
     let else = found .before .before in
-    let k = searched (else .before .before .args .e) (else .if1 .left) h r (found .find-entry .ensures) in
+    let k = searched (else .before .before .args .e) (else .before .before .args .hi) (else .if1 .left) h r (found .find-entry .ensures) in
     found-same k (found-cut k (c .enum-told .given .1) (call .cut-entry .ensures X h (k .below))))
     -- insert-after-requires
     (λ c κs.
@@ -66,7 +67,7 @@ pub +cut-entry-spec : {M : Type 1} → statement M
     let start = else .before .before in
     from (start .pre .1)
     (λ X h r.
-    let k = searched (start .args .e) (else .if1 .left) h r (found .find-entry .ensures) in
+    let k = searched (start .args .e) (start .args .hi) (else .if1 .left) h r (found .find-entry .ensures) in
     let b = found-cut k (known .start .given .1) (call .cut-entry .ensures X h (k .below)) in
     record { image = _; holds = b .holds; ready = (_, found-insertable k b) }))
     -- same-length-2
@@ -79,6 +80,6 @@ pub +cut-entry-spec : {M : Type 1} → statement M
     let call = answer .before .before in
     let found = call .before .before in
     let else = found .before .before in
-    let k = searched (else .before .before .args .e) (else .if1 .left) h r (found .find-entry .ensures) in
+    let k = searched (else .before .before .args .e) (else .before .before .args .hi) (else .if1 .left) h r (found .find-entry .ensures) in
     let b = found-cut k (known .start .given .1) (call .cut-entry .ensures X h (k .below)) in
     found-two k b (inserted .insert-after .ensures _ (b .holds) _ (found-insertable k b))))

@@ -54,7 +54,8 @@ pub +heal-page-spec : {M : Type 1} → statement M
     let else = found .before .before in
     let start = else .before .before in
     let e = else .if1 .left in
-    (omega (arith, start .pre .0, e), readied (start .pre .1) (λ X h s. found-inner e h s (found .find-entry .ensures) .below)))
+    let hi = start .args .hi in
+    (omega (arith, start .pre .0, e), readied (start .pre .1) (λ X h s. found-inner hi e h s (found .find-entry .ensures) .below)))
     -- rebalance-if-short-requires
     (λ c κs.
     let below = c .before .before .before in
@@ -62,7 +63,7 @@ pub +heal-page-spec : {M : Type 1} → statement M
     let else = found .before .before in
     from (else .before .before .pre .1)
     (λ X h s.
-    let k = found-inner (else .if1 .left) h s (found .find-entry .ensures) in
+    let k = found-inner (else .before .before .args .hi) (else .if1 .left) h s (found .find-entry .ensures) in
     record { image = _; holds = below .heal-page .ensures X h (k .below); ready = (_, k .rebalances) }))
     -- same-length-2
     (λ c. search needs)
@@ -72,5 +73,6 @@ pub +heal-page-spec : {M : Type 1} → statement M
     let called = after .before in
     let below = called .before .before .before in
     let found = below .before .before .before in
-    let k = found-inner (found .before .before .if1 .left) h s (found .find-entry .ensures) in
+    let else = found .before .before in
+    let k = found-inner (else .before .before .args .hi) (else .if1 .left) h s (found .find-entry .ensures) in
     subst (Encodes _ _) (k .done) (after .rebalance-if-short .ensures _ (below .heal-page .ensures X h (k .below)) _ (k .rebalances))))

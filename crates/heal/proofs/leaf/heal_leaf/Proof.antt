@@ -17,11 +17,11 @@ start c = c .before .before .before
 -- the entry that has t, of every image that the bytes encode
 module _ (c : tie.After-find-entry) (X : Image) (h : Encodes (start c .args .half) (start c .args .img .now) X)
     (s : Searchable 0 (start c .args .p) (start c .args .t) X) where
-  found : c .find-entry .result ≡ found-in (start c .args .t) (entries X (start c .args .p))
+  found : c .find-entry .result ≡ found-in (start c .args .hi) (start c .args .t) (entries X (start c .args .p))
   found = c .find-entry .ensures X h 0 s
 
   read : Entry-read (c .find-entry .result .entry) 0 (start c .args .p) (c .find-entry .result .index) X
-  read = found-read (start c .args .t) (start c .args .p) X found s
+  read = found-read (start c .args .hi) (start c .args .t) (start c .args .p) X found s
 
 heals-requires : tie.Need-heals-requires
 heals-requires c κs =
@@ -41,14 +41,14 @@ returns c X h s kind =
     let at = goes .before .before .before in
     let e = read at X h s in
     let test = sym (goes .before .heals .ensures X h 0 e) ∙ goes .if1 .taken in
-    subst (Encodes _ _) (leaf-healed (start at .args .t) (start at .args .p) X (found at X h s) _ kind test)
+    subst (Encodes _ _) (leaf-healed (start at .args .hi) (start at .args .t) (start at .args .p) X (found at X h s) _ kind test)
     (removed .remove-entry .ensures X h 0 (e .has))
 
 returns-2 : tie.Need-returns-2
 returns-2 c X h s kind =
     let at = c .before .before .before in
     let test = sym (c .before .heals .ensures X h 0 (read at X h s)) ∙ c .if1 .left in
-    subst (Encodes _ _) (leaf-kept (start at .args .t) (start at .args .p) X (found at X h s) _ kind test) h
+    subst (Encodes _ _) (leaf-kept (start at .args .hi) (start at .args .t) (start at .args .p) X (found at X h s) _ kind test) h
 
 pub heal-leaf-spec : {M : Type 1} → statement M
 heal-leaf-spec =

@@ -1,13 +1,13 @@
 -- `lookup::levels::page_answer` meets its contract: behind the test the page is fit. Assumes nothing.
-use mathlib.Core.Path.{_≡_, sym, _∙_}
+use mathlib.Core.Path.{_≡_, sym, ap, _∙_}
 use mathlib.Core.Bool.{true}
 use Prim.Native.Nat.{_<_}
 use native.Mathlib.Omega.{arith}
 use borrow.Author.Needs.{needs}
 use borrow.Author.Tests.{not-true, not-false}
 use Rattle.page.specs.Entries.{index-of}
-use Rattle.page.specs.Layout.{capacity, entries-of}
-use Rattle.page.specs.Fit.{page-fit}
+use Rattle.page.specs.Layout.{capacity, entry-at, entries-of}
+use Rattle.page.specs.Fit.{end-at, page-fit}
 use Rattle.fit.proofs.Laws.Pages.{PageFit, page-fit-is, entry-first}
 use Rattle.page.proofs.Laws.Indices.{index-within}
 use Rattle.lookup.proofs.Laws.Levels.{level-unfit, level-found, fit-searched}
@@ -25,10 +25,10 @@ fit c = page-fit-is _ _ _ _ .0 (tested c)
 
 -- an entry was found
 here : (c : tie.After-find)
-    → let args = start (c .before .before) .args in c .find .result ≡ index-of (args .t) (entries-of (args .half) (args .s .now))
-here c = c .find .ensures _ (fit (c .before .before) .most)
+    → let args = start (c .before .before) .args in c .find .result .index ≡ index-of (args .t) (entries-of (args .half) (args .s .now))
+here c = c .find .ensures .index _ (fit (c .before .before) .most)
 
-within : (c : tie.After-find) → c .find .result < capacity (start (c .before .before) .args .half)
+within : (c : tie.After-find) → c .find .result .index < capacity (start (c .before .before) .args .half)
 within c =
     let began = start (c .before .before) in
     let args = began .args in
@@ -46,13 +46,12 @@ find-requires c κs =
 
 returns-2 : tie.Need-returns-2
 returns-2 c =
-    let found = c .before .before in
+    let found = c .before in
+    let args = start (found .before .before) .args in
     level-found (record {
       fit = tested (found .before .before);
-      here = here found;
-      pairs =
-          c .before .pair-at .ensures;
-      children = c .child-at .ensures;
+      entry = c .entry-at .ensures ∙ ap (entry-at (args .half) (args .s .now)) (here found);
+      ends = found .find .ensures .end ∙ ap (end-at (args .s .now) (args .at .hi)) (here found);
     })
 
 pub page-answer-spec : {M : Type 1} → statement M
@@ -60,5 +59,4 @@ page-answer-spec =
     tie.close
     (tie.spec (λ c κs. search needs) returns (λ c κs. search needs) (λ c. search needs) find-requires
     (λ c κs. (start (c .before .before) .pre .0 .1, within c))
-    (λ c κs. (start (c .before .before .before) .pre .0 .1, within (c .before)))
     returns-2)

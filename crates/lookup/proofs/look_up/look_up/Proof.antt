@@ -1,110 +1,69 @@
--- `lookup::look_up::look_up` meets its contract. The loop's invariant is a `Walk`, its measure the level. Assumes nothing.
-use mathlib.Core.Path.{_≡_, sym, ap, _∙_}
-use mathlib.Core.Bool.{false}
-use Prim.Native.Nat.{_+_}
-use native.Mathlib.Omega.{arith}
+-- `lookup::look_up::look_up` meets its contract: the way begins at the root. Assumes nothing.
+use mathlib.Core.Path.{_≡_, sym, ap, _∙_, subst⁻¹}
 use borrow.Author.Needs.{needs}
-use Rattle.page.specs.Fit.{Page-context, context-below, page-fit}
-use Rattle.image.specs.Images.{page-at}
-use Rattle.lookup.specs.Answers.{lookup-of}
-use Rattle.lookup.specs.declared.LookupAnswer.the-variants.{Answered}
-use Rattle.lookup.proofs.Laws.Levels.{Found, unfit-level, found-level}
+use Rattle.page.specs.Fit.{Page-context}
+use Rattle.image.specs.Instant.{look, look-up}
 use Rattle.access.proofs.Laws.{opened-ranges}
-use Rattle.lookup.proofs.Laws.Walks.{Walk, walk-root, walk-within, walk-met, walk-unfit, walk-number, walk-combinable, walk-leaf}
-use Rattle.lookup.proofs.Laws.Walks.{walk-below}
+use Rattle.lookup.specs.Levels.{Come-to, Met-in}
+use Rattle.lookup.proofs.Laws.Levels.{unfit-level}
+use Rattle.lookup.proofs.Laws.Walks.{come-root, come-within, come-met, unfit-looked, root-looked}
 use Rattle.lookup.proofs.look_up.look_up.Statement.{statement}
 use Rattle.lookup.proofs.look_up.look_up.Tie as tie
 
-abbrev Inv-loop : tie.InvT-loop
-Inv-loop half img h t at₀ p₀ so-far₀ pages₀ at p so-far pages = Walk half img h t at p so-far pages
+abbrev began : tie.After-root-context → tie.Start
+began c = c .before .before
 
-abbrev μ-loop : tie.MeasureT-loop
-μ-loop half img h t at₀ p₀ so-far₀ pages₀ at p so-far pages = at .level
+comes : (c : tie.After-root-context) → Come-to (began c .args .h) (c .root-context .result) (began c .args .h .root) (began c .args .t)
+comes c =
+    let start = began c in
+    subst⁻¹ (λ at. Come-to (start .args .h) at (start .args .h .root) (start .args .t)) (c .root-context .ensures)
+    (come-root (start .pre .0) (start .pre .1) (start .args .t))
 
-abbrev start : tie.At-loop Inv-loop μ-loop → tie.Start Inv-loop μ-loop
-start c = c .before .before .before
-
--- the turn that found an entry, and one that found none
-abbrev turn : tie.After-found Inv-loop μ-loop → tie.At-loop Inv-loop μ-loop
-turn c = c .before .before .before
-
-abbrev last-turn : tie.After-enum-told Inv-loop μ-loop → tie.At-loop Inv-loop μ-loop
-last-turn c = c .before .before .before
-
-abbrev found-of : tie.After-combine Inv-loop μ-loop → tie.After-found Inv-loop μ-loop
-found-of c = c .before .before
-
--- the entry that the page answered with
-entry : (c : tie.After-found Inv-loop μ-loop)
-    → Found (start (turn c) .args .half) (start (turn c) .args .h) (turn c .loop .at) (start (turn c) .args .t)
-    (page-at (start (turn c) .args .half) (start (turn c) .args .img .now) (turn c .loop .p))
-    (c .found .given .0 .0) (c .found .given .0 .1 .0) (c .found .given .0 .1 .1 .0)
-entry c = found-level _ _ _ _ _ (sym (c .found .given .1) ∙ c .before .before .level-answer .ensures)
-
--- or that it is unfit
-unfit : (c : tie.After-enum-told Inv-loop μ-loop)
-    → page-fit (start (last-turn c) .args .half) (start (last-turn c) .args .h) (last-turn c .loop .at)
-    (page-at (start (last-turn c) .args .half) (start (last-turn c) .args .img .now) (last-turn c .loop .p)) ≡ false
-unfit c =
-    unfit-level _ _ _ (start (last-turn c) .args .t) _
-    (sym (c .enum-told .given .1) ∙ c .before .before .level-answer .ensures)
-
-loop-holds : tie.Need-loop-holds Inv-loop μ-loop
-loop-holds c =
-    let began = c .before .before in
-    rw (c .root-context .ensures) (walk-root (began .pre .0) (began .pre .1) (began .args .t))
-
-level-answer-requires : tie.Need-level-answer-requires Inv-loop μ-loop
+level-answer-requires : tie.Need-level-answer-requires
 level-answer-requires c κs =
-    let o = start c .pre in
-    ((o .0, walk-within (o .0) (o .1) (c .loop .inv)), walk-met (o .0) (o .1) (c .loop .inv))
+    let pre = began c .pre in
+    ((pre .0, come-within (pre .0) (pre .1) (comes c)), come-met (pre .0) (pre .1) (comes c))
 
-returns : tie.Need-returns Inv-loop μ-loop
+abbrev rooted : tie.After-e → tie.After-root-context
+rooted c = c .before .before .before
+
+-- from the root on
+looked : (c : tie.After-root-context) → let args = began c .args in
+    look (args .half) (args .h) (args .img .now) (args .t) (c .root-context .result .level) (c .root-context .result) (args .h .root)
+    ≡ look-up (args .half) (args .img .now) (args .t)
+looked c =
+    let start = began c in
+    let args = start .args in
+    subst⁻¹
+    (λ (at : Page-context). look (args .half) (args .h) (args .img .now) (args .t) (at .level) at (args .h .root)
+    ≡ look-up (args .half) (args .img .now) (args .t))
+    (c .root-context .ensures) (root-looked (start .pre .0) (start .pre .1) (args .t))
+
+returns : tie.Need-returns
 returns c =
-    walk-unfit (start (last-turn c) .pre .0) (start (last-turn c) .pre .1) (last-turn c .loop .inv) (unfit c)
+    let answered = c .before .before in
+    let root = answered .before in
+    let pre = began root .pre in
+    unfit-looked (pre .0) (pre .1) (comes root) (unfit-level _ _ _ _ _ (sym (c .enum-told .given .1) ∙ answered .level-answer .ensures))
+    ∙ looked root
 
-combine-requires : tie.Need-combine-requires Inv-loop μ-loop
-combine-requires c κs =
-    let loop = turn (c .before) in
-    walk-combinable (start loop .pre .0) (start loop .pre .1) (loop .loop .inv) (entry (c .before))
+meets : (c : tie.After-e) → let args = began (rooted c) .args in
+    Met-in (args .half) (args .img .now) (args .h) (rooted c .root-context .result) (args .t) (c .e .given .0 .0) (c .e .given .0 .1 .0)
+    (args .h .root)
+meets c = record { come = comes (rooted c); found = sym (c .e .given .1) ∙ c .before .before .level-answer .ensures }
 
-returns-2 : tie.Need-returns-2 Inv-loop μ-loop
+look-requires : tie.Need-look-requires
+look-requires c κs =
+    let e = c .before in
+    (began (rooted e) .pre, (_, meets e))
+
+returns-2 : tie.Need-returns-2
 returns-2 c =
-    let combined = c .before .before in
-    let found = found-of combined in
-    let loop = turn found in
-    ap (λ pair. lookup-of (Answered pair (loop .loop .pages + 1))) (combined .combine .ensures)
-    ∙ walk-leaf (start loop .pre .0) (start loop .pre .1) (loop .loop .inv) (entry found) (c .if1 .taken)
-
-below-requires : tie.Need-below-requires Inv-loop μ-loop
-below-requires c κs =
-    let found = found-of (c .before .before) in
-    let loop = turn found in
-    let o = start loop .pre in (
-      walk-within (o .0) (o .1) (loop .loop .inv),
-      (
-        walk-number (o .0) (o .1) (loop .loop .inv) (entry found),
-        (omega (arith, c .if1 .left), walk-met (o .0) (o .1) (loop .loop .inv) .bounded),
-      ),
-    )
-
-loop-less : tie.Need-loop-less Inv-loop μ-loop
-unfolding context-below
-loop-less c = omega (arith, ap (λ (at : Page-context). at .level) (c .below .ensures), c .before .if1 .left)
-
-loop-again : tie.Need-loop-again Inv-loop μ-loop
-loop-again c =
-    let combined = c .before .before .before in
-    let found = found-of combined in
-    let loop = turn found in
-    rw (c .below .ensures, combined .combine .ensures)
-    (walk-below (start loop .pre .0) (start loop .pre .1) (loop .loop .inv) (entry found) (omega (arith, c .before .if1 .left)))
+    let e = c .before .before in
+    c .look .ensures _ (meets e) ∙ looked (rooted e)
 
 pub look-up-spec : {M : Type 1} → statement M
 look-up-spec =
     tie.close
-    (tie.spec Inv-loop μ-loop
-    (λ c κs. opened-ranges (c .before .pre .1) .height-least)
-    loop-holds level-answer-requires
-    (λ c. omega (arith, c .before .loop .inv .path .level))
-    (λ c. search needs) (λ c. search needs) returns combine-requires returns-2 below-requires loop-less loop-again)
+    (tie.spec (λ c κs. opened-ranges (c .before .pre .1) .height-least) level-answer-requires (λ c. search needs) (λ c. search needs)
+    returns look-requires returns-2)

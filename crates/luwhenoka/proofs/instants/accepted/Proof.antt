@@ -8,10 +8,10 @@ use Rattle.luwhenoka.specs.Answers.{instant-answer}
 use Rattle.luwhenoka.proofs.instants.accepted.Statement.{statement}
 use Rattle.luwhenoka.proofs.instants.accepted.Tie as tie
 
-sum-fits : (c : tie.After-struct-told) → SFits w64 (c .before .args .pair .sum)
+sum-fits : (c : tie.After-struct-told) → SFits w64 (c .before .before .args .found .pair .sum)
 sum-fits c = search needs
 
-count-fits : (c : tie.After-struct-told) → SFits w32 (c .before .args .pair .count)
+count-fits : (c : tie.After-struct-told) → SFits w32 (c .before .before .args .found .pair .count)
 count-fits c = search needs
 
 returns : tie.Need-returns

@@ -61,7 +61,7 @@ returns-4 c =
     let look = found .before .before in
     c .accepted .ensures
     ∙ ap instant-answer
-    (instant-0 _ _ _ (passed (look .before .before)) (ap lookup-of (sym (found .pair .given .1)) ∙ look .look-up .ensures))
+    (instant-0 _ _ _ (passed (look .before .before)) (ap lookup-of (sym (found .found .given .1)) ∙ look .look-up .ensures))
 
 returns-5 : tie.Need-returns-5
 unfolding lookup-of

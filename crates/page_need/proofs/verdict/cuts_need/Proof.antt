@@ -34,5 +34,7 @@ cuts-need-spec =
     (tie.spec (λ c κs. search needs)
     (λ c κs. leads (c .before))
     returns
-    (λ c κs. (leads (c .before), c .before .before .before .pre .1))
+    (λ c κs.
+    let start = c .before .before .before in
+    (leads (c .before), (start .pre .1, omega (arith, start .good, c .if1 .left))))
     returns-2)

@@ -6,8 +6,8 @@ use borrow.Fn.Kinds.{In}
 use borrow.Fn.PlainCycle.{Measures}
 use Rattle.lists.proofs.Cycles.{at-measure, below-measure}
 use Rattle.image.specs.Images.{image-of}
-use Rattle.page_need.proofs.Below.{fit-some, leads-on, later-fit, Both-below}
-use Rattle.page_need.proofs.Below.{both-below, found-most, found-leads, small-leaf, both-leaf}
+use Rattle.page_need.proofs.Below.{fit-some, leads-on, later-fit, Found-below}
+use Rattle.page_need.proofs.Below.{found-below, found-later, found-most, found-leads, small-leaf, both-leaf}
 use Rattle.page_need.proofs.Below.{same-small, same-inner, apart-small, apart-inner}
 use Rattle.page_need.proofs.walk.both_cuts.Reads as both-cuts
 use Rattle.page_need.proofs.walk.both_cuts.Kinds as both-cuts-kinds
@@ -43,20 +43,26 @@ known n = (
 abbrev given : ℕ → In 1 both-cuts-kinds.ps
 given n = at-measure 1 both-cuts-kinds.ps μ-both-cuts both-cuts.Pre n
 
--- where the page under the entry had been searched for both instants, and the start
+-- where the page under the entry had been searched for the earlier instant, and the start
 abbrev Searched : ℕ → Type 0
-Searched n = both-cuts-lts.After-find-entry2 (known n) (given n) both-cuts.Post
+Searched n = both-cuts-lts.After-find-entry (known n) (given n) both-cuts.Post
 
 abbrev began : (n : ℕ) → Searched n → both-cuts-lts.Start (known n) (given n) both-cuts.Post
-began n c = let first = c .before in first .before .before .before
+began n c = c .before .before .before
 
-below : (n : ℕ) (c : Searched n)
-    → Both-below (began n c .args .half) (began n c .args .img .now) (began n c .args .s) (began n c .args .t) (began n c .args .level)
-    (began n c .args .e)
-    (c .before .find-entry .result) (c .find-entry2 .result)
-below n c =
-    let first = c .before in
-    both-below (began n c .args .e) (began n c .pre .1) (first .before .if1 .left) (first .find-entry .ensures) (c .find-entry2 .ensures)
+below : (n : ℕ) (c : Searched n) → let args = began n c .args in
+    Found-below (args .half) (args .img .now) (args .hi) (args .s) (args .level) (args .e) (c .find-entry .result)
+below n c = found-below (began n c .args .e) (began n c .pre .1 .0) (c .before .if1 .left) (c .find-entry .ensures)
+
+-- and for the later one
+abbrev Parted : ℕ → Type 0
+Parted n = both-cuts-lts.After-find-entry2 (known n) (given n) both-cuts.Post
+
+second : (n : ℕ) (c : Parted n) → let args = began n (c .before .before .before) .args in
+    Found-below (args .half) (args .img .now) (args .hi) (args .t) (args .level) (args .e) (c .find-entry2 .result)
+second n c =
+    let first = c .before .before .before in
+    found-later (began n first .args .e) (below n first) (began n first .pre .1 .1 .0) (c .find-entry2 .ensures)
 
 pub +both-cuts-spec : {M : Type 1} → statement M
 +both-cuts-spec =
@@ -77,37 +83,43 @@ pub +both-cuts-spec : {M : Type 1} → statement M
     (c .add-needs .ensures))
     -- find-entry-requires
     (λ c κs. let start = c .before .before in fit-some (leads-on (start .args .e) (start .pre .1 .0) (c .if1 .left)))
-    -- find-entry-requires-2
-    (λ c κs.
-    let start = c .before .before .before in
-    fit-some (later-fit (leads-on (start .args .e) (start .pre .1 .0) (c .before .if1 .left)) (start .pre .1 .1)))
     -- sub-both-cuts
-    (λ c. omega (arith, below n (c .before .before .before) .0 .inner))
+    (λ c. omega (arith, below n (c .before .before) .inner))
     -- both-cuts-requires
     (λ c κs.
-    let second = c .before .before .before in
-    let k = below n second .0 in
-    let pre = began n second .pre in
-    (omega (arith, pre .0, k .inner), (found-leads k, pre .1 .1)))
+    let first = c .before .before in
+    let k = below n first in
+    let pre = began n first .pre in
+    (omega (arith, pre .0, k .inner), (found-leads k, (pre .1 .1 .0, c .if2 .taken))))
     -- page-need-requires
     (λ c κs.
-    let same = c .before in
-    let k = below n (same .before .before .before) in
-    (k .0 .page .holds .half-most, found-most (k .0), same-small k (c .both-cuts .ensures)))
+    let first = c .before .before .before in
+    let k = below n first in
+    (k .page .holds .half-most, found-most k, same-small k (began n first .pre .1 .1 .0) (c .both-cuts .ensures)))
     -- returns-2
     (λ c.
     let same = c .before .before in
-    same-inner (below n (same .before .before .before)) (c .before .both-cuts .ensures) (same .if2 .taken) (c .page-need .ensures))
+    let first = same .before .before in
+    same-inner (below n first) (began n first .pre .1 .1 .0) (c .before .both-cuts .ensures) (same .if2 .taken) (c .page-need .ensures))
+    -- find-entry-requires-2
+    (λ c κs.
+    let first = c .before .before in
+    fit-some (later-fit (below n first .page) (began n first .pre .1 .1 .0)))
     -- sub-parted-cuts
-    (λ c. omega (arith, below n (c .before .before .before) .0 .inner))
+    (λ c. omega (arith, below n (c .before .before .before) .inner))
     -- parted-cuts-requires
-    (λ c κs. let k = below n (c .before .before .before) in (found-leads (k .0), found-leads (k .1)))
+    (λ c κs. (found-leads (below n (c .before .before .before)), found-leads (second n c)))
     -- page-need-requires-2
     (λ c κs.
-    let other = c .before in
-    let k = below n (other .before .before .before) in
-    (k .0 .page .holds .half-most, found-most (k .0), apart-small k (c .parted-cuts .ensures)))
+    let parted = c .before in
+    let first = parted .before .before .before in
+    let k = below n first in
+    (k .page .holds .half-most, found-most k, apart-small k (began n first .pre .1 .1 .0) (second n parted) (c .parted-cuts .ensures)))
     -- returns-3
     (λ c.
-    let other = c .before .before in
-    apart-inner (below n (other .before .before .before)) (c .before .parted-cuts .ensures) (other .if2 .left) (c .page-need2 .ensures)))
+    let parted = c .before .before in
+    let apart = parted .before in
+    let first = apart .before .before in
+    let span = began n first .pre .1 .1 in
+    apart-inner (below n first) (span .0) (second n parted) (c .before .parted-cuts .ensures) (span .1) (apart .if2 .left)
+    (c .page-need2 .ensures)))

@@ -11,9 +11,9 @@ add-needs-requires c κs =
     let start = c .before .before .before in
     let args = start .args in
     let X = image-of (args .half) (args .img .now) in
-    let low = leads-low (args .half) (args .img .now) (args .s) (args .level) (args .x) (start .pre .0) in (
-      small-one (args .half) X (args .level) (args .x) low (args .s) (c .before .one-cut .ensures),
-      small-one (args .half) X (args .level) (args .y) low (args .t)
+    let low = leads-low (args .half) (args .img .now) (args .s) (args .level) (args .x .entry) (start .pre .0) in (
+      small-one (args .half) X (args .level) (args .x .entry) low (args .s) (c .before .one-cut .ensures),
+      small-one (args .half) X (args .level) (args .y .entry) low (args .t)
           (c .one-cut2 .ensures),
     )
 
@@ -21,7 +21,7 @@ returns : tie.Need-returns
 returns c =
     let second = c .before in
     let args = second .before .before .before .args in
-    apart-is (args .half) (args .s) (args .t) (image-of (args .half) (args .img .now)) (args .level) (args .x) (args .y)
+    apart-is (args .half) (args .s) (args .t) (image-of (args .half) (args .img .now)) (args .level) (args .x .entry) (args .y .entry)
     (second .before .one-cut .ensures)
     (second .one-cut2 .ensures)
     (c .add-needs .ensures)

@@ -24,7 +24,7 @@ entry-at-requires c κs =
     let lent = c .before .before in
     let pre = lent .before .before .pre in
     let same = lent .page-at .ensures in
-    (lent-size (pre .holds) (pre .ready .1 .tree-page) same, lent-inside (pre .holds) (pre .ready .1) same (c .find .ensures))
+    (lent-size (pre .holds) (pre .ready .1 .tree-page) same, lent-inside (pre .holds) (pre .ready .1) same (c .find .ensures .index))
 
 returns : tie.Need-returns
 returns c X h l k =
