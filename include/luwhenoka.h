@@ -123,18 +123,25 @@ uint32_t luw_format(uint8_t *image, size_t image_length, uint32_t kind, uint32_t
  *
  * pages is the number of tree pages read: the height of the tree (1 to 10) if answered. At 21 it is the number of pages up
  * to and including the unfit one, or 0 if that is the head or the capacity is bad. At 16 and 12 it is 0.
+ *
+ * start and end are those of the leaf entry that has t: start <= t < end, and end is LUW_END for the last one. Every
+ * instant of [start, end) gets this same answer, in all its fields, as long as the image isn't changed: nobody need ask
+ * again before end. Sum and count may hold for longer than that, since neighbouring leaf entries may have equal ones; a
+ * listing joins them, an instant doesn't. At every refusal start and end are 0.
  */
 struct luw_instant_answer {
     uint32_t status;
     uint32_t pages;
     int64_t sum;
     int32_t count;
+    uint32_t start; /* from this instant on, which is t or earlier */
+    uint32_t end;   /* up to but not including this one, which is later than t; LUW_END: to the end of time */
 };
 
 /*
- * The pair at instant t, combined on the way from the root to the leaf that has t. Only the head and the pages on that way
- * are looked at, each as a whole: damage elsewhere doesn't matter. Refusals: 16, 12, 21, and 21 for the capacity ahead of
- * them; sum and count are then 0.
+ * The pair at instant t, of all entries on the way from the root to the leaf that has t, combined; and the span of the
+ * last of them. Only the head and the pages on that way are looked at, each as a whole: damage elsewhere doesn't matter.
+ * Refusals: 16, 12, 21, and 21 for the capacity ahead of them; sum, count, start and end are then 0.
  */
 struct luw_instant_answer luw_instant(const uint8_t *image, size_t image_length, uint32_t t);
 
