@@ -16,6 +16,7 @@
 //!
 //! let now = instant(&image, 39)?;
 //! assert_eq!((now.sum, now.count), (6, 1));
+//! assert_eq!(now.until(), Some(40)); // no need to ask again before
 //!
 //! let mut output = [0; 16 * 8];
 //! let count = listing(&image, 0, END, &mut output)?;
@@ -115,7 +116,10 @@ pub fn format(image: &mut [u8], kind: Kind, window: u32, capacity: u32) -> Resul
     Refusal::result(raw::format(image, kind as u32, window, capacity))
 }
 
-/// What holds at an instant.
+/// What holds at an instant, and from when until when.
+///
+/// Every instant from `start` up to but not including `end` gets this same answer, in all its fields, as long as the image isn't
+/// changed.
 #[derive(Clone, Copy, PartialEq, Eq, Hash, Debug)]
 pub struct Instant {
     /// The sum of the values that count, or the greatest or least of them; 0 for nothing.
@@ -124,28 +128,57 @@ pub struct Instant {
     pub count: i32,
     /// The tree pages read, which is the height of the tree, 1 to 10.
     pub pages: u32,
+    /// Where the leaf entry that has the instant starts: at the instant or before.
+    pub start: u32,
+    /// Where that entry ends: behind the instant, and at [`END`] if it is the last one.
+    pub end: u32,
 }
 
-/// The pair at instant `t`. Only the head and the pages on the way from the root to the leaf that has `t` are looked at.
+impl Instant {
+    /// Until when the answer holds if the image isn't changed: no instant before that need be asked for. `None` if it holds for
+    /// ever.
+    ///
+    /// It is the end of the leaf entry. The sum and the count may hold for longer, since neighbouring entries may have equal ones;
+    /// a [`listing`] joins them.
+    ///
+    /// ```
+    /// use luwhenoka::{enter, format, instant, scratch_bytes, Kind};
+    ///
+    /// let mut image = [0; 1_024];
+    /// format(&mut image, Kind::Totals, 0, 24)?;
+    /// assert_eq!(instant(&image, 0)?.until(), None); // nothing is booked, for ever
+    ///
+    /// enter(&mut image, &mut [0; scratch_bytes(2)], 6, 10, 40)?;
+    /// assert_eq!([0, 9, 10, 39].map(|t| instant(&image, t).ok()?.until()), [Some(10), Some(10), Some(40), Some(40)]);
+    /// assert_eq!(instant(&image, 40)?.until(), None);
+    /// # Ok::<(), luwhenoka::Refusal>(())
+    /// ```
+    pub fn until(&self) -> Option<u32> {
+        (self.end != END).then_some(self.end)
+    }
+}
+
+/// The pair at instant `t`, and the start and end of its leaf entry. Only the head and the pages on the way from the root to the
+/// leaf that has `t` are looked at.
 ///
 /// Refusals: [`ImageLength`](Refusal::ImageLength), [`InstantEnd`](Refusal::InstantEnd), [`Unsound`](Refusal::Unsound), and
 /// ahead of them [`Unsound`](Refusal::Unsound) for a bad capacity; with each comes how many tree pages were read.
 ///
 /// ```
-/// use luwhenoka::{format, instant, Instant, Kind, Refusal, Refused};
+/// use luwhenoka::{format, instant, Instant, Kind, Refusal, Refused, END};
 ///
 /// let mut image = [0; 1_024];
 /// format(&mut image, Kind::Totals, 0, 24)?;
-/// assert_eq!(instant(&image, 0), Ok(Instant { sum: 0, count: 0, pages: 1 }));
+/// assert_eq!(instant(&image, 7), Ok(Instant { sum: 0, count: 0, pages: 1, start: 0, end: END }));
 ///
 /// image[512 + 4] = 25; // more entries than the page has room for
-/// assert_eq!(instant(&image, 0), Err(Refused { refusal: Refusal::Unsound, pages: 1 }));
+/// assert_eq!(instant(&image, 7), Err(Refused { refusal: Refusal::Unsound, pages: 1 }));
 /// # Ok::<(), Refusal>(())
 /// ```
 pub fn instant(image: &[u8], t: u32) -> Result<Instant, Refused> {
-    let raw::InstantAnswer { status, pages, sum, count } = raw::instant(image, t);
+    let raw::InstantAnswer { status, pages, sum, count, start, end } = raw::instant(image, t);
     match Refusal::result(status) {
-        Ok(()) => Ok(Instant { sum, count, pages }),
+        Ok(()) => Ok(Instant { sum, count, pages, start, end }),
         Err(refusal) => Err(Refused { refusal, pages }),
     }
 }

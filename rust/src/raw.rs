@@ -42,7 +42,7 @@ pub mod ffi {
     }
 }
 
-/// `struct luw_instant_answer`
+/// `struct luw_instant_answer`; `start` and `end` are the leaf entry's, 0 and 0 at a refusal.
 #[repr(C)]
 #[derive(Clone, Copy, PartialEq, Eq, Debug)]
 pub struct InstantAnswer {
@@ -50,6 +50,8 @@ pub struct InstantAnswer {
     pub pages: u32,
     pub sum: i64,
     pub count: i32,
+    pub start: u32,
+    pub end: u32,
 }
 
 /// `struct luw_average_answer`; `answer` is 0 for none, 1 for hundredths, 2 for a sum that no fit page can show.

@@ -118,12 +118,12 @@ fn every_capacity() {
             assert_eq!(instant(&image, 0).map(|answer| answer.pages), Ok(1));
             assert_eq!(enter(&mut image, &mut scratch, 1, 10 * i, 10 * i + 5), Ok(()));
         }
-        assert_eq!(instant(&image, 10), Ok(Instant { sum: 1, count: 1, pages: 2 }));
+        assert_eq!(instant(&image, 10), Ok(Instant { sum: 1, count: 1, pages: 2, start: 10, end: 15 }));
         assert_eq!(audit(&image, &mut scratch), Ok(()));
         let mut output = vec![0; 16 * capacity as usize * (PAGES - 1)];
         assert_eq!(listing(&image, 0, END, &mut output), Ok(capacity as usize + 1));
         assert_eq!(withdraw(&mut image, &mut scratch, 1, 10, 15), Ok(()));
-        assert_eq!(instant(&image, 10), Ok(Instant { sum: 0, count: 0, pages: 1 }));
+        assert_eq!(instant(&image, 10), Ok(Instant { sum: 0, count: 0, pages: 1, start: 0, end: 20 }));
         assert_eq!(image[CAPACITY_AT..][..4], capacity.to_le_bytes());
         assert_eq!(audit(&image, &mut scratch), Ok(()));
     }
@@ -136,7 +136,7 @@ fn older_images() {
     image[CAPACITY_AT..][..4].fill(0xFF);
     assert_eq!(audit(&image, &mut [9; scratch_bytes(2)]), Ok(()));
     assert_eq!(enter(&mut image, &mut [9; scratch_bytes(2)], 6, 10, 40), Ok(()));
-    assert_eq!(instant(&image, 39), Ok(Instant { sum: 6, count: 1, pages: 1 }));
+    assert_eq!(instant(&image, 39), Ok(Instant { sum: 6, count: 1, pages: 1, start: 10, end: 40 }));
     assert_eq!(withdraw(&mut image, &mut [9; scratch_bytes(2)], 6, 10, 40), Ok(()));
     assert_eq!(image[CAPACITY_AT..][..4], [0xFF; 4]);
     assert_eq!(audit(&image[..448], &mut [9; scratch_bytes(2)]), Err(Refusal::ImageLength));
@@ -172,10 +172,10 @@ fn the_capacity_is_judged_first() {
 #[test]
 fn instants_tell_pages() {
     let image = leaf_of(&[(0, 0, 0), (10, 6, 1), (40, 0, 0)]);
-    assert_eq!(instant(&image, 9), Ok(Instant { sum: 0, count: 0, pages: 1 }));
-    assert_eq!(instant(&image, 10), Ok(Instant { sum: 6, count: 1, pages: 1 }));
-    assert_eq!(instant(&image, 39), Ok(Instant { sum: 6, count: 1, pages: 1 }));
-    assert_eq!(instant(&image, 40), Ok(Instant { sum: 0, count: 0, pages: 1 }));
+    assert_eq!(instant(&image, 9), Ok(Instant { sum: 0, count: 0, pages: 1, start: 0, end: 10 }));
+    assert_eq!(instant(&image, 10), Ok(Instant { sum: 6, count: 1, pages: 1, start: 10, end: 40 }));
+    assert_eq!(instant(&image, 39), Ok(Instant { sum: 6, count: 1, pages: 1, start: 10, end: 40 }));
+    assert_eq!(instant(&image, 40), Ok(Instant { sum: 0, count: 0, pages: 1, start: 40, end: END }));
     assert_eq!(instant(&image, END), Err(Refused { refusal: Refusal::InstantEnd, pages: 0 }));
     assert_eq!(instant(&image[..512], 1), Err(Refused { refusal: Refusal::ImageLength, pages: 0 }));
     let mut worn = image.clone();
@@ -184,6 +184,99 @@ fn instants_tell_pages() {
     let mut worn = image.clone();
     worn[400] = 0;
     assert_eq!(instant(&worn, 1), Err(Refused { refusal: Refusal::Unsound, pages: 0 }));
+}
+
+// ---------------------------------------------------------------- until when
+
+/// Bookings of 1 on [10, 15), [20, 25) and so on, so many that the tree has this height at least.
+fn booked_up_to(capacity: u32, height: u32) -> Vec<u8> {
+    const PAGES: usize = 64;
+    let mut image = fresh_of(capacity, PAGES, Kind::Totals);
+    for i in 1.. {
+        if instant(&image, 0).expect("a sound image").pages >= height {
+            break;
+        }
+        enter(&mut image, &mut [0; scratch_bytes(PAGES)], 1, 10 * i, 10 * i + 5).expect("room for a booking");
+    }
+    image
+}
+
+/// The leaf entries are the stretches between the bookings' edges, at every height: where a page ends, its last entry ends with it,
+/// and not at the end of time.
+#[test]
+fn instants_tell_until_when() {
+    for (capacity, height) in capacities().flat_map(|capacity| (1..=3).map(move |height| (capacity, height))) {
+        let image = booked_up_to(capacity, height);
+        let mut output = vec![0; 16 * capacity as usize * 63];
+        let count = listing(&image, 0, END, &mut output).expect("a sound image");
+        let starts: Vec<u32> = runs(&output, count).map(|run| run.start).chain([END]).collect();
+        for two in starts.windows(2) {
+            for t in [two[0], two[0] + (two[1] - two[0]) / 2, two[1] - 1] {
+                let answer = instant(&image, t).expect("a sound image");
+                assert_eq!((answer.start, answer.end, answer.pages), (two[0], two[1], height));
+                assert_eq!(answer.until(), Some(two[1]).filter(|end| *end != END));
+                assert_eq!(Ok(answer), instant(&image, two[0]));
+            }
+        }
+    }
+}
+
+/// Two entries of equal pairs are one run, but each is told by itself.
+#[test]
+fn equal_neighbours_have_their_own_ends() {
+    let image = leaf_of(&[(0, 0, 0), (10, 6, 1), (20, 6, 1), (40, 0, 0)]);
+    for (t, start, end) in [(10, 10, 20), (19, 10, 20), (20, 20, 40), (39, 20, 40)] {
+        assert_eq!(instant(&image, t), Ok(Instant { sum: 6, count: 1, pages: 1, start, end }));
+    }
+    let mut output = [0; 48];
+    assert_eq!(listing(&image, 0, END, &mut output), Ok(3));
+}
+
+/// As the library returns it: a refusal has 0 and 0, with the pages read at 21.
+#[test]
+fn refusals_tell_no_span() {
+    let image = leaf_of(&[(0, 0, 0), (10, 6, 1), (40, 0, 0)]);
+    let refused = |status, pages| raw::InstantAnswer { status, pages, sum: 0, count: 0, start: 0, end: 0 };
+    assert_eq!(raw::instant(&image, END), refused(12, 0));
+    assert_eq!(raw::instant(&image[..1_023], 20), refused(16, 0));
+    assert_eq!(raw::instant(&image[..39], 20), refused(16, 0));
+    for (page, at, pages) in [(0, CAPACITY_AT, 0), (0, 400, 0), (1, 4, 1), (1, 8, 1), (1, 32 + 4, 1)] {
+        let mut worn = image.clone();
+        put(&mut worn, page, at, &[99]);
+        assert_eq!(raw::instant(&worn, 20), refused(21, pages));
+    }
+    let mut tall = booked_up_to(4, 3);
+    let sound = instant(&tall, END - 1).expect("a sound image");
+    assert_eq!((sound.pages, sound.end), (3, END));
+    for page in tall.chunks_mut(page_bytes(4)).skip(1).filter(|page| page[0] == 0) {
+        page[8] = 0; // in a leaf, where FF is due
+    }
+    for t in [0, 12, END - 1] {
+        assert_eq!(raw::instant(&tall, t), refused(21, 3));
+    }
+}
+
+/// A host that asks again only when its clock has reached the end, or when it made a change, knows at every second what one knows who
+/// asks each time.
+#[test]
+fn polling_by_ends() {
+    let (mut image, mut scratch) = (fresh_of(4, 16, Kind::Totals), [0; scratch_bytes(16)]);
+    let changes = [(0, 6, 10, 40), (0, 3, 20, 50), (25, 5, 30, 35), (30, 1, 5, 90), (45, -2, 46, END)];
+    let mut known: Option<Instant> = None;
+    let mut calls = 0;
+    for clock in 0..100 {
+        for (_, v, s, e) in changes.into_iter().filter(|(at, ..)| *at == clock) {
+            assert_eq!(enter(&mut image, &mut scratch, v, s, e), Ok(()));
+            known = None;
+        }
+        if known.is_none_or(|answer| answer.until().is_some_and(|end| end <= clock)) {
+            known = instant(&image, clock).ok();
+            calls += 1;
+        }
+        assert_eq!(known, instant(&image, clock).ok());
+        assert!(known.is_some());
+    }
+    assert_eq!(calls, 11);
 }
 
 #[test]

@@ -67,12 +67,20 @@ static int all(const uint8_t *bytes, size_t length, uint8_t value) {
     return 1;
 }
 
-static int holds(struct luw_instant_answer answer, int64_t sum, int32_t count, uint32_t pages) {
-    return answer.status == LUW_ACCEPTED && answer.sum == sum && answer.count == count && answer.pages == pages;
+static int same(struct luw_instant_answer one, struct luw_instant_answer other) {
+    return one.status == other.status && one.pages == other.pages && one.sum == other.sum && one.count == other.count &&
+           one.start == other.start && one.end == other.end;
+}
+
+/* A pair, from so many pages, and the start and end of its leaf entry. */
+static int holds(struct luw_instant_answer answer, int64_t sum, int32_t count, uint32_t pages, uint32_t start, uint32_t end) {
+    struct luw_instant_answer expected = {LUW_ACCEPTED, pages, sum, count, start, end};
+    return same(answer, expected);
 }
 
 static int turned_back(struct luw_instant_answer answer, uint32_t status, uint32_t pages) {
-    return answer.status == status && answer.pages == pages && answer.sum == 0 && answer.count == 0;
+    struct luw_instant_answer expected = {status, pages, 0, 0, 0, 0};
+    return same(answer, expected);
 }
 
 static int listed(struct luw_listing_answer answer, uint32_t status, uint32_t runs) {
@@ -138,23 +146,26 @@ static void formats(void) {
     CHECK(get(image, 4) == PAGES && get(image + 24, 4) == LUW_GREATEST && get(image + 28, 4) == 20);
     CHECK(get(image + CAPACITY_AT, 4) == capacity && all(image + 40, page_bytes - 40, 0xFF));
     CHECK(all(image + page_bytes * 2, page_bytes * (PAGES - 2), 0xFF));
-    CHECK(holds(luw_instant(image, length, 0), 0, 0, 1));
+    CHECK(holds(luw_instant(image, length, 0), 0, 0, 1, 0, LUW_END));
     CHECK(averages(luw_average(image, length, 0), LUW_ACCEPTED, LUW_NO_AVERAGE, 0));
     printf("fresh: audit %" PRIu32 ", %" PRIu32 " run\n", luw_audit(image, length, scratch, sizeof scratch),
            luw_listing(image, length, 0, LUW_END, output, sizeof output).runs);
 }
 
 static void instants(void) {
-    CHECK(holds(luw_instant(image, length, 9), 0, 0, 2));
-    CHECK(holds(luw_instant(image, length, 10), 1, 1, 2));
-    CHECK(holds(luw_instant(image, length, 14), 1, 1, 2));
-    CHECK(holds(luw_instant(image, length, 15), 0, 0, 2));
-    CHECK(holds(luw_instant(image, length, 124), 1, 1, 2));
-    CHECK(holds(luw_instant(image, length, LUW_END - 1), 0, 0, 2));
+    CHECK(holds(luw_instant(image, length, 9), 0, 0, 2, 0, 10));
+    CHECK(holds(luw_instant(image, length, 10), 1, 1, 2, 10, 15));
+    CHECK(holds(luw_instant(image, length, 14), 1, 1, 2, 10, 15));
+    CHECK(holds(luw_instant(image, length, 15), 0, 0, 2, 15, 20));
+    CHECK(holds(luw_instant(image, length, 124), 1, 1, 2, 120, 125));
+    CHECK(holds(luw_instant(image, length, LUW_END - 1), 0, 0, 2, 125, LUW_END));
+    /* The last entry of a page ends where its page does, and the last of all at the end of time. */
+    CHECK(holds(luw_instant(image, length, 62), 1, 1, 2, 60, 65));
     CHECK(turned_back(luw_instant(image, length, LUW_END), LUW_INSTANT_END, 0));
     CHECK(turned_back(luw_instant(image, length + 1, LUW_END), LUW_IMAGE_LENGTH, 0));
     struct luw_instant_answer now = luw_instant(image, length, 122);
-    printf("at 122: sum %" PRId64 ", count %" PRId32 ", %" PRIu32 " pages read\n", now.sum, now.count, now.pages);
+    printf("at 122: sum %" PRId64 ", count %" PRId32 " on [%" PRIu32 ", %" PRIu32 "), %" PRIu32 " pages read\n", now.sum,
+           now.count, now.start, now.end, now.pages);
 }
 
 static void averages_of_pairs(void) {
@@ -206,7 +217,7 @@ static void damage(void) {
     CHECK(all(output, sizeof output, 0xA5));
     CHECK(listed(luw_listing(image, length, 0, 65, output, sizeof output), LUW_ACCEPTED, 12));
     CHECK(turned_back(luw_instant(image, length, 65), LUW_UNSOUND, 2));
-    CHECK(holds(luw_instant(image, length, 64), 1, 1, 2));
+    CHECK(holds(luw_instant(image, length, 64), 1, 1, 2, 60, 65));
     CHECK(averages(luw_average(image, length, 65), LUW_UNSOUND, LUW_NO_AVERAGE, 0));
     image[page_bytes - 1] = 0;
     CHECK(turned_back(luw_instant(image, length, 64), LUW_UNSOUND, 0));
@@ -244,7 +255,7 @@ static void refused_changes(void) {
     CHECK(all(scratch, sizeof scratch, 9));
     CHECK(luw_format(image, length, LUW_GREATEST, 20, capacity) == LUW_ACCEPTED);
     CHECK(luw_enter(image, length, scratch, BORROWED, 4, 35, 45) == LUW_ACCEPTED);
-    CHECK(holds(luw_instant(image, length, 64), 4, 1, 1) && holds(luw_instant(image, length, 65), 0, 0, 1));
+    CHECK(holds(luw_instant(image, length, 64), 4, 1, 1, 35, 65) && holds(luw_instant(image, length, 65), 0, 0, 1, 65, LUW_END));
     CHECK(luw_withdraw(image, length, scratch, BORROWED, 4, 35, 45) == LUW_WITHDRAWAL_KIND);
     CHECK(all(scratch, BORROWED, 0) && all(scratch + BORROWED, 2, 9));
     put(0, 32, 1000000000, 4);
@@ -255,6 +266,48 @@ static void refused_changes(void) {
     }
     printf("the twelfth in three pages: refused with %" PRIu32 "\n",
            luw_enter(image, 3 * page_bytes, scratch, LUW_SCRATCH_BYTES(3), 1, 120, 125));
+}
+
+/* ---------------------------------------------------------------- until when */
+
+/* What is booked while the host below runs: at which second of its clock, and then value, start and end. */
+static const struct {
+    uint32_t second;
+    int64_t v;
+    uint32_t s;
+    uint32_t e;
+} bookings[] = {{0, 6, 10, 40}, {0, 3, 20, 50}, {32, 5, 35, 45}};
+
+/* Whether the index was changed at this second. */
+static int changed(uint32_t clock) {
+    int some = 0;
+    for (size_t i = 0; i < sizeof bookings / sizeof *bookings; i++) {
+        if (bookings[i].second == clock) {
+            CHECK(luw_enter(image, length, scratch, BORROWED, bookings[i].v, bookings[i].s, bookings[i].e) == LUW_ACCEPTED);
+            some = 1;
+        }
+    }
+    return some;
+}
+
+/*
+ * A host that has to know at every second what is booked. It asks once, and again only when its clock has reached the end
+ * of the answer, or when the index was changed. What it knows then is what a call would answer at each second. A refusal's
+ * end is 0, so that it would ask again at the next second.
+ */
+static void polling(void) {
+    struct luw_instant_answer known = {LUW_ACCEPTED, 0, 0, 0, 0, 0};
+    uint32_t seconds = 60, calls = 0;
+    CHECK(luw_format(image, length, LUW_TOTALS, 0, capacity) == LUW_ACCEPTED);
+    for (uint32_t clock = 0; clock < seconds; clock++) {
+        if (changed(clock) || clock >= known.end) {
+            known = luw_instant(image, length, clock);
+            calls++;
+            printf("at %" PRIu32 ": sum %" PRId64 ", count %" PRId32 " until %" PRIu32 "\n", clock, known.sum, known.count, known.end);
+        }
+        CHECK(known.start <= clock && clock < known.end && same(known, luw_instant(image, length, clock)));
+    }
+    printf("%" PRIu32 " seconds: %" PRIu32 " calls, %" PRIu32 " saved\n", seconds, calls, seconds - calls);
 }
 
 /* ---------------------------------------------------------------- the scratch */
@@ -301,10 +354,11 @@ static void other_capacities(void) {
     CHECK(page_bytes == 112);
     bookings_by_hand();
     CHECK(luw_audit(image, length, scratch, BORROWED) == LUW_ACCEPTED);
-    CHECK(holds(luw_instant(image, length, 22), 1, 1, 2) && holds(luw_instant(image, length, 15), 0, 0, 2));
+    CHECK(holds(luw_instant(image, length, 22), 1, 1, 2, 20, 25) && holds(luw_instant(image, length, 15), 0, 0, 2, 15, 20));
     CHECK(listed(luw_listing(image, length, 0, LUW_END, output, sizeof output), LUW_ACCEPTED, 5));
     put(2, 4, 5, 4);
-    CHECK(turned_back(luw_instant(image, length, 15), LUW_UNSOUND, 2) && holds(luw_instant(image, length, 14), 1, 1, 2));
+    CHECK(turned_back(luw_instant(image, length, 15), LUW_UNSOUND, 2));
+    CHECK(holds(luw_instant(image, length, 14), 1, 1, 2, 10, 15));
     printf("5 entries in a page of 4: refused with %d\n", LUW_UNSOUND);
     for (uint32_t entries = LUW_LEAST_CAPACITY; entries <= LUW_MOST_CAPACITY; entries += 2) {
         use_capacity(entries);
@@ -318,10 +372,11 @@ static void older_image(void) {
     bookings_by_hand();
     put(0, CAPACITY_AT, UINT32_MAX, 4);
     CHECK(luw_audit(image, length, scratch, BORROWED) == LUW_ACCEPTED);
-    CHECK(holds(luw_instant(image, length, 122), 1, 1, 2));
+    CHECK(holds(luw_instant(image, length, 122), 1, 1, 2, 120, 125));
     CHECK(turned_back(luw_instant(image, length - 1, 122), LUW_IMAGE_LENGTH, 0));
     CHECK(luw_enter(image, length, scratch, BORROWED, 5, 12, 122) == LUW_ACCEPTED);
-    CHECK(holds(luw_instant(image, length, 121), 6, 2, 2) && luw_audit(image, length, scratch, BORROWED) == LUW_ACCEPTED);
+    CHECK(holds(luw_instant(image, length, 121), 6, 2, 2, 120, 122));
+    CHECK(luw_audit(image, length, scratch, BORROWED) == LUW_ACCEPTED);
     CHECK(get(image + 32, 4) == 13 && all(image + CAPACITY_AT, 4, 0xFF));
     printf("FF for a capacity: read as 24, and kept by a change\n");
 }
@@ -367,6 +422,7 @@ int main(void) {
     damage();
     changes();
     refused_changes();
+    polling();
     scratches();
     other_capacities();
     older_image();
