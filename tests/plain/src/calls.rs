@@ -197,16 +197,22 @@ pub struct Instant {
     pub sum: i64,
     pub count: i32,
     pub pages: u32,
+    /// "the start and end of its leaf entry"
+    pub start: u32,
+    pub end: u32,
 }
 
 impl Instant {
+    /// "A refusal returns its number and zeros (instant: the pages read too)"; document 02, (viii): "Refusals give zeros for both new
+    /// numbers."
     fn refused(status: u32, pages: u32) -> Instant {
-        Instant { status, sum: 0, count: 0, pages }
+        Instant { status, sum: 0, count: 0, pages, start: 0, end: 0 }
     }
 }
 
 /// "An instant's answer combines the pairs on its way from root to leaf. It reports the tree pages read: the height if
-/// answered, or if a page is unfit, the pages up to and including it (0 for the head and at other refusals)."
+/// answered, or if a page is unfit, the pages up to and including it (0 for the head and at other refusals)." Document 02, (viii): "the
+/// instant answer gains the start and end of its leaf entry".
 pub fn instant(image: &[u8], t: u32) -> Instant {
     if let Err(status) = judge(image) {
         return Instant::refused(status, 0);
@@ -215,18 +221,41 @@ pub fn instant(image: &[u8], t: u32) -> Instant {
         return Instant::refused(BAD_INSTANT, 0);
     }
     let Some(head) = fit_head(image) else { return Instant::refused(UNFIT, 0) };
-    let mut place = root_place(&head);
-    let mut pair = NOTHING;
-    let mut pages = 0;
-    loop {
-        pages += 1;
-        let Some(page) = fit_page(image, &head, &place) else { return Instant::refused(UNFIT, pages) };
-        let i = page.entry_at(t);
-        pair = combine(head.kind, pair, page.entries[i].pair);
-        if page.is_leaf() {
-            return Instant { status: ACCEPTED, sum: pair.sum, count: pair.count, pages };
-        }
-        place = child_place(&place, &page, i);
+    match answer_from(image, &head, &root_place(&head), t) {
+        Err(UnfitAfter(pages)) => Instant::refused(UNFIT, pages),
+        Ok(Below { pair, leaf_entry, pages }) => Instant {
+            status: ACCEPTED,
+            sum: pair.sum,
+            count: pair.count,
+            pages,
+            start: leaf_entry.start,
+            end: leaf_entry.end,
+        },
+    }
+}
+
+/// What the way to t gives from a page on: the pairs from the leaf up to this page combined, the leaf entry's span, and the pages read.
+struct Below {
+    pair: Pair,
+    leaf_entry: Span,
+    pages: u32,
+}
+
+/// A page on the way is unfit; the pages read "up to and including it".
+struct UnfitAfter(u32);
+
+/// Document 02, (viii): "Finding the entry in a page shall give its end as well as its place, and all who use it pass that up"; "Pairs are
+/// from then on combined on the way back, leaf first".
+fn answer_from(image: &[u8], head: &Head, place: &Place, t: u32) -> Result<Below, UnfitAfter> {
+    let page = fit_page(image, head, place).ok_or(UnfitAfter(1))?;
+    let (i, end) = page.place_and_end_at(t, place.span.end);
+    let entry = page.entries[i];
+    if page.is_leaf() {
+        return Ok(Below { pair: entry.pair, leaf_entry: Span { start: entry.start, end }, pages: 1 });
+    }
+    match answer_from(image, head, &child_place(place, &page, i), t) {
+        Err(UnfitAfter(pages)) => Err(UnfitAfter(pages + 1)),
+        Ok(below) => Ok(Below { pair: combine(head.kind, below.pair, entry.pair), pages: below.pages + 1, ..below }),
     }
 }
 

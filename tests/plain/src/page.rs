@@ -186,6 +186,12 @@ impl Page {
         self.entries.iter().rposition(|entry| entry.start <= t).expect("a page's first entry starts at t or before")
     }
 
+    /// Document 02, (viii): "Finding the entry in a page shall give its end as well as its place", in a page that ends at `page_end`.
+    pub fn place_and_end_at(&self, t: u32, page_end: u32) -> (usize, u32) {
+        let i = self.entry_at(t);
+        (i, self.span_of(i, page_end).end)
+    }
+
     /// The entry of this inner page whose child is `page`.
     pub fn entry_of_child(&self, page: u32) -> usize {
         self.entries.iter().position(|entry| entry.child == page).expect("a page on the way is its parent's child")

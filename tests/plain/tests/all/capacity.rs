@@ -54,7 +54,7 @@ fn refused_by_all(image: &[u8], status: u32) {
     assert_eq!(judged(image), status);
     let mut copy = image.to_vec();
     for (t, s, e, v, length) in [(7, 7, 9, 1, 2_000), (END, 9, 9, 1_000_001, 0), (0, 5, 4, i64::MIN, 1)] {
-        assert_eq!(instant(image, t), plain::Instant { status, sum: 0, count: 0, pages: 0 });
+        assert_eq!(instant(image, t), refused(status, 0));
         assert_eq!(average(image, t), (status, None));
         let mut lent = vec![0x77; length];
         assert_eq!(listing(image, s, e, &mut lent), plain::Listing { status, runs: 0 });
@@ -73,7 +73,7 @@ fn images_under_40_bytes() {
         for byte in [0, 4, 24, 0xFF] {
             let image = vec![byte; length];
             for (t, length) in [(0, 1_024), (END, 0)] {
-                assert_eq!(instant(&image, t), plain::Instant { status: 16, sum: 0, count: 0, pages: 0 });
+                assert_eq!(instant(&image, t), refused(16, 0));
                 assert_eq!(average(&image, t), (16, None));
                 let mut lent = vec![9; length];
                 assert_eq!(listing(&image, t, END, &mut lent), plain::Listing { status: 16, runs: 0 });
@@ -124,7 +124,7 @@ fn lengths_of_other_capacities() {
                 cut.resize(n * (32 + 20 * other), 0xFF);
                 for image in [named, cut].into_iter().filter(|_| k != other) {
                     if judged(&image) == 0 {
-                        assert_eq!(instant(&image, 0), plain::Instant { status: 21, sum: 0, count: 0, pages: 0 });
+                        assert_eq!(instant(&image, 0), refused(21, 0));
                         assert!(!audit_both_ways(&image));
                         by_status[1] += 1;
                     } else {
@@ -162,8 +162,7 @@ fn numbers_of_entries_above_the_capacity() {
             for to in (k as u32 + 1..=25).chain([26, 40, 1 << 24, 1 << 31, u32::MAX]) {
                 let mut image = rack.image.clone();
                 set_word(&mut image, *page, 1, to);
-                let expected = plain::Instant { status: 21, sum: 0, count: 0, pages: above as u32 + 1 };
-                assert_eq!(instant(&image, 0), expected);
+                assert_eq!(instant(&image, 0), refused(21, above as u32 + 1));
                 assert!(!audit_both_ways(&image));
             }
         }
@@ -384,7 +383,7 @@ fn one_way_of_every_height() {
                 assert_eq!(Pair { sum: answer.sum, count: answer.count }, tree);
                 for t in [span.start.wrapping_sub(1), span.end].into_iter().filter(|t| *t != END) {
                     let answer = instant(&image, t);
-                    assert!(answer.status == 21 && (2..=height).contains(&answer.pages));
+                    assert!(answer == refused(21, answer.pages) && (2..=height).contains(&answer.pages));
                 }
                 let head = instant(
                     &{
@@ -394,7 +393,7 @@ fn one_way_of_every_height() {
                     },
                     0,
                 );
-                assert_eq!((head.status, head.pages), (21, 0));
+                assert_eq!(head, refused(21, 0));
                 instants += 5;
             }
         }

@@ -90,12 +90,15 @@ fn check_damaged(image: &[u8], whole: &[u8], damaged: &[u32], tree: &Node, seen:
         if sound {
             assert_eq!(answer.status, 0, "an instant on a sound image is answered");
         }
+        if answer.status == 0 {
+            assert_eq!((answer.start, answer.end), leaf_entry_at(image, t));
+        }
         let way = tree.way(t);
         if !damaged.contains(&0) && !way.iter().any(|page| damaged.contains(page)) {
             assert_eq!(answer, instant(whole, t), "a page that isn't met doesn't matter");
         }
         if answer.status == 21 {
-            assert_eq!((answer.sum, answer.count), (0, 0));
+            assert_eq!(answer, refused(21, answer.pages));
             seen.instants_refused += 1;
             if damaged.contains(&0) {
                 assert!(answer.pages <= 10);
@@ -136,8 +139,7 @@ fn check_damaged(image: &[u8], whole: &[u8], damaged: &[u32], tree: &Node, seen:
 /// Every call on an image whose K is bad, or whose length its K doesn't allow: turned back ahead of everything else.
 fn check_turned_back(image: &[u8], seen: &mut Seen) {
     for t in [0, 64, END] {
-        let expected = plain::Instant { status: judged(image), sum: 0, count: 0, pages: 0 };
-        assert_eq!(instant(image, t), expected);
+        assert_eq!(instant(image, t), refused(judged(image), 0));
         assert_eq!(average(image, t), (judged(image), None));
         let mut out = [0x5A; 64];
         assert_eq!(listing(image, t, END, &mut out), plain::Listing { status: judged(image), runs: 0 });

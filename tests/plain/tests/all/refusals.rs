@@ -118,7 +118,7 @@ fn lengths() {
         assert_eq!(format(&mut image, 9, u32::MAX, 24), 16);
         assert_eq!(enter(&mut image, &mut [], 1_000_001, 5, 5), 16);
         assert_eq!(withdraw(&mut image, &mut [], 1_000_001, 5, 5), 16);
-        assert_eq!((instant(&image, END).status, instant(&image, END).pages), (16, 0));
+        assert_eq!(instant(&image, END), refused(16, 0));
         assert_eq!(average(&image, END), (16, None));
         assert_eq!(listing(&image, 5, 5, &mut out), plain::Listing { status: 16, runs: 0 });
         assert_eq!(audit(&image, &mut []), 16);
@@ -149,19 +149,18 @@ fn formats() {
 #[test]
 fn instants_and_averages() {
     let mut image = fresh(2, 1, 0);
-    let refused = |status| plain::Instant { status, sum: 0, count: 0, pages: 0 };
-    assert_eq!(instant(&image, END), refused(12));
+    assert_eq!(instant(&image, END), refused(12, 0));
     assert_eq!(instant(&image, END - 1).status, 0);
     // 12 is ahead of 21.
     set_word(&mut image, 0, KIND, 0);
-    assert_eq!(instant(&image, END), refused(12));
+    assert_eq!(instant(&image, END), refused(12, 0));
     assert_eq!(average(&image, END), (12, None));
-    assert_eq!(instant(&image, 0), refused(21));
+    assert_eq!(instant(&image, 0), refused(21, 0));
     assert_eq!(average(&image, 0), (21, None));
     // An unfit root is one page read.
     let mut image = fresh(2, 1, 0);
     set_word(&mut image, 1, 0, 1);
-    assert_eq!(instant(&image, 0), plain::Instant { status: 21, sum: 0, count: 0, pages: 1 });
+    assert_eq!(instant(&image, 0), refused(21, 1));
     assert_eq!(average(&image, 0), (21, None));
     // R13: kinds 2 and 3 have no average, END and an unfit page are refused all the same.
     for kind in [2, 3] {

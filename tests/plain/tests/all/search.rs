@@ -93,7 +93,7 @@ fn the_entry_at_the_late_end() {
 }
 
 /// Every start but 0 this much later.
-fn move_starts(image: &mut [u8], by: u32) {
+pub fn move_starts(image: &mut [u8], by: u32) {
     for page in 1..word(image, 0, HIGH_MARK) {
         for i in 0..get_u32(image, page, ENTRY_COUNT_AT) as usize {
             let start = get_u32(image, page, start_at(i));
@@ -147,7 +147,7 @@ fn ways_have_their_instant() {
 #[test]
 fn only_fit_pages_are_searched() {
     let mut random = Xorshift::new(3);
-    let (mut refused, mut different) = (0, 0);
+    let (mut instants, mut different) = (0, 0);
     for k in CAPACITIES {
         for entries in 2..=k {
             for rising in sorts_of_starts(entries, &mut random) {
@@ -157,9 +157,9 @@ fn only_fit_pages_are_searched() {
                     let mut image = image_of(k, &starts);
                     for t in beside(&rising) {
                         let answer = instant(&image, t);
-                        assert_eq!((answer.status, answer.sum, answer.count, answer.pages), (21, 0, 0, 1));
+                        assert_eq!(answer, refused(21, 1));
                         different += u64::from(from_the_late_end(&starts, t) != from_the_early_end(&starts, t));
-                        refused += 1;
+                        instants += 1;
                     }
                     assert_eq!(audit(&image, &mut [7]), 21);
                     assert_eq!(enter(&mut image, &mut [7], 1, rising[i], END), 21);
@@ -167,6 +167,6 @@ fn only_fit_pages_are_searched() {
             }
         }
     }
-    report(&format!("search: {refused} instants refused, at {different} the ends lead to different entries"));
+    report(&format!("search: {instants} instants refused, at {different} the ends lead to different entries"));
     assert!(different > 1_000);
 }

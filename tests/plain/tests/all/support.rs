@@ -301,6 +301,26 @@ pub fn height(image: &[u8]) -> u32 {
     word(image, 0, HEIGHT)
 }
 
+/// An instant's answer at a refusal: "A refusal returns its number and zeros (instant: the pages read too)", and by document 02, (viii),
+/// "zeros for both new numbers".
+pub fn refused(status: u32, pages: u32) -> plain::Instant {
+    plain::Instant { status, sum: 0, count: 0, pages, start: 0, end: 0 }
+}
+
+/// Where the leaf entry that has t starts and ends, without a look at fitness. Each page on the way narrows the span: an entry's end is
+/// the next start in its page, and the last one's stays that of the page.
+pub fn leaf_entry_at(image: &[u8], t: u32) -> (u32, u32) {
+    let (mut page, mut span) = (word(image, 0, ROOT), (0, END));
+    for _ in 0..height(image) {
+        let entries = get_u32(image, page, ENTRY_COUNT_AT) as usize;
+        let starts: Vec<u32> = (0..entries).map(|i| get_u32(image, page, start_at(i))).collect();
+        let earlier = starts.iter().filter(|start| **start <= t).count();
+        span = (starts[earlier - 1], starts.get(earlier).copied().unwrap_or(span.1));
+        page = get_u32(image, page, entry_in(capacity(image), earlier - 1) + 12);
+    }
+    span
+}
+
 /// A tree read from the image into nested lists: the starts of leaves, the pages below inner entries.
 #[derive(Clone, PartialEq, Eq, Debug)]
 pub enum Node {
@@ -688,6 +708,8 @@ impl Rack {
         assert_eq!(answer.status, 0);
         assert_eq!(Pair { sum: answer.sum, count: answer.count }, expected, "at {t}");
         assert_eq!(answer.pages, height(&self.image));
+        assert_eq!((answer.start, answer.end), leaf_entry_at(&self.image, t), "at {t}");
+        assert!(answer.start <= t && t < answer.end);
         self.tally.instants += 1;
     }
 
