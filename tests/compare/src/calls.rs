@@ -1,6 +1,6 @@
 //! The calls, as the plain version and as the library do them. A further call is one more case here.
 
-use luwhenoka::raw::ffi;
+use luwhenoka::raw::{ffi, InstantAnswer};
 use plain::{Average, RecordedChange};
 
 #[derive(Clone, Copy, PartialEq, Eq, Debug)]
@@ -58,6 +58,8 @@ pub struct Answer {
     pub pages: u32,
     pub sum: i64,
     pub count: i32,
+    pub start: u32,
+    pub end: u32,
     pub average: u32,
     pub hundredths: i64,
     pub runs: u32,
@@ -68,8 +70,9 @@ impl Answer {
         Answer { status, ..Answer::default() }
     }
 
-    pub fn pair(sum: i64, count: i32, pages: u32) -> Answer {
-        Answer { sum, count, pages, ..Answer::default() }
+    /// An instant's, with the start and end of its leaf entry.
+    pub fn pair(sum: i64, count: i32, pages: u32, (start, end): (u32, u32)) -> Answer {
+        Answer { sum, count, pages, start, end, ..Answer::default() }
     }
 
     pub fn runs(runs: u32) -> Answer {
@@ -106,8 +109,8 @@ fn without_steps(call: Call, lent: Lent) -> Answer {
     match call {
         Call::Format { kind, window, capacity } => Answer::status(plain::format(image, kind, window, capacity)),
         Call::Instant { t } => {
-            let plain::Instant { status, sum, count, pages } = plain::instant(image, t);
-            Answer { status, pages, sum, count, ..Answer::default() }
+            let plain::Instant { status, sum, count, pages, start, end } = plain::instant(image, t);
+            Answer { status, ..Answer::pair(sum, count, pages, (start, end)) }
         }
         Call::Average { t } => {
             let (status, hundredths) = plain::average(image, t);
@@ -146,8 +149,8 @@ pub fn by_library(call: Call, lent: Lent, null: bool) -> Answer {
                 Answer::status(ffi::luw_format(image, image_length, kind, window, capacity))
             }
             Call::Instant { t } => {
-                let answer = ffi::luw_instant(image, image_length, t);
-                Answer { status: answer.status, ..Answer::pair(answer.sum, answer.count, answer.pages) }
+                let InstantAnswer { status, pages, sum, count, start, end } = ffi::luw_instant(image, image_length, t);
+                Answer { status, ..Answer::pair(sum, count, pages, (start, end)) }
             }
             Call::Average { t } => library_averaged(ffi::luw_average(image, image_length, t)),
             Call::AverageOf { kind, sum, count } => library_averaged(ffi::luw_average_of(kind, sum, count)),

@@ -1,6 +1,6 @@
 //! One image, lent to the plain version and to the library alike; every call is done by both and compared: the status and
 //! the answer, and every byte of image, scratch and output, with the bytes around them. Of a change also the pages that it
-//! wrote, against those that its steps name.
+//! wrote, against those that its steps name; of an instant the pair, start and end, against the image and at other instants of its entry.
 
 use std::cell::Cell;
 use std::sync::Mutex;
@@ -9,7 +9,7 @@ use plain::RecordedChange;
 
 use crate::calls::{by_library, by_plain, Answer, Call, Lent};
 use crate::guarded::Guarded;
-use crate::images::pages_of;
+use crate::images::{leaf_entry_at, pages_of, pair_on_way};
 use crate::random::Random;
 use crate::steps::Change;
 use crate::tally::Tally;
@@ -116,7 +116,10 @@ impl Comparer {
         let (expected, recorded) = by_plain(call, Lent { image, scratch, output });
         let (image, scratch, output) = (self.lent.lent(), self.lent_scratch.lent(), self.lent_output.lent());
         let answer = by_library(call, Lent { image, scratch, output }, self.null);
-        let difference = self.difference(expected, answer).or_else(|| self.wrong_writes(call, answer, recorded));
+        let difference = self
+            .difference(expected, answer)
+            .or_else(|| self.wrong_instant(call, answer))
+            .or_else(|| self.wrong_writes(call, answer, recorded));
         if let Some(difference) = difference {
             self.end(&difference);
         }
@@ -141,6 +144,33 @@ impl Comparer {
         byte("image", &self.image, &self.lent)
             .or_else(|| byte("scratch", &self.scratch, &self.lent_scratch))
             .or_else(|| byte("output", &self.output, &self.lent_output))
+    }
+
+    /// What is wrong with an instant's answer: by the image, whose pages on the way are fit, and by the library's own answers, which are
+    /// the same at the first instant of the leaf entry, at one between and at the last. No other answer has a start and an end.
+    fn wrong_instant(&mut self, call: Call, answer: Answer) -> Option<String> {
+        let (Call::Instant { t }, 0) = (call, answer.status) else {
+            return ((answer.start, answer.end) != (0, 0)).then(|| "a start and an end where none are due".to_string());
+        };
+        let (entry, pair) = (leaf_entry_at(&self.image, t), pair_on_way(&self.image, t));
+        if (answer.start, answer.end) != (entry.start, entry.end) || t < answer.start || answer.end <= t {
+            let Answer { start, end, .. } = answer;
+            return Some(format!("start and end are {start} and {end} by both, {entry:?} by the image"));
+        }
+        if (answer.sum, answer.count) != (pair.sum, pair.count) {
+            return Some(format!("the pair is {} and {} by both, {pair:?} on the way", answer.sum, answer.count));
+        }
+        self.tally.spans.add(&self.image, &entry);
+        for other in entry.instants() {
+            let lent = Lent { image: self.lent.lent(), scratch: &mut [], output: &mut [] };
+            let again = by_library(Call::Instant { t: other }, lent, self.null);
+            if again != answer {
+                return Some(format!(
+                    "the library answers {answer:?} at {t} and {again:?} at {other}, in the same entry"
+                ));
+            }
+        }
+        None
     }
 
     /// What a call wrote to the image that it may not write, by the image ahead of it.

@@ -4,6 +4,7 @@ use std::time::Instant;
 
 use plain::capacity::Capacity;
 use plain::making::{fresh_without_field, tree, Choice, Wanted};
+use plain::value::combine;
 use plain::{Pair, END};
 
 use crate::random::Random;
@@ -123,6 +124,41 @@ pub fn way(image: &[u8], t: u32) -> Vec<Place> {
         page = u32_at(image, page, child_at(capacity(image), i)) as usize;
     }
     way
+}
+
+/// A leaf entry's start and end.
+#[derive(Clone, Copy, PartialEq, Eq, Debug)]
+pub struct LeafEntry {
+    pub start: u32,
+    pub end: u32,
+    /// How many pages above its own the end stands as a start; none for END, which no page has.
+    pub end_above: Option<usize>,
+}
+
+impl LeafEntry {
+    /// Its first instant, one between, and its last.
+    pub fn instants(&self) -> [u32; 3] {
+        [self.start, self.start + (self.end - self.start) / 2, self.end - 1]
+    }
+}
+
+/// The leaf entry that has t, by the pages on its way, which are fit: an entry ends at the next start in its page, and the last one with
+/// its page.
+pub fn leaf_entry_at(image: &[u8], t: u32) -> LeafEntry {
+    let way = way(image, t);
+    let leaf = &way[way.len() - 1];
+    let mut found = LeafEntry { start: u32_at(image, leaf.page, start_at(leaf.i)), end: END, end_above: None };
+    for (depth, place) in way.iter().enumerate().filter(|(_, place)| place.i + 1 < place.entries) {
+        found.end = u32_at(image, place.page, start_at(place.i + 1));
+        found.end_above = Some(way.len() - 1 - depth);
+    }
+    found
+}
+
+/// The pairs on the way to t, combined from the root on: the order of document 01.
+pub fn pair_on_way(image: &[u8], t: u32) -> Pair {
+    let pairs = way(image, t).into_iter().map(|place| pair_at(image, place.page, place.i));
+    pairs.reduce(|above, below| combine(head(image, KIND), above, below)).expect("a way has a page")
 }
 
 /// The starts of a page's entries.

@@ -15,6 +15,7 @@ mod images;
 mod places;
 mod random;
 mod scratches;
+mod spans;
 mod steps;
 mod tally;
 mod work;

@@ -4,6 +4,7 @@ use crate::calls::{Answer, Call, NAMES};
 use crate::capacities::Capacities;
 use crate::places::Places;
 use crate::scratches::Scratches;
+use crate::spans::Spans;
 use crate::steps::Steps;
 
 const STATUSES: usize = 25;
@@ -26,6 +27,8 @@ pub struct Tally {
     pub capacities: Capacities,
     places: Places,
     pub scratches: Scratches,
+    /// Of the instants that were answered.
+    pub spans: Spans,
     /// Of the changes that were accepted.
     pub steps: Steps,
 }
@@ -40,6 +43,7 @@ impl Default for Tally {
             capacities: Capacities::default(),
             places: Places::default(),
             scratches: Scratches::default(),
+            spans: Spans::default(),
             steps: Steps::default(),
         }
     }
@@ -71,6 +75,7 @@ impl Tally {
         self.capacities.add_all(&other.capacities);
         self.places.add_all(&other.places);
         self.scratches.add_all(&other.scratches);
+        self.spans.add_all(&other.spans);
         self.steps.add_all(&other.steps);
     }
 
@@ -95,6 +100,7 @@ impl Tally {
             self.averages[0], self.averages[1], self.averages[2]
         );
         self.places.print();
+        self.spans.print();
         self.scratches.print();
         self.steps.print();
         self.capacities.print();
@@ -122,6 +128,7 @@ impl Tally {
         lacking.extend(self.capacities.lacking());
         lacking.extend(self.scratches.lacking());
         lacking.extend(self.places.lacking());
+        lacking.extend(self.spans.lacking());
         if self.calls() < FEWEST_CALLS || self.steps.changes() < FEWEST_CHANGES {
             lacking.push(format!("{FEWEST_CALLS} calls and {FEWEST_CHANGES} accepted changes"));
         }

@@ -121,7 +121,7 @@ fn above_32_bits() {
         return;
     };
     vast.lent()[..1_024].copy_from_slice(&image);
-    let refused = luwhenoka::raw::InstantAnswer { status: 16, pages: 0, sum: 0, count: 0 };
+    let refused = raw::InstantAnswer { status: 16, pages: 0, sum: 0, count: 0, start: 0, end: 0 };
     assert_eq!(raw::instant(vast.lent(), 0), refused);
     assert_eq!(raw::average(vast.lent(), 0).status, 16);
     assert_eq!(raw::listing(vast.lent(), 0, END, &mut [0; 16]).status, 16);

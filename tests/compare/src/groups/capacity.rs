@@ -265,7 +265,7 @@ pub fn capacity_formats(comparer: &mut Comparer, _: &Pool, _: usize) {
                 if status == 0 {
                     assert_eq!(head(comparer.image(), CAPACITY), k, "format writes the field");
                     comparer.expect(Call::Audit, scratch_bytes(length / page), 0, Answer::status(0));
-                    comparer.expect(Call::Instant { t: 9 }, 0, 0, Answer::pair(0, 0, 1));
+                    comparer.expect(Call::Instant { t: 9 }, 0, 0, Answer::pair(0, 0, 1, (0, END)));
                 }
             }
         }

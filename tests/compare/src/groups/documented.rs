@@ -6,12 +6,17 @@ use plain::END;
 
 use crate::calls::{Answer, Call};
 use crate::comparer::Comparer;
-use crate::images::{enter_in_order, fresh, head, scratch_bytes, Pool, CHANGES, HEIGHT};
+use crate::images::{enter_in_order, fresh, head, leaf_entry_at, scratch_bytes, Pool, CHANGES, HEIGHT};
 
 impl Comparer {
     fn expect_pair(&mut self, t: u32, sum: i64, count: i32) {
-        let pages = head(self.image(), HEIGHT);
-        self.expect(Call::Instant { t }, 0, 0, Answer::pair(sum, count, pages));
+        let (pages, entry) = (head(self.image(), HEIGHT), leaf_entry_at(self.image(), t));
+        self.expect(Call::Instant { t }, 0, 0, Answer::pair(sum, count, pages, (entry.start, entry.end)));
+    }
+
+    fn expect_entry(&mut self, t: u32, start: u32, end: u32) {
+        let answer = self.instant(t);
+        assert_eq!((answer.start, answer.end), (start, end), "the leaf entry that has {t}");
     }
 
     fn expect_average(&mut self, t: u32, hundredths: Option<i64>) {
@@ -68,18 +73,23 @@ fn fresh_or_without(n: usize, kind: u32, window: u32, without: bool) -> Vec<u8> 
 }
 
 /// "Fresh: instant 0 gives (0, 0), 1 page read." "Enter 6 on [10, 40): instant 9 (0, 0); 10 and 39 (6, 1); 40 (0, 0)." "Then
-/// withdraw it: one run, one leaf entry."
+/// withdraw it: one run, one leaf entry." Document 02, (viii): "the instant answer gains the start and end of its leaf entry".
 fn enter_and_withdraw(comparer: &mut Comparer, n: usize) {
     comparer.lend(&vec![0x5A; 512 * n]);
     comparer.expect(Call::Format { kind: 1, window: 0, capacity: 24 }, 0, 0, Answer::status(0));
     comparer.expect(Call::Audit, scratch_bytes(n), 0, Answer::status(0));
     comparer.expect_pair(0, 0, 0);
+    comparer.expect_entry(0, 0, END);
     comparer.expect_booked(0, 6, 10, 40);
+    for (t, start, end) in [(9, 0, 10), (10, 10, 40), (39, 10, 40), (40, 40, END), (END - 1, 40, END)] {
+        comparer.expect_entry(t, start, end);
+    }
     comparer.expect_runs(0, END, &[(0, 0, 0), (10, 6, 1), (40, 0, 0)]);
     comparer.expect_average(39, Some(600));
     comparer.expect_average(40, None);
     comparer.expect_withdrawn(0, 6, 10, 40);
     comparer.expect_runs(0, END, &[(0, 0, 0)]);
+    comparer.expect_entry(20, 0, END);
     comparer.expect(Call::Audit, scratch_bytes(n), 0, Answer::status(0));
 }
 

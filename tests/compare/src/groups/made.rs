@@ -16,7 +16,7 @@ use crate::random::Random;
 // ---------------------------------------------------------------- sound images
 
 /// K, pages and height of the images.
-const MADE: [(usize, usize, u32); 12] = [
+pub const MADE: [(usize, usize, u32); 12] = [
     (4, 1_024, 10),
     (4, 1_024, 9),
     (6, 1_024, 7),
@@ -65,7 +65,7 @@ pub fn made_heights(comparer: &mut Comparer, _: &Pool, part: usize) {
 }
 
 /// Pages below the high mark only: those behind it stay FF.
-fn swap_used(image: &mut [u8], one: u32, other: u32) {
+pub fn swap_used(image: &mut [u8], one: u32, other: u32) {
     let mark = head(image, crate::images::HIGH_MARK);
     if one < mark && other < mark {
         swap_pages(image, one, other);

@@ -6,6 +6,7 @@ mod capacity;
 mod cycles;
 mod damage;
 mod documented;
+mod ends;
 mod every_capacity;
 mod formats;
 mod grow_shrink;
@@ -109,6 +110,13 @@ pub const GROUPS: &[Group] = &[
         parts: search::PARTS,
         random: true,
         run: search::search,
+    },
+    Group {
+        name: "ends",
+        what: "every leaf entry by its first and last instant, unfit pages on its way",
+        parts: ends::PARTS,
+        random: true,
+        run: ends::ends,
     },
     Group {
         name: "split_merge",

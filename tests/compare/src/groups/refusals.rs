@@ -8,7 +8,8 @@ use plain::END;
 use crate::calls::{Answer, Call};
 use crate::comparer::Comparer;
 use crate::images::{
-    capacity, enter_in_order, fresh, fresh_of, head, page_bytes, pages_of, scratch_bytes, Pool, CAPACITY, CHANGES, KIND,
+    capacity, enter_in_order, fresh, fresh_of, head, leaf_entry_at, page_bytes, pages_of, scratch_bytes, Pool,
+    CAPACITY, CHANGES, KIND,
 };
 
 const ORDER: [u32; 12] = [16, 17, 11, 12, 13, 14, 21, 22, 23, 24, 15, 0];
@@ -104,7 +105,9 @@ fn instants(comparer: &mut Comparer, image: &[u8], cut: usize) {
         let status = judged(by_judging, &[(12, end), (21, bad_head | bad_page)]);
         let t = if end { END } else { 3 };
         let pages = u32::from(by_judging == 0 && (status == 0 || status == 21 && !bad_head));
-        comparer.expect(Call::Instant { t }, 0, 0, Answer { pages, ..Answer::status(status) });
+        // Answered, it is the first entry, which starts at 0.
+        let end = if status == 0 { leaf_entry_at(image, t).end } else { 0 };
+        comparer.expect(Call::Instant { t }, 0, 0, Answer { pages, end, ..Answer::status(status) });
         comparer.expect(Call::Average { t }, 0, 0, Answer::status(status));
     }
 }

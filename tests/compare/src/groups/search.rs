@@ -97,7 +97,7 @@ fn trees(comparer: &mut Comparer, shape: Shape) {
 
 /// How the starts of leaf entries follow each other; the first is 0.
 #[derive(Clone, Copy)]
-enum Starts {
+pub enum Starts {
     /// 1, 2, 3, ..
     FromZero,
     /// .., END − 2, END − 1
@@ -111,7 +111,7 @@ enum Starts {
 }
 
 impl Starts {
-    const EVERY_SORT: [Starts; 5] =
+    pub const EVERY_SORT: [Starts; 5] =
         [Starts::FromZero, Starts::UpToEnd, Starts::Around(None), Starts::LowFalls, Starts::Drawn];
 
     fn of(self, entries: usize, random: &mut Random) -> Vec<u32> {
@@ -140,18 +140,18 @@ fn beside(starts: &[u32]) -> Vec<u32> {
 // ---------------------------------------------------------------- images
 
 #[derive(Clone, Copy)]
-struct Shape {
+pub struct Shape {
     /// K, or 0 for an image without the field.
-    field: usize,
-    height: usize,
+    pub field: usize,
+    pub height: usize,
     /// The number of entries of the root.
-    root: usize,
-    leaves: Leaves,
+    pub root: usize,
+    pub leaves: Leaves,
 }
 
 /// The numbers of entries of the leaves below a root.
 #[derive(Clone, Copy, PartialEq)]
-enum Leaves {
+pub enum Leaves {
     /// From K/2 to K.
     InTurn,
     /// All K: an entry that is laid into a wrong one splits it, even if a heal takes it back.
@@ -160,7 +160,7 @@ enum Leaves {
     Alternate,
 }
 
-fn k_of(field: usize) -> usize {
+pub fn k_of(field: usize) -> usize {
     if field == 0 {
         24
     } else {
@@ -195,7 +195,7 @@ fn lay_numbers(k: usize, leaves: Leaves, level: usize, entries: usize, numbers: 
 }
 
 /// A sound image of any kind, with so many free pages.
-fn laid(comparer: &mut Comparer, shape: Shape, spare: usize, starts: Starts) -> Vec<u8> {
+pub fn laid(comparer: &mut Comparer, shape: Shape, spare: usize, starts: Starts) -> Vec<u8> {
     let Shape { field, height, root, leaves } = shape;
     let mut numbers = Vec::new();
     lay_numbers(k_of(field), leaves, height - 1, root, &mut numbers);
