@@ -50,7 +50,8 @@ fn link(name: &str, objects: Vec<PathBuf>, out: &Path) -> PathBuf {
 // ---------------------------------------------------------------- copies at several places
 
 /// Each archive at each shift, as objects. A function luw_instant gets the name before_0_instant in the first copy of the
-/// archive before, and so on.
+/// archive before, and so on. That archive may be from before document 02's (viii), and answer without start and end: src/search.rs
+/// has an answer of its own for it.
 fn copies(peer: &Path, out: &Path) -> Vec<PathBuf> {
     let after = archive_in(folder("LUWHENOKA_LIB", "../../target/staticlib".into()));
     let before = archive_in(folder("LUWHENOKA_BEFORE", after.parent().expect("a folder").into()));

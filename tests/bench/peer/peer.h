@@ -17,6 +17,8 @@ struct peer_instant_answer {
     uint32_t pages;
     int64_t sum;
     int32_t count;
+    uint32_t start;
+    uint32_t end;
 };
 
 struct peer_average_answer {

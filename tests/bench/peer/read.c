@@ -5,7 +5,7 @@
 /* ------------------------------------------------------------ instant */
 
 static struct peer_instant_answer no_instant(uint32_t status, uint32_t pages) {
-    struct peer_instant_answer answer = {status, pages, 0, 0};
+    struct peer_instant_answer answer = {status, pages, 0, 0, 0, 0};
     return answer;
 }
 
@@ -44,7 +44,7 @@ static inline struct peer_instant_answer answer_at(const uint8_t *image, size_t 
         }
         pair = combine(head.kind, pair, pair_of(page, i));
     }
-    struct peer_instant_answer answer = {ACCEPTED, head.height, pair.sum, pair.count};
+    struct peer_instant_answer answer = {ACCEPTED, head.height, pair.sum, pair.count, start_of(page, i), end_of(page, i, at.end)};
     return answer;
 }
 

@@ -1,6 +1,8 @@
 //! Instants late, early and at random, before and after a change of the search in a page: two archives of the library in one
 //! program, each linked at four places, so that neither gains by where its code happens to stand. build.rs makes the copies.
 
+use std::mem::MaybeUninit;
+
 use luwhenoka::raw::InstantAnswer;
 use plain::page::{read_head, read_page};
 use plain::Capacity;
@@ -11,29 +13,51 @@ use crate::subjects::{booked, bookings, height, Booking, Random, CAPACITY, INSTA
 
 // ---------------------------------------------------------------- the copies
 
-type InstantOf = unsafe extern "C" fn(*const u8, usize, u32) -> InstantAnswer;
+/// What the archive of before answers. One of a commit before document 02's (viii) knows no start and end: it writes 24 bytes where one
+/// of today writes 32, with the other fields at the same place. So there is room for both, and what only one of them writes isn't read.
+/// Where no archive of before (viii) is measured any more, `InstantAnswer` can take its place.
+#[repr(C)]
+#[derive(Clone, Copy)]
+struct BeforeAnswer {
+    status: u32,
+    pages: u32,
+    sum: i64,
+    count: i32,
+    _start_and_end: [MaybeUninit<u32>; 2],
+}
+
+const _: () = assert!(size_of::<BeforeAnswer>() == size_of::<InstantAnswer>());
+
+impl BeforeAnswer {
+    fn agrees(&self, with: &InstantAnswer) -> bool {
+        let BeforeAnswer { status, pages, sum, count, .. } = *self;
+        (status, pages, sum, count) == (with.status, with.pages, with.sum, with.count)
+    }
+}
+
+type InstantOf<A> = unsafe extern "C" fn(*const u8, usize, u32) -> A;
 type KnownOf = unsafe extern "C" fn(*const u8, usize, u32, *const u8) -> InstantAnswer;
 
-/// The four copies of a function, declared with its arguments.
+/// The four copies of a function, declared with its arguments and its answer.
 macro_rules! copies {
-    ($name:ident: $type:ty, $arguments:tt, $($copy:ident)*) => {
+    ($name:ident: $type:ty, $arguments:tt -> $answer:ty, $($copy:ident)*) => {
         extern "C" {
-            $(fn $copy $arguments -> InstantAnswer;)*
+            $(fn $copy $arguments -> $answer;)*
         }
         const $name: [$type; 4] = [$($copy),*];
     };
 }
 
-copies!(BEFORE: InstantOf, (image: *const u8, image_length: usize, t: u32),
+copies!(BEFORE: InstantOf<BeforeAnswer>, (image: *const u8, image_length: usize, t: u32) -> BeforeAnswer,
     before_0_instant before_1_instant before_2_instant before_3_instant);
-copies!(AFTER: InstantOf, (image: *const u8, image_length: usize, t: u32),
+copies!(AFTER: InstantOf<InstantAnswer>, (image: *const u8, image_length: usize, t: u32) -> InstantAnswer,
     after_0_instant after_1_instant after_2_instant after_3_instant);
-copies!(PLAIN_C: InstantOf, (image: *const u8, image_length: usize, t: u32),
+copies!(PLAIN_C: InstantOf<InstantAnswer>, (image: *const u8, image_length: usize, t: u32) -> InstantAnswer,
     peer_0_instant peer_1_instant peer_2_instant peer_3_instant);
-copies!(KNOWN: KnownOf, (image: *const u8, image_length: usize, t: u32, known: *const u8),
+copies!(KNOWN: KnownOf, (image: *const u8, image_length: usize, t: u32, known: *const u8) -> InstantAnswer,
     peer_0_instant_known peer_1_instant_known peer_2_instant_known peer_3_instant_known);
 
-fn instant(copy: InstantOf, image: &[u8], t: u32) -> InstantAnswer {
+fn instant<A>(copy: InstantOf<A>, image: &[u8], t: u32) -> A {
     unsafe { copy(image.as_ptr(), image.len(), t) }
 }
 
@@ -118,10 +142,16 @@ fn instants_between(from: u32, to: u32) -> Vec<u32> {
     (0..INSTANTS).map(|_| from + random.below(to - from)).collect()
 }
 
-/// Each instant by each copy.
-fn by_copies<'a>(column: Column, copies: &'a [InstantOf; 4], image: &'a [u8], asked: &'a [u32]) -> Work<'a> {
+/// Each instant by each copy; the sums are added up.
+fn by_copies<'a, A: 'a>(
+    column: Column,
+    copies: &'a [InstantOf<A>; 4],
+    sum: impl Fn(A) -> i64 + 'a,
+    image: &'a [u8],
+    asked: &'a [u32],
+) -> Work<'a> {
     Work::new(column, copies.len() * asked.len(), move || {
-        copies.iter().map(|copy| asked.iter().map(|t| instant(*copy, image, *t).sum as u64).sum::<u64>()).sum()
+        copies.iter().map(|copy| asked.iter().map(|t| sum(instant(*copy, image, *t)) as u64).sum::<u64>()).sum()
     })
 }
 
@@ -140,11 +170,13 @@ fn before_and_after(subjects: &[Subject]) {
 /// How many times as long an instant takes after as before, and both times.
 fn after_by_before(image: &[u8], asked: &[u32]) -> String {
     for t in asked {
-        let answer = instant(BEFORE[0], image, *t);
-        assert!(answer.status == 0 && AFTER.iter().chain(&BEFORE).all(|copy| instant(*copy, image, *t) == answer));
+        let answer = instant(AFTER[0], image, *t);
+        assert!(answer.status == 0 && AFTER.iter().all(|copy| instant(*copy, image, *t) == answer));
+        assert!(BEFORE.iter().all(|copy| instant(*copy, image, *t).agrees(&answer)));
     }
-    let after = by_copies(Column::Library, &AFTER, image, asked);
-    let took = side_by_side(vec![after, by_copies(Column::Before, &BEFORE, image, asked)]);
+    let after = by_copies(Column::Library, &AFTER, |answer| answer.sum, image, asked);
+    let before = by_copies(Column::Before, &BEFORE, |answer| answer.sum, image, asked);
+    let took = side_by_side(vec![after, before]);
     format!("{:.2} ({} → {})", took[1].ratio, took[1].time(), took[0].time())
 }
 
@@ -176,9 +208,9 @@ fn with_and_without(image: &[u8], asked: &[u32]) -> Vec<Took> {
         known.iter().map(|(t, indices)| instant_known(*copy, image, *t, indices).sum as u64).sum()
     };
     side_by_side(vec![
-        by_copies(Column::PlainC, &PLAIN_C, image, asked),
+        by_copies(Column::PlainC, &PLAIN_C, |answer| answer.sum, image, asked),
         Work::new(Column::Known, KNOWN.len() * asked.len(), || KNOWN.iter().map(by_known).sum()),
-        by_copies(Column::Library, &AFTER, image, asked),
+        by_copies(Column::Library, &AFTER, |answer| answer.sum, image, asked),
     ])
 }
 
