@@ -127,7 +127,8 @@ uint32_t luw_format(uint8_t *image, size_t image_length, uint32_t kind, uint32_t
  * start and end are those of the leaf entry that has t: start <= t < end, and end is LUW_END for the last one. Every
  * instant of [start, end) gets this same answer, in all its fields, as long as the image isn't changed: nobody need ask
  * again before end. Sum and count may hold for longer than that, since neighbouring leaf entries may have equal ones; a
- * listing joins them, an instant doesn't. At every refusal start and end are 0.
+ * listing joins them, an instant doesn't. At every refusal start and end are 0. A program that was compiled with a header
+ * without start and end has to be compiled anew: the struct was smaller.
  */
 struct luw_instant_answer {
     uint32_t status;
