@@ -1,31 +1,27 @@
 -- An answer holds from the start of its leaf entry until its end: every instant between them goes the same way. Assumes nothing.
 use Prim.Native.Nat.{ℕ, zero, suc, _-_, _≤_, _<_}
 use mathlib.Core.Path.{_≡_, refl, sym, ap, _∙_}
-use mathlib.Core.Logic.{_≢_}
-use mathlib.Core.Bool.{true, cond, not, _&&_}
-use mathlib.Core.List.{List, [], _∷_}
+use mathlib.Core.Bool.{true}
+use mathlib.Core.List.{List}
 use native.Mathlib.Omega.{arith}
-use lib.Dec.{eqb, leb, ltb}
-use Rattle.rule.specs.declared.Pair.{Pair}
 use Rattle.rule.specs.Time.{END}
-use Rattle.rule.specs.Pairs.{none, combine}
+use Rattle.rule.specs.Pairs.{combine}
 use Rattle.page.specs.declared.Head.{Head}
 use Rattle.page.specs.Entries.{index-of}
-use Rattle.page.specs.Layout.{entry-count, start-at, pair-at, child-at, entries-of}
-use Rattle.page.specs.Fit.{Page-context, root-context, end-at, context-below, page-fit}
+use Rattle.page.specs.Layout.{pair-at, child-at, entries-of}
+use Rattle.page.specs.Fit.{Page-context, root-context, context-below}
 use Rattle.page.proofs.Laws.Indices.{index-started}
-use Rattle.fit.proofs.Laws.Pages.{PageFit, page-fit-is}
+use Rattle.fit.proofs.Laws.Pages.{page-fit-is}
 use Rattle.fit.proofs.Laws.Spans.{start-within, end-within}
-use Rattle.image.specs.Images.{half-of, page-at, length-ok}
+use Rattle.image.specs.Images.{half-of, page-at}
 use Rattle.image.specs.Instant.{Lookup, leaf-answer, above, look, look-up}
-use Rattle.image.specs.Descent.{Descent, descent-of}
+use Rattle.image.specs.Descent.{descent-of}
 use Rattle.image.proofs.Descent.{from-root-is}
 use Rattle.image.specs.Trail.{instant-trail, Leaf-entry}
 use Rattle.image.proofs.Leaf.{instant-leaf}
-use Rattle.calls.specs.Refusals.{first}
-use Rattle.calls.specs.Calls.{Instant, head, head-ok, instant, instant-status}
-use Rattle.calls.specs.Index.{judge, index-instant}
-use Rattle.calls.specs.Until.{Instant-before, instant-before, index-instant-before, Holds-until, Until-when}
+use Rattle.calls.specs.Calls.{Instant, head, instant, instant-status}
+use Rattle.calls.specs.Index.{index-instant}
+use Rattle.calls.specs.Until.{Instant-before, before-by, instant-before, index-instant-before, Holds-until, Until-when}
 use Rattle.calls.proofs.Judged.{by-judge, judged-own, judged-refused}
 use Rattle.answers.proofs.Indices.{found-at, found-ends}
 use Rattle.answers.proofs.Look.{half-some, leaf-is, inner-is, look-top, look-below, inside}
@@ -141,22 +137,12 @@ answer-leaf t img =
 
 -- ---- and as before
 
--- an instant call by what its lookup finds
-answer-by : (half t : ℕ) (img : List ℕ) → Descent → Instant-before
-answer-by half t img w =
-    let number = first ((16, not (length-ok half img)) ∷ (12, leb END t) ∷ (21, not (head-ok half img && w .fit)) ∷ []) in
-    record {
-      status = number;
-      pair = cond (eqb number 0) (w .pair) none;
-      pages = cond (length-ok half img && (ltb t END && head-ok half img)) (w .pages) 0;
-    }
-
 abbrev told-before : Instant → Instant-before
 told-before a = record { status = a .status; pair = a .pair; pages = a .pages }
 
 instant-as-before : (half t : ℕ) (img : List ℕ) → told-before (instant half t img) ≡ instant-before half t img
-unfolding instant instant-status instant-before answer-by descent-of
-instant-as-before half t img = ap (answer-by half t img) (from-root-is half img t)
+unfolding instant instant-status before-by descent-of
+instant-as-before half t img = ap (before-by half t img) (from-root-is half img t)
 
 answer-as-before : (t : ℕ) (img : List ℕ) → told-before (index-instant t img) ≡ index-instant-before t img
 unfolding index-instant index-instant-before

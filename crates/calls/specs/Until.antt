@@ -10,7 +10,7 @@ use Rattle.rule.specs.Time.{END}
 use Rattle.rule.specs.Pairs.{none}
 use Rattle.image.specs.Images.{half-of, length-ok}
 use Rattle.image.specs.Trail.{instant-trail, Leaf-entry}
-use Rattle.image.specs.Descent.{from-root}
+use Rattle.image.specs.Descent.{Descent, from-root}
 use Rattle.calls.specs.Refusals.{first}
 use Rattle.calls.specs.Calls.{Instant, head-ok}
 use Rattle.calls.specs.Index.{judged, index-instant}
@@ -22,15 +22,18 @@ pub record Instant-before : Type 0 where
   pub pair : Pair
   pub pages : ℕ
 
-unfoldable pub instant-before : ℕ → ℕ → List ℕ → Instant-before
-instant-before half t img =
-    let looked = from-root half img t in
+-- by what its lookup found
+unfoldable pub before-by : ℕ → ℕ → List ℕ → Descent → Instant-before
+before-by half t img looked =
     let number = first ((16, not (length-ok half img)) ∷ (12, leb END t) ∷ (21, not (head-ok half img && looked .fit)) ∷ []) in
     record {
       status = number;
       pair = cond (eqb number 0) (looked .pair) none;
       pages = cond (length-ok half img && (ltb t END && head-ok half img)) (looked .pages) 0;
     }
+
+abbrev pub instant-before : ℕ → ℕ → List ℕ → Instant-before
+instant-before half t img = before-by half t img (from-root half img t)
 
 unfoldable pub index-instant-before : ℕ → List ℕ → Instant-before
 index-instant-before t img = judged (λ number. record { status = number; pair = none; pages = 0 }) (λ half. instant-before half t img) img

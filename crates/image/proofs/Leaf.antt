@@ -1,6 +1,6 @@
 -- The start and the end that an instant tells are those of an entry of the leaf where its looks end. Assumes nothing.
 use Prim.Native.Nat.{ℕ, zero, suc, _-_, _≤_}
-use mathlib.Core.Path.{_≡_, refl, sym, ap, _∙_}
+use mathlib.Core.Path.{_≡_, refl, sym, ap, _∙_, subst⁻¹}
 use mathlib.Core.Bool.{true, true≢false}
 use mathlib.Core.List.{List, [], _∷_}
 use native.Mathlib.Omega.{arith}
@@ -66,14 +66,5 @@ instant-leaf half img t e =
     let v : ℕ = h .height - 1 in
     let told = look-told half h img t v (root-context h) (h .root) (root-some half h) in
     let all = up-to-all half h img (visits half h img (entry-of half t) v (root-context h) (h .root)) (sym (told .fit) ∙ e) in
-    let r = leaf-met half h img t v (root-context h) (h .root) refl (root-some half h) e in
-    record {
-      before = r .before;
-      last = r .last;
-      in-turn = all ∙ r .in-turn;
-      leaf = r .leaf;
-      index = r .index;
-      one = r .one;
-      starts = r .starts;
-      ends = r .ends;
-    }
+    subst⁻¹ (λ vs. Leaf-entry half img vs (look-up half img t .start) (look-up half img t .end)) all
+    (leaf-met half h img t v (root-context h) (h .root) refl (root-some half h) e)

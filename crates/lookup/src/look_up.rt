@@ -58,7 +58,7 @@ fn look(
     }
     let below = context_under(at, e.start, end, pair);
     let LevelAnswer::Entry(x, x_end) = level_answer(half, img, e.child, h, below, t) else {
-        // 21: "if a page is unfit, the pages up to and including it"
+        // 21: "if a page is unfit, the pages up to and including it", which are the entry's own and the one below.
         return LookupAnswer::Unfit(2);
     };
     combine_above(h.kind, pair, look(half, img, h, below, t, x, x_end))

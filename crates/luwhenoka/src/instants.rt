@@ -19,7 +19,7 @@ ghost use Rattle.calls.specs.Calls.{no-instant, instant};
 ghost use Rattle.luwhenoka.specs.Answers.{instant-answer};
 ghost use Rattle.luwhenoka.specs.Promises.{Answers};
 
-// "A refusal returns its number and zeros (instant: the pages read too)."
+// "A refusal returns its number and zeros (instant: the pages read too)." "Refusals give zeros for both new numbers."
 fn refused(status: u32, pages: u32) -> InstantAnswer
     ensures { λ r. ⌜ r ≡ instant-answer (no-instant status pages) ⌝ }
 {

@@ -5,4 +5,5 @@ pub mod Roots
 pub mod Needed
 pub mod Held
 pub mod Below
+pub mod Walks
 pub mod Opening

@@ -22,7 +22,7 @@ use Rattle.page_need.specs.declared.Need.{Need}
 use Rattle.page_need.specs.Needs.{one-cut, both-cuts, cuts-need, with-new-root, pages-needed}
 use Rattle.page_need.specs.Leads.{Small, Fit-from, Leads, Sound-image}
 use Rattle.page_need.proofs.Held.{sound-holds}
-use Rattle.page_need.proofs.Below.{small-one, small-both}
+use Rattle.page_need.proofs.Walks.{small-one, small-both}
 use Rattle.page_need.proofs.Needed.{lacks-is}
 
 -- ---- where both paths start

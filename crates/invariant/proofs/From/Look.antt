@@ -32,7 +32,7 @@ use Rattle.fit.proofs.Laws.Pages.{PageFit}
 use Rattle.soundness.proofs.Tree.{top-fit}
 
 -- an answer: all pages fit, the pair, and so many pages read
-pub record Found (w : Lookup) (p : Pair) (pages : ℕ) : Type 0 where
+pub record Looked (w : Lookup) (p : Pair) (pages : ℕ) : Type 0 where
   pub fit : w .fit ≡ true
   pub pair : w .pair ≡ p
   pub read : w .pages ≡ pages
@@ -76,7 +76,7 @@ module _ (half : ℕ) (h : Head) (img : List ℕ) (t : ℕ) where
   module _ (some : 1 ≤ half) where
     look-represented : (l : ℕ) (at : Page-context) (x : Node (Subtree (suc l))) → at .level ≡ l → l < free-level → 1 ≤ fewest half at
         → tree-fit half h img l at (x .entry .child) ≡ true → Stores (suc l) (image-of half img .page) x
-        → Found (look half h img t l at (x .entry .child)) (pair-in (combine (h .kind)) l t (x .subtree)) (suc l)
+        → Looked (look half h img t l at (x .entry .child)) (pair-in (combine (h .kind)) l t (x .subtree)) (suc l)
     unfolding look-by leaf-answer above pair-in pair-under entry-at context-below fewest
     look-represented zero at x v small n e shown =
         let k = step zero at x v small n (tree-top half h img zero at (x .entry .child) e) shown in
@@ -91,7 +91,7 @@ module _ (half : ℕ) (h : Head) (img : List ℕ) (t : ℕ) where
         let k = step (suc l) at x v small n (f .0) shown in
         let c : child-at half s i ≡ y .entry .child = ap (λ (z : Entry). z .child) (k .same) in
         let p : pair-at half s i ≡ y .entry .pair = ap (λ (z : Entry). z .pair) (k .same) in
-        let rest : Found (look half h img t l d (child-at half s i)) (pair-in (combine (h .kind)) l t (y .subtree)) (suc l) =
+        let rest : Looked (look half h img t l d (child-at half s i)) (pair-in (combine (h .kind)) l t (y .subtree)) (suc l) =
         rw c (look-represented l d y (omega arith) (omega arith) some (rw c at (f .1 i (k .inside))) (deeper (suc l) x (k .found) shown)) in
         rw (top-fit half h img (suc l) at (x .entry .child) e)
         (record {
@@ -106,7 +106,7 @@ module _ (half : ℕ) (h : Head) (img : List ℕ) (t : ℕ) where
 -- pages are read as the tree is high.
 pub record Answered (half : ℕ) (img : List ℕ) (t : ℕ) (Y : State) : Type 0 where
   pub head : head-fit half (pages-in half img) (page-at half img 0) ≡ true
-  pub looked : Found (look-up half img t) (pair-in (combine (the-head half img .kind)) (Y .tree .level) t (Y .tree .nodes))
+  pub looked : Looked (look-up half img t) (pair-in (combine (the-head half img .kind)) (Y .tree .level) t (Y .tree .nodes))
       (the-head half img .height)
 
 pub look-invariant : (half : ℕ) (img : List ℕ) → 1 ≤ half → Sound-facts half img → (Y : State) → Represents (image-of half img) Y → (t : ℕ)
@@ -124,7 +124,7 @@ look-invariant half img some f Y shown t =
     record {
       head = f .fit .head-fits;
       looked =
-          subst⁻¹ (λ (w : Lookup). Found w (pair-in (combine (h .kind)) l t (Y .tree .nodes)) (h .height))
+          subst⁻¹ (λ (w : Lookup). Looked w (pair-in (combine (h .kind)) l t (Y .tree .nodes)) (h .height))
           (λ j. look half h img t (v j) (root-context h) (shown .root j))
           (record { fit = found .fit; pair = found .pair; read = found .read ∙ sym (shown .height) });
     }

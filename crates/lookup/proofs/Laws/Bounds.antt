@@ -1,8 +1,7 @@
 -- Pairs combined along a path of fit pages stay within bounds. Assumes nothing.
-use mathlib.Core.Path.{_≡_, refl, ap, subst⁻¹}
+use mathlib.Core.Path.{_≡_, refl}
 use mathlib.Core.Bool.{Bool, true, false}
-use mathlib.Core.List.{List}
-use Prim.Native.Nat.{ℕ, zero, suc, _+_, _≤_}
+use Prim.Native.Nat.{ℕ, _+_, _≤_}
 use native.Mathlib.Omega.{arith}
 use lib.Dec.{eqb}
 use lib.IntN.{natAbs}

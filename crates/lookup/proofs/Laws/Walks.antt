@@ -1,8 +1,8 @@
 -- Where a lookup stands on its way down, and what it has found when it comes back. Assumes nothing.
-use mathlib.Core.Path.{_≡_, refl, sym, ap, _∙_, subst}
+use mathlib.Core.Path.{_≡_, sym, ap, _∙_}
 use mathlib.Core.Bool.{true, false}
 use mathlib.Core.List.{List}
-use Prim.Native.Nat.{ℕ, suc, _+_, _-_, _≤_, _<_}
+use Prim.Native.Nat.{ℕ, suc, _+_, _-_, _≤_}
 use native.Mathlib.Omega.{arith}
 use Rattle.rule.specs.declared.Pair.{Pair}
 use Rattle.rule.specs.Pairs.{none, combine}
@@ -10,7 +10,6 @@ use Rattle.page.specs.declared.Entry.{Entry}
 use Rattle.page.specs.declared.Head.{Head}
 use Rattle.page.specs.Fit.{Page-context, root-context, context-under, page-fit}
 use Rattle.page.proofs.Laws.Indices.{index-started}
-use Rattle.fit.specs.Paths.{Path}
 use Rattle.fit.proofs.Laws.Paths.{root-path, path-bounded, below-path}
 use Rattle.image.specs.Images.{page-at}
 use Rattle.image.specs.Instant as image

@@ -1,5 +1,5 @@
 -- `lookup::look_up::look_up` meets its contract: the way begins at the root. Assumes nothing.
-use mathlib.Core.Path.{_≡_, sym, ap, _∙_, subst⁻¹}
+use mathlib.Core.Path.{_≡_, sym, _∙_, subst⁻¹}
 use borrow.Author.Needs.{needs}
 use Rattle.page.specs.Fit.{Page-context}
 use Rattle.image.specs.Instant.{look, look-up}

@@ -6,9 +6,8 @@ use borrow.Fn.Kinds.{In}
 use borrow.Fn.PlainCycle.{Measures}
 use Rattle.lists.proofs.Cycles.{at-measure, below-measure}
 use Rattle.image.specs.Images.{image-of}
-use Rattle.page_need.proofs.Below.{fit-some, leads-on, later-fit, Found-below}
-use Rattle.page_need.proofs.Below.{found-below, found-later, found-most, found-leads, small-leaf, both-leaf}
-use Rattle.page_need.proofs.Below.{same-small, same-inner, apart-small, apart-inner}
+use Rattle.page_need.proofs.Below.{fit-some, leads-on, later-fit, Found-below, found-below, found-later, found-most, found-leads}
+use Rattle.page_need.proofs.Walks.{small-leaf, both-leaf, same-small, same-inner, apart-small, apart-inner}
 use Rattle.page_need.proofs.walk.both_cuts.Reads as both-cuts
 use Rattle.page_need.proofs.walk.both_cuts.Kinds as both-cuts-kinds
 use Rattle.page_need.proofs.walk.+both_cuts.Lts-both_cuts as both-cuts-lts

@@ -5,7 +5,8 @@ use borrow.Author.Needs.{needs}
 use borrow.Fn.PlainCycle.{Measures}
 use Rattle.lists.proofs.Cycles.{at-measure, below-measure}
 use Rattle.image.specs.Images.{image-of}
-use Rattle.page_need.proofs.Below.{fit-some, found-below, found-most, found-leads, leads-on, one-leaf, one-small, one-inner}
+use Rattle.page_need.proofs.Below.{fit-some, found-below, found-most, found-leads, leads-on}
+use Rattle.page_need.proofs.Walks.{one-leaf, one-small, one-inner}
 use Rattle.page_need.proofs.walk.one_cut.Reads as one-cut
 use Rattle.page_need.proofs.walk.one_cut.Kinds as one-cut-kinds
 use Rattle.page_need.proofs.walk.+one_cut.Lts-one_cut as one-cut-lts

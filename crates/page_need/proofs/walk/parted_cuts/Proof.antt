@@ -2,7 +2,8 @@
 use borrow.Author.Needs.{needs}
 use Rattle.image.specs.Images.{image-of}
 use Rattle.page_need.specs.Needs.{add-needs}
-use Rattle.page_need.proofs.Below.{leads-low, apart-is, small-one}
+use Rattle.page_need.proofs.Below.{leads-low}
+use Rattle.page_need.proofs.Walks.{apart-is, small-one}
 use Rattle.page_need.proofs.walk.parted_cuts.Statement.{statement}
 use Rattle.page_need.proofs.walk.parted_cuts.Tie as tie
 
