@@ -13,7 +13,7 @@ use Rattle.page.specs.Fit.{root-context}
 use Rattle.image.specs.Images.{page-at, pages-in, length-ok}
 use Rattle.image.specs.Instant.{Lookup, look-up}
 use Rattle.calls.specs.Refusals.{first}
-use Rattle.calls.specs.Calls.{head, head-ok, instant, instant-status}
+use Rattle.calls.specs.Calls.{Instant, head, head-ok, instant, instant-status}
 use Rattle.fit.proofs.Laws.Heads.{fit-ranges}
 use Rattle.answers.proofs.Rows.{asked}
 use Rattle.answers.proofs.Look.{look-pages}
@@ -40,17 +40,13 @@ module _ (half t : ℕ) (img : List ℕ) where
       let past : leb END t ≡ false = lt-leb END t (f .before-end) in
       λ j. first ((16, not (f .length-fits j)) ∷ (12, past j) ∷ (21, not (f .head-fits j && f .look-fits j)) ∷ [])
 
-  -- the pair and the pages read are the lookup's
-  pub instant-pair : Answered half t img → instant half t img .pair ≡ look-up half img t .pair
-  unfolding instant
-  instant-pair f = ap (λ n. cond (eqb n 0) (look-up half img t .pair) none) (answers f)
-
+  -- the pages read are the lookup's
   pub instant-pages : Answered half t img → instant half t img .pages ≡ look-up half img t .pages
   unfolding instant
   instant-pages f =
       λ j. cond (f .length-fits j && (lt-ltb t END (f .before-end) j && f .head-fits j)) (look-up half img t .pages) 0
 
-  -- all that it answers
+  -- and so is all that it answers
   pub instant-is : Answered half t img → let w = look-up half img t in
       instant half t img ≡ record { status = 0; pair = w .pair; start = w .start; end = w .end; pages = w .pages }
   unfolding instant
@@ -65,6 +61,9 @@ module _ (half t : ℕ) (img : List ℕ) where
         end = cond (eqb (z j) 0) (w .end) 0;
         pages = pages j;
       }
+
+  pub instant-pair : Answered half t img → instant half t img .pair ≡ look-up half img t .pair
+  instant-pair f = ap (λ (a : Instant). a .pair) (instant-is f)
 
   -- a fit head has a height of 1 or more, so that the pages read are as many as the tree is high
   pub look-up-pages : head-ok half img ≡ true → look-up half img t .fit ≡ true → look-up half img t .pages ≡ head half img .height

@@ -12,7 +12,7 @@ use Rattle.page.specs.Layout.{pair-at, child-at, entries-of}
 use Rattle.page.specs.Fit.{Page-context, root-context, context-below}
 use Rattle.page.proofs.Laws.Indices.{index-started}
 use Rattle.fit.proofs.Laws.Pages.{page-fit-is}
-use Rattle.fit.proofs.Laws.Spans.{start-within, end-within}
+use Rattle.fit.proofs.Laws.Spans.{start-within, end-within, found-ends, found-only}
 use Rattle.image.specs.Images.{half-of, page-at}
 use Rattle.image.specs.Instant.{Lookup, leaf-answer, above, look, look-up}
 use Rattle.image.specs.Descent.{descent-of}
@@ -23,7 +23,6 @@ use Rattle.calls.specs.Calls.{Instant, head, instant, instant-status}
 use Rattle.calls.specs.Index.{index-instant}
 use Rattle.calls.specs.Until.{Instant-before, before-by, instant-before, index-instant-before, Holds-until, Until-when}
 use Rattle.calls.proofs.Judged.{by-judge, judged-own, judged-refused}
-use Rattle.answers.proofs.Indices.{found-at, found-ends}
 use Rattle.answers.proofs.Look.{half-some, leaf-is, inner-is, look-top, look-below, inside}
 use Rattle.answers.proofs.Calls.{Answered, answered, instant-is}
 
@@ -53,7 +52,7 @@ module _ (half : ℕ) (h : Head) (img : List ℕ) (some : 1 ≤ half) where
         begun = index-started half s t (f .most) (omega (arith, f .first));
         ends = found-ends f t hi;
         high = end-within f i m;
-        same = λ u a b. leaf-is half h img u at p i top (found-at f u i m a b);
+        same = λ u a b. leaf-is half h img u at p i top (found-only f u i m a b);
       })
   stays t (suc l) at p lo hi e =
       let s : List ℕ = page-at half img p in
@@ -71,7 +70,7 @@ module _ (half : ℕ) (h : Head) (img : List ℕ) (some : 1 ≤ half) where
         ends = b .ends;
         high = omega (arith, end-within f i m, b .high);
         same = λ u x y.
-            inner-is half h img u at p i top (found-at f u i m (omega (arith, b .low)) (omega (arith, b .high))) l
+            inner-is half h img u at p i top (found-only f u i m (omega (arith, b .low)) (omega (arith, b .high))) l
             ∙ ap (above (combine (h .kind)) (pair-at half s i)) (b .same u x y);
       })
 

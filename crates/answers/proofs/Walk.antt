@@ -19,11 +19,10 @@ use Rattle.image.specs.Images.{page-at}
 use Rattle.image.specs.Sound.{tree-fit}
 use Rattle.image.specs.Instant.{look}
 use Rattle.image.specs.Listing.{Walked, nothing, stopped, then, in-turn, under, leaf-run, walk-page, walk}
-use Rattle.fit.proofs.Laws.Spans.{bound, bound-next, bound-in, bound-past, bound-rises}
+use Rattle.fit.proofs.Laws.Spans.{bound, bound-next, bound-in, bound-past, bound-rises, found-only}
 use Rattle.soundness.proofs.Tree.{tree-parts}
 use Rattle.fit.proofs.Laws.Pages.{PageFit, page-fit-is}
 use Rattle.answers.proofs.Tiles.{Tiles, done, tiles-none, tiles-one, tiles-append, tiles-map}
-use Rattle.answers.proofs.Indices.{found-at}
 use Rattle.answers.proofs.Look.{Found, found-leaf, found-inner}
 
 -- the instant of [a, b] nearest to x
@@ -121,7 +120,7 @@ module _ (half : ℕ) (h : Head) (img : List ℕ) (a b : ℕ) (some : 1 ≤ half
       page-tiles half h a b some l at s (λ i. leaf-run a (start-at s i) (pair-at half s i)) e
       (λ i m x y fits.
       tiles-one (omega arith) (omega (arith, bound-rises f i m, bound-in s (at .hi) i m, bound-next s (at .hi) i))
-      (λ t u w. found-leaf half h img t at p i top (found-at f t i m (omega arith) (omega arith))))
+      (λ t u w. found-leaf half h img t at p i top (found-only f t i m (omega arith) (omega arith))))
   walk-tiles (suc v) at p e =
       let s : List ℕ = page-at half img p in
       let below : ℕ → Walked =
@@ -131,7 +130,7 @@ module _ (half : ℕ) (h : Head) (img : List ℕ) (a b : ℕ) (some : 1 ≤ half
       page-tiles half h a b some l at s below e
       (λ i m x y fits.
       tiles-map (combine (h .kind) (pair-at half s i)) (walk-tiles v (context-below half s at i) (child-at half s i) fits)
-      (λ t q u w found. found-inner half h img t at p i top (found-at f t i m (omega arith) (omega arith)) v found))
+      (λ t q u w found. found-inner half h img t at p i top (found-only f t i m (omega arith) (omega arith)) v found))
 
 -- ---- where every page of the tree is fit
 

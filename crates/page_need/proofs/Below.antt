@@ -2,20 +2,18 @@
 use Prim.Native.Nat.{ℕ, zero, suc, _-_, _≤_, _<_}
 use mathlib.Core.Path.{_≡_, refl, sym, ap, _∙_, subst, subst⁻¹}
 use mathlib.Core.List.{List}
-use native.Mathlib.Decide.{decLt}
 use native.Mathlib.Omega.{arith}
 use lib.ListN.{length}
-use Rattle.lists.proofs.Totals.{rises}
 use Rattle.page.specs.declared.Entry.{Entry}
 use Rattle.page.specs.Entries.{at as entry-in, index-of}
 use Rattle.page.specs.Layout.{capacity, level-of, entry-count, start-at, entry-at, entries-of}
 use Rattle.page.specs.Fit.{end-at, context-below, most-height}
 use Rattle.page.proofs.Laws.Trees.{length-entries-of, at-entries-of}
-use Rattle.fit.proofs.Laws.Spans.{bound-next, bound-in, bound-past}
+use Rattle.fit.proofs.Laws.Spans.{found-ends, found-only}
 use Rattle.fit.proofs.Laws.Pages.{PageFit, entry-first}
 use Rattle.image.specs.Images.{tree, entries-in, page-at, image-of}
 use Rattle.soundness.proofs.Tree.{tree-parts}
-use Rattle.page.proofs.Laws.Indices.{index-within, index-started, index-is, index-next}
+use Rattle.page.proofs.Laws.Indices.{index-within, index-started}
 use Rattle.store.specs.declared.Found.{Found}
 use Rattle.store.specs.Encoding.{Pre-level, Post-level}
 use Rattle.store.specs.Preconditions.{Searchable, found-in}
@@ -29,7 +27,7 @@ use Rattle.page_need.specs.Leads.{Fit-from, Leads}
 
 -- ---- a page
 
-module _ {half : ℕ} {img : List ℕ} {t l p : ℕ} (k : Fit-from half img t l p) where
+module _ {half : ℕ} {img : List ℕ} {t hi l p : ℕ} (k : Fit-from half img t hi l p) where
   page-is-fit : PageFit half (k .head) (k .at) (page-at half img p)
   page-is-fit = tree-top half (k .head) img l (k .at) p (k .fit)
 
@@ -74,9 +72,9 @@ module _ {half : ℕ} {img : List ℕ} {t l p : ℕ} (k : Fit-from half img t l 
       }
 
 -- the i-th entry of a page leads on
-entry-leads : {half : ℕ} {img : List ℕ} {t : ℕ} (l : ℕ) {p : ℕ} → Fit-from half img t l p → (i : ℕ) → i < entry-count (page-at half img p)
-    → start-at (page-at half img p) i ≤ t
-    → Leads half img t l (entry-at half (page-at half img p) i)
+entry-leads : {half : ℕ} {img : List ℕ} {t hi : ℕ} (l : ℕ) {p : ℕ} (k : Fit-from half img t hi l p) (i : ℕ)
+    → i < entry-count (page-at half img p) → start-at (page-at half img p) i ≤ t
+    → Leads half img t (end-at (page-at half img p) (k .at .hi) i) l (entry-at half (page-at half img p) i)
 unfolding Leads entry-at context-below
 entry-leads zero k i lt begun = tt
 entry-leads {half} {img} (suc l) {p} k i lt begun =
@@ -90,25 +88,27 @@ entry-leads {half} {img} (suc l) {p} k i lt begun =
       level = omega (arith, k .level);
       low = omega (arith, k .low);
       begun = begun;
+      ends = refl;
       fit = tree-parts half (k .head) img l (k .at) p (k .fit) .1 i lt;
     }
 
 -- ---- an entry
 
-pub leads-low : (half : ℕ) (img : List ℕ) (t l : ℕ) (e : Entry) → Leads half img t l e → l ≤ most-height
+pub leads-low : (half : ℕ) (img : List ℕ) (t hi l : ℕ) (e : Entry) → Leads half img t hi l e → l ≤ most-height
 unfolding Leads
-leads-low half img t zero e k = omega arith
-leads-low half img t (suc l) e k = omega (arith, k .low)
+leads-low half img t hi zero e k = omega arith
+leads-low half img t hi (suc l) e k = omega (arith, k .low)
 
 -- an inner one
-pub leads-on : {half : ℕ} {img : List ℕ} {t l : ℕ} (e : Entry) → Leads half img t l e → ¬ (l ≡ 0) → Fit-from half img t (l - 1) (e .child)
+pub leads-on : {half : ℕ} {img : List ℕ} {t hi l : ℕ} (e : Entry) → Leads half img t hi l e → ¬ (l ≡ 0)
+    → Fit-from half img t hi (l - 1) (e .child)
 unfolding Leads
-leads-on {half} {img} {t} {l} e k h =
+leads-on {half} {img} {t} {hi} {l} e k h =
     let above : l ≡ suc (l - 1) = omega arith in
-    subst (λ n. Leads half img t n e) above k
+    subst (λ n. Leads half img t hi n e) above k
 
 -- for a later instant too
-pub later-fit : {half : ℕ} {img : List ℕ} {s t l p : ℕ} → Fit-from half img s l p → s < t → Fit-from half img t l p
+pub later-fit : {half : ℕ} {img : List ℕ} {s t hi l p : ℕ} → Fit-from half img s hi l p → s < t → Fit-from half img t hi l p
 later-fit k lt =
     record {
       head = k .head;
@@ -120,28 +120,29 @@ later-fit k lt =
       level = k .level;
       low = k .low;
       begun = omega (arith, k .begun);
+      ends = k .ends;
       fit = k .fit;
     }
 
-pub fit-some : {half : ℕ} {img : List ℕ} {t l p : ℕ} → Fit-from half img t l p → Pre-level half img (λ v. Searchable v p t)
+pub fit-some : {half : ℕ} {img : List ℕ} {t hi l p : ℕ} → Fit-from half img t hi l p → Pre-level half img (λ v. Searchable v p t)
 fit-some {half} {img} {l = l} k = record { image = image-of half img; holds = k .holds; ready = (l, fit-searchable k) }
 
--- what was found in its page, if that ends at hi: any search that find_entry's contract allows
+-- what was found in its page, which ends at hi: any search that find_entry's contract allows
 pub record Found-below (half : ℕ) (img : List ℕ) (hi t l : ℕ) (e : Entry) (m : Found) : Type 0 where
   pub inner : ¬ (l ≡ 0)
-  pub page : Fit-from half img t (l - 1) (e .child)
+  pub page : Fit-from half img t hi (l - 1) (e .child)
   pub is : m ≡ found-in hi t (entries (image-of half img) (e .child))
 
 abbrev Finds : ℕ → List ℕ → ℕ → ℕ → ℕ → Found → Type 0
 Finds half img hi t p m = Post-level half img (λ v. Searchable v p t) (λ v X. m ≡ found-in hi t (entries X p))
 
-found-at : {half : ℕ} {img : List ℕ} {hi t l : ℕ} {m : Found} (e : Entry) → ¬ (l ≡ 0) → Fit-from half img t (l - 1) (e .child)
+found-at : {half : ℕ} {img : List ℕ} {hi t l : ℕ} {m : Found} (e : Entry) → ¬ (l ≡ 0) → Fit-from half img t hi (l - 1) (e .child)
     → Finds half img hi t (e .child) m
     → Found-below half img hi t l e m
 found-at {half} {img} {l = l} e h k each =
     record { inner = h; page = k; is = each (image-of half img) (k .holds) (l - 1) (fit-searchable k) }
 
-pub found-below : {half : ℕ} {img : List ℕ} {hi t l : ℕ} {m : Found} (e : Entry) → Leads half img t l e → ¬ (l ≡ 0)
+pub found-below : {half : ℕ} {img : List ℕ} {hi t l : ℕ} {m : Found} (e : Entry) → Leads half img t hi l e → ¬ (l ≡ 0)
     → Finds half img hi t (e .child) m
     → Found-below half img hi t l e m
 found-below e k h each = found-at e h (leads-on e k h) each
@@ -157,70 +158,51 @@ module _ {half : ℕ} {img : List ℕ} {hi t l : ℕ} {e : Entry} {m : Found} (k
   unfolding found-in
   found-most = omega (arith, ap (λ (n : Found). n .count) (k .is), number-read (k .page), page-is-fit (k .page) .most)
 
-  pub found-leads : Leads half img t (l - 1) (m .entry)
+  abbrev es : List Entry
+  es = entries (image-of half img) (e .child)
+
+  abbrev bytes : List ℕ
+  bytes = page-at half img (e .child)
+
+  abbrev i : ℕ
+  i = index-of t (entries-of half bytes)
+
+  fit : PageFit half (k .page .head) (k .page .at) bytes
+  fit = page-is-fit (k .page)
+
+  one : i < entry-count bytes
+  one = index-within half bytes t (fit .most) (entry-first fit (omega (arith, k .page .holds .half-least)))
+
+  begun : start-at bytes i ≤ t
+  begun = index-started half bytes t (fit .most) (omega (arith, fit .first, k .page .begun))
+
+  slot-read : (v : ℕ) → index-of v es ≡ index-of v (entries-of half bytes)
+  slot-read v = ap (index-of v) (entries-read (k .page))
+
+  end-read : m .end ≡ end-at bytes (k .page .at .hi) i
+  unfolding found-in
+  end-read =
+      ap (λ (n : Found). n .end) (k .is)
+      ∙ ap (end-in hi es) (slot-read t)
+      ∙ sym (lent-end (k .page .holds) (fit-searchable (k .page) .tree-page) refl hi i)
+      ∙ ap (λ z. end-at bytes z i) (sym (k .page .ends))
+
+  pub found-leads : Leads half img t (m .end) (l - 1) (m .entry)
   unfolding found-in
   found-leads =
-      let s = page-at half img (e .child) in
-      let i = index-of t (entries-of half s) in
-      let f = page-is-fit (k .page) in
-      let r : i < entry-count s = index-within half s t (f .most) (entry-first f (omega (arith, k .page .holds .half-least))) in
-      let same : m .entry ≡ entry-at half s i =
+      let same : m .entry ≡ entry-at half bytes i =
       ap (λ (n : Found). n .entry) (k .is)
-      ∙ (ap (λ es. entry-in es (index-of t es)) (entries-read (k .page)) ∙ at-entries-of half s i r (omega (arith, f .most))) in
-      subst⁻¹ (Leads half img t (l - 1)) same
-      (entry-leads (l - 1) (k .page) i r (index-started half s t (f .most) (omega (arith, f .first, k .page .begun))))
+      ∙ (ap (λ es. entry-in es (index-of t es)) (entries-read (k .page)) ∙ at-entries-of half bytes i one (omega (arith, one, fit .most))) in
+      subst⁻¹ (λ z. Leads half img t z (l - 1) (m .entry)) end-read
+      (subst⁻¹ (Leads half img t (end-at bytes (k .page .at .hi) i) (l - 1)) same (entry-leads (l - 1) (k .page) i one begun))
 
   -- the entry found has a later instant too exactly where it ends behind that, in a page that does
   module _ {u : ℕ} (later : t < u) where
-    abbrev es : List Entry
-    es = entries (image-of half img) (e .child)
-
-    abbrev bytes : List ℕ
-    bytes = page-at half img (e .child)
-
-    abbrev i : ℕ
-    i = index-of t (entries-of half bytes)
-
-    slot-read : (v : ℕ) → index-of v es ≡ index-of v (entries-of half bytes)
-    slot-read v = ap (index-of v) (entries-read (k .page))
-
-    end-read : m .end ≡ end-at bytes hi i
-    unfolding found-in
-    end-read =
-        ap (λ (n : Found). n .end) (k .is)
-        ∙ ap (end-in hi es) (slot-read t)
-        ∙ sym (lent-end (k .page .holds) (fit-searchable (k .page) .tree-page) refl hi i)
-
     pub has-later : u < m .end → index-of t es ≡ index-of u es
-    has-later before = slot-read t ∙ sym (index-is half bytes u (f .most) i r (omega (arith, begun)) behind) ∙ sym (slot-read u)
-      where
-        f : PageFit half (k .page .head) (k .page .at) bytes
-        f = page-is-fit (k .page)
-
-        r : i < entry-count bytes
-        r = index-within half bytes t (f .most) (entry-first f (omega (arith, k .page .holds .half-least)))
-
-        begun : start-at bytes i ≤ t
-        begun = index-started half bytes t (f .most) (omega (arith, f .first, k .page .begun))
-
-        behind : (j : ℕ) → i < j → j < entry-count bytes → u < start-at bytes j
-        behind j a b =
-            omega (
-              arith,
-              end-read,
-              bound-next bytes hi i,
-              bound-in bytes hi (suc i) (omega arith),
-              rises (entry-count bytes - 1) (start-at bytes) (f .rising) (suc i) j (omega arith) (omega arith),
-            )
+    has-later before =
+        slot-read t ∙ sym (found-only fit u i one (omega (arith, begun)) (omega (arith, end-read))) ∙ sym (slot-read u)
 
     pub not-later : u < hi → m .end ≤ u → ¬ (index-of t es ≡ index-of u es)
-    not-later low past same = go (decLt (suc i) (entry-count bytes))
-      where
-        here : index-of u (entries-of half bytes) ≡ i
-        here = sym (slot-read u) ∙ sym same ∙ slot-read t
-
-        go : Dec (suc i < entry-count bytes) → ⊥
-        go (yes l) =
-            let next = index-next half bytes u (page-is-fit (k .page) .most) in
-            omega (arith, past, end-read, bound-next bytes hi i, bound-in bytes hi (suc i) l, rw here at next l)
-        go (no l) = omega (arith, past, end-read, bound-next bytes hi i, bound-past bytes hi (suc i) (omega arith))
+    not-later low past same =
+        let here : index-of u (entries-of half bytes) ≡ i = sym (slot-read u) ∙ sym same ∙ slot-read t in
+        omega (arith, past, end-read, rw here at (found-ends fit u (omega (arith, k .page .ends))))

@@ -27,12 +27,13 @@ use Rattle.page_need.proofs.Needed.{lacks-is}
 
 -- ---- where both paths start
 
-leads-from : (half : ℕ) (img : List ℕ) (t l : ℕ) (e : Entry) → 1 ≤ l → Fit-from half img t (l - 1) (e .child) → Leads half img t l e
+leads-from : (half : ℕ) (img : List ℕ) (t hi l : ℕ) (e : Entry) → 1 ≤ l → Fit-from half img t hi (l - 1) (e .child)
+    → Leads half img t hi l e
 unfolding Leads
-leads-from half img t zero e h k = absurd (omega arith)
-leads-from half img t (suc l) e h k =
+leads-from half img t hi zero e h k = absurd (omega arith)
+leads-from half img t hi (suc l) e h k =
     let d : suc l - 1 ≡ l = omega arith in
-    subst (λ n. Fit-from half img t n (e .child)) d k
+    subst (λ n. Fit-from half img t hi n (e .child)) d k
 
 module _ {half : ℕ} {img : List ℕ} {h : Head} (o : Sound-image half img h) where
   facts : Fit-image half img
@@ -41,12 +42,12 @@ module _ {half : ℕ} {img : List ℕ} {h : Head} (o : Sound-image half img h) w
   pub head-is : Ranges half (pages-in half img) h
   head-is = subst⁻¹ (Ranges half (pages-in half img)) (o .shown) (facts .head)
 
-  root-leads : Bytes img → (t : ℕ) → Leads half img t (h .height) (entry 0 none (h .root))
+  root-leads : Bytes img → (t : ℕ) → Leads half img t END (h .height) (entry 0 none (h .root))
   unfolding root-context
   root-leads bytes t =
       let f = facts in
-      subst⁻¹ (λ (g : Head). Leads half img t (g .height) (entry 0 none (g .root))) (o .shown)
-      (leads-from half img t (the-head half img .height) (entry 0 none (the-head half img .root)) (f .head .height-least)
+      subst⁻¹ (λ (g : Head). Leads half img t END (g .height) (entry 0 none (g .root))) (o .shown)
+      (leads-from half img t END (the-head half img .height) (entry 0 none (the-head half img .root)) (f .head .height-least)
       (record {
         head = the-head half img;
         at = root-context (the-head half img);
@@ -57,11 +58,12 @@ module _ {half : ℕ} {img : List ℕ} {h : Head} (o : Sound-image half img h) w
         level = refl;
         low = omega (arith, f .head .height-least, f .head .height-most);
         begun = omega arith;
+        ends = refl;
         fit = f .tree;
       }))
 
-  pub opened-leads : Bytes img → (t : ℕ) {r : Entry} → r ≡ entry 0 none (h .root) → Leads half img t (h .height) r
-  opened-leads bytes t e = subst⁻¹ (Leads half img t (h .height)) e (root-leads bytes t)
+  pub opened-leads : Bytes img → (t : ℕ) {r : Entry} → r ≡ entry 0 none (h .root) → Leads half img t END (h .height) r
+  opened-leads bytes t e = subst⁻¹ (Leads half img t END (h .height)) e (root-leads bytes t)
 
   -- ---- what is asked for
 

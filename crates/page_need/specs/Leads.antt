@@ -17,9 +17,9 @@ pub record Small (n : Need) : Type 0 where
   pub adds : n .adds ≤ 2
   pub pages : n .pages ≤ 4 * most-height
 
--- Page p of level l is fit in a context that starts at t or before, and so are all pages below it. The bytes are those of the image that
--- they show.
-pub record Fit-from (half : ℕ) (img : List ℕ) (t l p : ℕ) : Type 0 where
+-- Page p of level l is fit in a context that starts at t or before and ends at hi, and so are all pages below it. The bytes are those of
+-- the image that they show.
+pub record Fit-from (half : ℕ) (img : List ℕ) (t hi l p : ℕ) : Type 0 where
   pub head : Head
   pub at : Page-context
   pub holds : Encodes half img (image-of half img)
@@ -29,12 +29,13 @@ pub record Fit-from (half : ℕ) (img : List ℕ) (t l p : ℕ) : Type 0 where
   pub level : at .level ≡ l
   pub low : l < most-height
   pub begun : at .lo ≤ t
+  pub ends : at .hi ≡ hi
   pub fit : tree-fit half head img l at p ≡ true
 
--- An entry of a level leads to such a page; a leaf's leads nowhere.
-unfoldable pub Leads : ℕ → List ℕ → ℕ → ℕ → Entry → Type 0
-Leads half img t zero e = Unit {0}
-Leads half img t (suc l) e = Fit-from half img t l (e .child)
+-- An entry of a level, which ends at hi, leads to such a page; a leaf's leads nowhere.
+unfoldable pub Leads : ℕ → List ℕ → ℕ → ℕ → ℕ → Entry → Type 0
+Leads half img t hi zero e = Unit {0}
+Leads half img t hi (suc l) e = Fit-from half img t hi l (e .child)
 
 -- A sound image, and the numbers of its head.
 pub record Sound-image (half : ℕ) (img : List ℕ) (h : Head) : Type 0 where

@@ -14,7 +14,7 @@ ghost use Rattle.page_need.specs.Leads.{Leads};
 
 // What the cut at t asks for from an entry down that only it meets, and that ends at hi.
 pub(crate) fn one_cut(half: usize, img: &[u8], t: u32, level: u32, e: Entry, hi: u32) -> Need
-    requires { ⌜ Leads half (now img) t level e ⌝ }
+    requires { ⌜ Leads half (now img) t hi level e ⌝ }
     ensures { λ r. ⌜ r ≡ one-cut half t level e (image-of half (now (img .entry))) ⌝ }
 {
     if level == 0 {
@@ -30,8 +30,8 @@ pub(crate) fn one_cut(half: usize, img: &[u8], t: u32, level: u32, e: Entry, hi:
 
 // What the cut at s asks for from x down and the cut at t from y down, entries that lead to pages of their own.
 fn parted_cuts(half: usize, img: &[u8], s: u32, t: u32, level: u32, x: Found, y: Found) -> Need
-    requires { ⌜ Leads half (now img) s level (x .entry) ⌝ }
-    requires { ⌜ Leads half (now img) t level (y .entry) ⌝ }
+    requires { ⌜ Leads half (now img) s (x .end) level (x .entry) ⌝ }
+    requires { ⌜ Leads half (now img) t (y .end) level (y .entry) ⌝ }
     ensures { λ r. ⌜ r ≡ parted-cuts half s t level (x .entry) (y .entry) (image-of half (now (img .entry))) ⌝ }
 {
     add_needs(
@@ -51,7 +51,7 @@ pub(crate) fn both_cuts(
     e: Entry,
     hi: u32,
 ) -> Need
-    requires { ⌜ Leads half (now img) s level e ⌝ }
+    requires { ⌜ Leads half (now img) s hi level e ⌝ }
     requires { ⌜ (s < t) × (t < hi) ⌝ }
     ensures { λ r. ⌜ r ≡ both-cuts half s t level e (image-of half (now (img .entry))) ⌝ }
 {

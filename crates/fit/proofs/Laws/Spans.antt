@@ -1,4 +1,5 @@
--- The spans of a fit page's entries follow each other, from the page's own start to its end. Assumes nothing.
+-- The spans of a fit page's entries follow each other, from the page's own start to its end, and a search finds the entry whose span has
+-- the instant. Assumes nothing.
 use mathlib.Core.Path.{_≡_, refl, ap}
 use mathlib.Core.Bool.{cond}
 use mathlib.Core.List.{List}
@@ -9,8 +10,10 @@ use lib.Dec.{ltb}
 use borrow.Author.Tests.{lt-ltb, le-ltb}
 use Rattle.lists.proofs.Totals.{rises}
 use Rattle.page.specs.declared.Head.{Head}
-use Rattle.page.specs.Layout.{entry-count, start-at}
+use Rattle.page.specs.Entries.{index-of}
+use Rattle.page.specs.Layout.{entry-count, start-at, entries-of}
 use Rattle.page.specs.Fit.{Page-context, end-at}
+use Rattle.page.proofs.Laws.Indices.{index-is, index-next}
 use Rattle.fit.proofs.Laws.Pages.{PageFit}
 
 -- where the spans begin and end: at the starts, the last one at the page's own end
@@ -78,3 +81,26 @@ module _ {half : ℕ} {h : Head} {at : Page-context} {s : List ℕ} (f : PageFit
       go (no k) =
           let d : entry-count s - 1 ≡ 0 = omega arith in
           omega (arith, rw d at (f .last), f .first)
+
+  -- the entry found ends behind the instant, if its page does
+  pub found-ends : (t : ℕ) → t < at .hi → t < end-at s (at .hi) (index-of t (entries-of half s))
+  found-ends t l = go (decLt (suc i) (entry-count s))
+    where
+      i : ℕ
+      i = index-of t (entries-of half s)
+
+      go : Dec (suc i < entry-count s) → t < end-at s (at .hi) i
+      go (yes m) = omega (arith, bound-next s (at .hi) i, bound-in s (at .hi) (suc i) m, index-next half s t (f .most) m)
+      go (no m) = omega (arith, bound-next s (at .hi) i, bound-past s (at .hi) (suc i) (omega arith))
+
+  -- an entry whose span has the instant is the one found
+  pub found-only : (t i : ℕ) → i < entry-count s → start-at s i ≤ t → t < end-at s (at .hi) i → index-of t (entries-of half s) ≡ i
+  found-only t i l a b =
+      index-is half s t (f .most) i l a
+      (λ j x y.
+      omega (
+        arith,
+        bound-next s (at .hi) i,
+        bound-in s (at .hi) j y,
+        rises (entry-count s) (bound s (at .hi)) bound-rises (suc i) j x (omega arith),
+      ))

@@ -2,13 +2,14 @@
 use native.Mathlib.Omega.{arith}
 use borrow.Author.Needs.{needs}
 use Rattle.fields.proofs.Laws.Digits.{bytes-of}
+use Rattle.rule.specs.Time.{END}
 use Rattle.page_need.specs.Leads.{Leads}
 use Rattle.page_need.proofs.Opening.{opened-leads, asked-first, asked-both}
 use Rattle.page_need.proofs.verdict.cuts_need.Statement.{statement}
 use Rattle.page_need.proofs.verdict.cuts_need.Tie as tie
 
 leads : (c : tie.After-root-entry) → let start = c .before .before in
-    Leads (start .args .half) (start .args .img .now) (start .args .s) (start .args .h .height) (c .root-entry .result)
+    Leads (start .args .half) (start .args .img .now) (start .args .s) END (start .args .h .height) (c .root-entry .result)
 leads c =
     let start = c .before .before in
     opened-leads (start .pre .0) (bytes-of (start .args .img .now) (c .before .shared-slice-known .given)) (start .args .s)

@@ -12,7 +12,7 @@ add-needs-requires c κs =
     let start = c .before .before .before in
     let args = start .args in
     let X = image-of (args .half) (args .img .now) in
-    let low = leads-low (args .half) (args .img .now) (args .s) (args .level) (args .x .entry) (start .pre .0) in (
+    let low = leads-low (args .half) (args .img .now) (args .s) (args .x .end) (args .level) (args .x .entry) (start .pre .0) in (
       small-one (args .half) X (args .level) (args .x .entry) low (args .s) (c .before .one-cut .ensures),
       small-one (args .half) X (args .level) (args .y .entry) low (args .t)
           (c .one-cut2 .ensures),
