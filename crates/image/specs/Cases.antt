@@ -4,9 +4,11 @@ use Prim.Native.Nat.{ℕ, _*_, _+_}
 use mathlib.Core.Path.{_≡_}
 use mathlib.Core.Bool.{true, false, cond}
 use mathlib.Core.List.{List, [], _∷_, map}
+use lib.IntN.{pos}
 use lib.Dec.{eqb}
 use Rattle.rule.specs.Time.{END}
-use Rattle.rule.specs.Pairs.{none}
+use Rattle.rule.specs.declared.Pair.{Pair}
+use Rattle.rule.specs.Pairs.{pair, none}
 use Rattle.fields.specs.Bytes.{patch}
 use Rattle.page.specs.declared.Entry.{Entry}
 use Rattle.page.specs.Entries.{entry}
@@ -14,7 +16,8 @@ use Rattle.page.specs.Layout.{head-of}
 use Rattle.page.specs.Fit.{root-context}
 use Rattle.image.specs.Images.{Cell, tree, free, never-used, page-at, image-bytes}
 use Rattle.image.specs.Sound.{sound}
-use Rattle.image.specs.Instant.{look-up}
+use Rattle.image.specs.Instant.{look-by, look-up}
+use Rattle.image.specs.Descent.{Associative, descend, upper}
 use Rattle.image.specs.Trail.{visits, every-entry, instant-trail, listing-trail, audit-trail}
 use Rattle.image.specs.Looks.{pages-of, found-fit, audit-looks}
 
@@ -92,6 +95,19 @@ tall =
       page = tall-cell;
     })
 
+-- Kind 2, and the pair (5, 1) over (7, 1) on the path to 10: the root's first entry has the one, the left leaf's second the other.
+unfoldable pub paired : List ℕ
+paired =
+    let root = entry 0 (pair (pos 5) (pos 1)) 1 ∷ entry 15 none 2 ∷ [] in
+    patch (patch (patch (pages 7 5 2 6 root) 24 (2 ∷ [])) (112 + 64) (7 ∷ [])) (112 + 72) (1 ∷ [])
+
+-- the pair at 10 there by any rule, combined on the way back, and on the way down
+unfoldable pub back : (Pair → Pair → Pair) → Pair
+back comb = let h = head-of (page-at 2 paired 0) in look-by comb 2 h paired 10 1 (root-context h) 3 .pair
+
+unfoldable pub down : (Pair → Pair → Pair) → Pair
+down comb = let h = head-of (page-at 2 paired 0) in descend comb 2 h paired 10 1 (root-context h) 3 none 0 .pair
+
 pub record Cases : Type 0 where
   -- An audit of a sound image looks at each page once.
   pub whole-sound : sound 2 whole ≡ true
@@ -121,6 +137,10 @@ pub record Cases : Type 0 where
   pub chain-short : audit-looks 2 (pages 7 4 2 6 both) ≡ 3 ∷ 1 ∷ 2 ∷ 4 ∷ 6 ∷ []
   -- A link to the page behind the last is not followed.
   pub chain-out : audit-looks 2 (patch (pages 7 5 2 6 both) (112 * 5 + 4) (7 ∷ [])) ≡ 3 ∷ 1 ∷ 2 ∷ 5 ∷ 6 ∷ []
+  -- Leaf first, and yet the pair above stands before the one below: by a rule that isn't commutative it is the one above, both ways.
+  pub upper-rule : Associative upper
+  pub upper-first : (back upper ≡ pair (pos 5) (pos 1)) × (down upper ≡ pair (pos 5) (pos 1))
+  pub greatest : look-up 2 paired 10 .pair ≡ pair (pos 7) (pos 1)
   -- An instant tells the start and the end of its leaf entry: the last one of a page ends where the page does, the very last at END.
   pub starts :
       map (λ t. look-up 2 whole t .start) (0 ∷ 9 ∷ 10 ∷ 14 ∷ 15 ∷ 24 ∷ 25 ∷ 4294967294 ∷ [])

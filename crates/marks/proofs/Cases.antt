@@ -67,6 +67,7 @@ cases =
       other-entry = refl;
       parent-pair-3 = refl;
       parent-pair-4 = refl;
+      pairs-combined = refl;
       redistribute-left-3 = refl;
       redistribute-left-1 = refl;
       redistribute-left-2 = refl;

@@ -195,6 +195,8 @@ pub record Cases : Type 0 where
       ∷ entry 4 (pair (negsuc 1) (negsuc 0)) 4 ∷ entry 9 (pair (pos 0) (pos 0)) 2 ∷ []
   pub parent-pair-4 : entries-of 2 (page-at 2 split-below 4) ≡ entry 4 (pair (pos 6) (pos 3)) 0 ∷ entry 6 (pair (pos 8) (pos 5)) 0
       ∷ entry 8 (pair (pos 6) (pos 4)) 0 ∷ []
+  -- There the pair at 8 is that of page 4's last entry, combined with the one above it, which ends where the next one of the root starts.
+  pub pairs-combined : index-instant 8 split-below ≡ record { status = 0; pair = pair (pos 4) (pos 3); start = 8; end = 9; pages = 2 }
   -- A left neighbour gives its last entry: both parent pairs are pushed down, and the right start follows.
   pub redistribute-left-3 : entries-of 2 (page-at 2 redistributed-left 3) ≡
       entry 0 (pair (pos 0) (pos 0)) 1 ∷ entry 5 (pair (pos 0) (pos 0)) 2 ∷ entry 11 (pair (pos 0) (pos 0)) 4 ∷ []
