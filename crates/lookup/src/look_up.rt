@@ -56,12 +56,12 @@ fn look(
         let start = e.start;
         return LookupAnswer::Answered(Holding { pair, start, end }, 1);
     }
-    let below = context_under(at, e.start, end, pair);
-    let LevelAnswer::Entry(x, x_end) = level_answer(half, img, e.child, h, below, t) else {
+    let under = context_under(at, e.start, end, pair);
+    let LevelAnswer::Entry(x, x_end) = level_answer(half, img, e.child, h, under, t) else {
         // 21: "if a page is unfit, the pages up to and including it", which are the entry's own and the one below.
         return LookupAnswer::Unfit(2);
     };
-    combine_above(h.kind, pair, look(half, img, h, below, t, x, x_end))
+    combine_above(h.kind, pair, look(half, img, h, under, t, x, x_end))
 }
 
 // The answer at t of an image whose head is fit.

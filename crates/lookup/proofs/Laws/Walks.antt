@@ -58,8 +58,8 @@ module _ {half : ℕ} {img : List ℕ} {h : Head} (some : 1 ≤ half) (o : Open-
     pub come-within : Page-in half img p
     come-within = opened-within o p (w .here)
 
-    pub come-met : On-path at t
-    come-met = record { begun = w .begun; bounded = path-bounded (w .path) (opened-ranges o .changes-most) }
+    pub come-on-path : On-path at t
+    come-on-path = record { begun = w .begun; bounded = path-bounded (w .path) (opened-ranges o .changes-most) }
 
     pub unfit-looked : page-fit half h at (page-at half img p) ≡ false → lookup-of (Unfit 1) ≡ look half h img t (at .level) at p
     unfolding lookup-of stopped

@@ -10,7 +10,7 @@ use Rattle.page.specs.Fit.{Page-context}
 use Rattle.image.specs.Images.{page-at}
 use Rattle.lookup.specs.Levels.{Met-in, Come-to}
 use Rattle.lookup.proofs.Laws.Levels.{Found, unfit-level, found-level}
-use Rattle.lookup.proofs.Laws.Walks.{come-within, come-met, come-below, leaf-looked, unfit-below, below-combinable, inner-looked}
+use Rattle.lookup.proofs.Laws.Walks.{come-within, come-on-path, come-below, leaf-looked, unfit-below, below-combinable, inner-looked}
 use Rattle.lookup.proofs.look_up.look.Reads as look
 use Rattle.lookup.proofs.look_up.look.Kinds as look-kinds
 use Rattle.lookup.proofs.look_up.+look.Lts-look as look-lts
@@ -96,12 +96,12 @@ pub +look-spec : {M : Type 1} → statement M
     -- context-under-requires
     (λ c κs.
     let pre = began n c .pre .1 in
-    (omega (arith, c .if1 .left), come-met (pre .0 .0) (pre .0 .1) (pre .1 .1 .come) .bounded))
+    (omega (arith, c .if1 .left), come-on-path (pre .0 .0) (pre .0 .1) (pre .1 .1 .come) .bounded))
     -- level-answer-requires
     (λ c κs.
     let pre = began n (c .before) .pre .1 in
     let come = comes n c (pre .1 .0) (pre .1 .1) in
-    ((pre .0 .0, come-within (pre .0 .0) (pre .0 .1) come), come-met (pre .0 .0) (pre .0 .1) come))
+    ((pre .0 .0, come-within (pre .0 .0) (pre .0 .1) come), come-on-path (pre .0 .0) (pre .0 .1) come))
     -- enum-known-x, enum-told
     (λ c. search needs) (λ c. search needs)
     -- returns-2

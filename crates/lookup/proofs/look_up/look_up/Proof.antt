@@ -6,7 +6,7 @@ use Rattle.image.specs.Instant.{look, look-up}
 use Rattle.access.proofs.Laws.{opened-ranges}
 use Rattle.lookup.specs.Levels.{Come-to, Met-in}
 use Rattle.lookup.proofs.Laws.Levels.{unfit-level}
-use Rattle.lookup.proofs.Laws.Walks.{come-root, come-within, come-met, unfit-looked, root-looked}
+use Rattle.lookup.proofs.Laws.Walks.{come-root, come-within, come-on-path, unfit-looked, root-looked}
 use Rattle.lookup.proofs.look_up.look_up.Statement.{statement}
 use Rattle.lookup.proofs.look_up.look_up.Tie as tie
 
@@ -22,7 +22,7 @@ comes c =
 level-answer-requires : tie.Need-level-answer-requires
 level-answer-requires c κs =
     let pre = began c .pre in
-    ((pre .0, come-within (pre .0) (pre .1) (comes c)), come-met (pre .0) (pre .1) (comes c))
+    ((pre .0, come-within (pre .0) (pre .1) (comes c)), come-on-path (pre .0) (pre .1) (comes c))
 
 abbrev rooted : tie.After-e → tie.After-root-context
 rooted c = c .before .before .before
