@@ -292,8 +292,8 @@ static int changed(uint32_t clock) {
 
 /*
  * A host that has to know at every second what is booked. It asks once, and again only when its clock has reached the end
- * of the answer, or when the index was changed. What it knows then is what a call would answer at each second. A refusal's
- * end is 0, so that it would ask again at the next second.
+ * of the answer, or when the index was changed. What it knows then is what a call would answer at each second. After a
+ * refusal it knows nothing, and asks again at the next second, since a refusal's end is 0.
  */
 static void polling(void) {
     struct luw_instant_answer known = {LUW_ACCEPTED, 0, 0, 0, 0, 0};
@@ -303,6 +303,10 @@ static void polling(void) {
         if (changed(clock) || clock >= known.end) {
             known = luw_instant(image, length, clock);
             calls++;
+            if (known.status != LUW_ACCEPTED) {
+                printf("at %" PRIu32 ": refused %" PRIu32 "\n", clock, known.status);
+                continue;
+            }
             printf("at %" PRIu32 ": sum %" PRId64 ", count %" PRId32 " until %" PRIu32 "\n", clock, known.sum, known.count, known.end);
         }
         CHECK(known.start <= clock && clock < known.end && same(known, luw_instant(image, length, clock)));

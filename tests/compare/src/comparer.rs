@@ -147,7 +147,8 @@ impl Comparer {
     }
 
     /// What is wrong with an instant's answer: by the image, whose pages on the way are fit, and by the library's own answers, which are
-    /// the same at the first instant of the leaf entry, at one between and at the last. No other answer has a start and an end.
+    /// the same at the first instant of the leaf entry, at one between and at the last. A refused instant has neither start nor end; the
+    /// answers of other calls have no such fields.
     fn wrong_instant(&mut self, call: Call, answer: Answer) -> Option<String> {
         let (Call::Instant { t }, 0) = (call, answer.status) else {
             return ((answer.start, answer.end) != (0, 0)).then(|| "a start and an end where none are due".to_string());

@@ -255,7 +255,7 @@ fn answer_from(image: &[u8], head: &Head, place: &Place, t: u32) -> Result<Below
     }
     match answer_from(image, head, &child_place(place, &page, i), t) {
         Err(UnfitAfter(pages)) => Err(UnfitAfter(pages + 1)),
-        Ok(below) => Ok(Below { pair: combine(head.kind, below.pair, entry.pair), pages: below.pages + 1, ..below }),
+        Ok(below) => Ok(Below { pair: combine(head.kind, entry.pair, below.pair), pages: below.pages + 1, ..below }),
     }
 }
 

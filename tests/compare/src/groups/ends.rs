@@ -13,11 +13,12 @@ use crate::groups::made::{swap_used, MADE};
 use crate::groups::search::{k_of, laid, Leaves, Shape, Starts};
 use crate::images::{
     capacity, count_at, head, leaf_entry_at, level, made, page_bytes, pages_of, pages_of_level, put, start_at,
-    starts_of, sum_at, u32_at, way, LeafEntry, Pool, CHANGES, ENTRY_COUNT_AT, HEIGHT, HIGH_MARK, KIND, ROOT,
+    starts_of, sum_at, u32_at, way, LeafEntry, Pool, CHANGES, ENTRY_COUNT_AT, FREE_LENGTH, HEIGHT, HIGH_MARK, KIND,
+    ROOT,
 };
 
-/// Heights 1 to 3 at every K and without the field, and the made images up to height 10.
-const LOW: usize = 3 * EACH.len();
+/// Heights 1 to 4 at every K and without the field, and the made images up to height 10.
+const LOW: usize = 4 * EACH.len();
 pub const PARTS: usize = LOW + MADE.len();
 
 pub fn ends(comparer: &mut Comparer, _: &Pool, part: usize) {
@@ -34,7 +35,8 @@ pub fn ends(comparer: &mut Comparer, _: &Pool, part: usize) {
     let roots = match height {
         1 => vec![1, 2, k / 2, k - 1, k],
         2 => vec![2, k / 2 + 1, k],
-        _ => vec![2, 3],
+        3 => vec![2, 3],
+        _ => vec![2],
     };
     for root in roots {
         for starts in Starts::EVERY_SORT {
@@ -71,7 +73,7 @@ fn every_call(comparer: &mut Comparer, image: &[u8], most: usize) {
 
 // ---------------------------------------------------------------- the entries
 
-/// Every leaf entry of a sound image, by the starts of all leaves in their order; no way is gone.
+/// Every leaf entry of a sound image, by the starts of all leaves in their order, as by its own way.
 fn leaf_entries(image: &[u8]) -> Vec<LeafEntry> {
     let mut starts: Vec<u32> = pages_of_level(image, 0).into_iter().flat_map(|page| starts_of(image, page)).collect();
     starts.sort_unstable();
@@ -101,23 +103,39 @@ fn asked(comparer: &mut Comparer, entries: &[LeafEntry]) {
     }
 }
 
-/// A booking inside an entry of kind 1 makes three of it, and its withdrawal one again.
+/// A booking inside an entry of kind 1 makes three of it. Its withdrawal makes them one again, unless a page was split for them: an entry
+/// that is first in its page stays.
 fn booked(comparer: &mut Comparer, image: &[u8], entries: &[LeafEntry]) {
     let wide = entries.iter().filter(|entry| entry.end - entry.start >= 3 && head(image, KIND) == 1);
     for entry in wide.step_by(7) {
         let (s, e) = (entry.start + 1, entry.end - 1);
-        if comparer.book(false, 5, s, e) == 0 {
-            for (t, start, end) in [(entry.start, entry.start, s), (s, s, e), (e - 1, s, e), (e, e, entry.end)] {
-                let answer = comparer.instant(t);
-                assert_eq!(
-                    (answer.status, answer.start, answer.end),
-                    (0, start, end),
-                    "where the booking begins and ends"
-                );
-            }
-            comparer.lend(image);
+        if comparer.book(false, 5, s, e) != 0 {
+            continue; // 24: it is as it was
         }
+        for (t, start, end) in [(entry.start, entry.start, s), (s, s, e), (e - 1, s, e), (e, e, entry.end)] {
+            told(comparer, t, (start, end));
+        }
+        let split = tree_pages(comparer.image()) > tree_pages(image);
+        assert_eq!(comparer.book(true, 5, s, e), 0, "no cut, and so no page");
+        for t in [entry.start, s, e] {
+            match split {
+                false => told(comparer, t, (entry.start, entry.end)),
+                true => drop(comparer.instant(t)),
+            }
+        }
+        comparer.tally.spans.add_booked(image, split);
+        comparer.lend(image);
     }
+}
+
+fn told(comparer: &mut Comparer, t: u32, span: (u32, u32)) {
+    let answer = comparer.instant(t);
+    assert_eq!((answer.status, answer.start, answer.end), (0, span.0, span.1), "where the entries begin and end");
+}
+
+/// How many pages the tree of a sound image has.
+fn tree_pages(image: &[u8]) -> u32 {
+    head(image, HIGH_MARK) - 1 - head(image, FREE_LENGTH)
 }
 
 /// Every pair (0, 0).

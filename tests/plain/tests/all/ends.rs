@@ -60,7 +60,7 @@ fn sound_images() -> Vec<Vec<u8>> {
     let tall = (4..=10).map(|height| (4, height)).chain([(6, 7), (6, 4), (8, 6), (10, 5), (14, 5), (24, 4)]);
     let mut images = Vec::new();
     for (i, (k, height)) in low.chain(tall).enumerate() {
-        let (kind, apart) = (1 + i as u32 % 3, [1, 2, 7, 1_000][i % 4]);
+        let (kind, apart) = (1 + (i + i / 3) as u32 % 3, [1, 2, 7, 1_000][i % 4]);
         let mut seeds = (0..).map(|seed| drawn(kind, if height < 4 { 2 } else { 40 + 40 * seed }, seed + i as u64));
         let fitting = |mut choice| tree(&wanted(k, 1_024, height, kind), apart, 0, &mut choice);
         let made = match (k, height) {
