@@ -19,17 +19,14 @@ use Rattle.lists.specs.Lists.{times, all-of}
 use Rattle.image.specs.Trail.{each-in-turn, finds-fit, all-fit, up-to-unfit, visits, trail, entry-of, entries-over, every-entry}
 use Rattle.image.specs.Trail.{instant-trail, listing-trail, audit-trail}
 use Rattle.image.specs.Instant.{stopped, leaf-answer, above, look-by, look-up}
-use Rattle.image.specs.Descent.{descend, Associative, upper}
+use Rattle.image.specs.Descent.{descend, Associative}
 use Rattle.image.specs.Looks.{pages-of, found-fit, chain-looks, audit-looks}
-use Rattle.image.specs.Cases.{cell, pages, both, whole, hurt, tall-cell, tall, paired, back, down, Cases}
+use Rattle.image.specs.Cases.{cell, pages, both, whole, hurt, tall-cell, tall, upper, paired, back, down, Cases}
 
 upper-laws : Associative upper
 unfolding upper same-number same-pair
 upper-laws =
-    record {
-      assoc = λ p q r. go p q r (same-pair p none) refl;
-      unit = λ p. refl;
-    }
+    record { assoc = λ p q r. go p q r (same-pair p none) refl; unit = λ p. refl }
   where
     go : (p q r : Pair) (b : Bool) → same-pair p none ≡ b
         → cond (same-pair (cond b q p) none) r (cond b q p) ≡ cond b (cond (same-pair q none) r q) p

@@ -8,7 +8,7 @@ use lib.IntN.{pos}
 use lib.Dec.{eqb}
 use Rattle.rule.specs.Time.{END}
 use Rattle.rule.specs.declared.Pair.{Pair}
-use Rattle.rule.specs.Pairs.{pair, none}
+use Rattle.rule.specs.Pairs.{pair, none, same-pair}
 use Rattle.fields.specs.Bytes.{patch}
 use Rattle.page.specs.declared.Entry.{Entry}
 use Rattle.page.specs.Entries.{entry}
@@ -17,7 +17,7 @@ use Rattle.page.specs.Fit.{root-context}
 use Rattle.image.specs.Images.{Cell, tree, free, never-used, page-at, image-bytes}
 use Rattle.image.specs.Sound.{sound}
 use Rattle.image.specs.Instant.{look-by, look-up}
-use Rattle.image.specs.Descent.{Associative, descend, upper}
+use Rattle.image.specs.Descent.{Associative, descend}
 use Rattle.image.specs.Trail.{visits, every-entry, instant-trail, listing-trail, audit-trail}
 use Rattle.image.specs.Looks.{pages-of, found-fit, audit-looks}
 
@@ -94,6 +94,10 @@ tall =
           };
       page = tall-cell;
     })
+
+-- A rule that isn't commutative: the pair further up, if there is one. The kinds' rules are, and can't tell one order from another.
+unfoldable pub upper : Pair → Pair → Pair
+upper p q = cond (same-pair p none) q p
 
 -- Kind 2, and the pair (5, 1) over (7, 1) on the path to 10: the root's first entry has the one, the left leaf's second the other.
 unfoldable pub paired : List ℕ

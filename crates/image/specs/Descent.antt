@@ -6,7 +6,7 @@ use mathlib.Core.Path.{_≡_}
 use mathlib.Core.Bool.{Bool, true, false, cond}
 use mathlib.Core.List.{List}
 use Rattle.rule.specs.declared.Pair.{Pair}
-use Rattle.rule.specs.Pairs.{none, same-pair, combine}
+use Rattle.rule.specs.Pairs.{none, combine}
 use Rattle.page.specs.declared.Head.{Head}
 use Rattle.page.specs.Entries.{index-of}
 use Rattle.page.specs.Layout.{entries-of, pair-at, child-at, head-of}
@@ -44,10 +44,6 @@ module _ (_⊕_ : Pair → Pair → Pair) where
   pub record Associative : Type 0 where
     pub assoc : (p q r : Pair) → (p ⊕ q) ⊕ r ≡ p ⊕ (q ⊕ r)
     pub unit : (p : Pair) → none ⊕ p ≡ p
-
--- Such a rule that isn't commutative: the pair further up, if there is one. The kinds' rules are, and can't tell one order from another.
-unfoldable pub upper : Pair → Pair → Pair
-upper p q = cond (same-pair p none) q p
 
 -- from the root, by the rule of the head's kind
 unfoldable pub from-root : ℕ → List ℕ → ℕ → Descent

@@ -158,51 +158,58 @@ module _ {half : ℕ} {img : List ℕ} {hi t l : ℕ} {e : Entry} {m : Found} (k
   unfolding found-in
   found-most = omega (arith, ap (λ (n : Found). n .count) (k .is), number-read (k .page), page-is-fit (k .page) .most)
 
+  -- the page below: its entries, its bytes, and where in it t falls
   abbrev es : List Entry
   es = entries (image-of half img) (e .child)
 
   abbrev bytes : List ℕ
   bytes = page-at half img (e .child)
 
-  abbrev i : ℕ
-  i = index-of t (entries-of half bytes)
+  abbrev index : ℕ
+  index = index-of t (entries-of half bytes)
 
-  fit : PageFit half (k .page .head) (k .page .at) bytes
-  fit = page-is-fit (k .page)
+  page-fits : PageFit half (k .page .head) (k .page .at) bytes
+  page-fits = page-is-fit (k .page)
 
-  one : i < entry-count bytes
-  one = index-within half bytes t (fit .most) (entry-first fit (omega (arith, k .page .holds .half-least)))
+  index-in : index < entry-count bytes
+  index-in = index-within half bytes t (page-fits .most) (entry-first page-fits (omega (arith, k .page .holds .half-least)))
 
-  begun : start-at bytes i ≤ t
-  begun = index-started half bytes t (fit .most) (omega (arith, fit .first, k .page .begun))
+  index-begun : start-at bytes index ≤ t
+  index-begun = index-started half bytes t (page-fits .most) (omega (arith, page-fits .first, k .page .begun))
 
-  slot-read : (v : ℕ) → index-of v es ≡ index-of v (entries-of half bytes)
-  slot-read v = ap (index-of v) (entries-read (k .page))
+  index-read : (v : ℕ) → index-of v es ≡ index-of v (entries-of half bytes)
+  index-read v = ap (index-of v) (entries-read (k .page))
 
-  end-read : m .end ≡ end-at bytes (k .page .at .hi) i
+  end-read : m .end ≡ end-at bytes (k .page .at .hi) index
   unfolding found-in
   end-read =
       ap (λ (n : Found). n .end) (k .is)
-      ∙ ap (end-in hi es) (slot-read t)
-      ∙ sym (lent-end (k .page .holds) (fit-searchable (k .page) .tree-page) refl hi i)
-      ∙ ap (λ z. end-at bytes z i) (sym (k .page .ends))
+      ∙ ap (end-in hi es) (index-read t)
+      ∙ sym (lent-end (k .page .holds) (fit-searchable (k .page) .tree-page) refl hi index)
+      ∙ ap (λ z. end-at bytes z index) (sym (k .page .ends))
+
+  entry-read : m .entry ≡ entry-at half bytes index
+  unfolding found-in
+  entry-read =
+      ap (λ (n : Found). n .entry) (k .is)
+      ∙ ap (λ es. entry-in es (index-of t es)) (entries-read (k .page))
+      ∙ at-entries-of half bytes index index-in (omega (arith, index-in, page-fits .most))
 
   pub found-leads : Leads half img t (m .end) (l - 1) (m .entry)
-  unfolding found-in
   found-leads =
-      let same : m .entry ≡ entry-at half bytes i =
-      ap (λ (n : Found). n .entry) (k .is)
-      ∙ (ap (λ es. entry-in es (index-of t es)) (entries-read (k .page)) ∙ at-entries-of half bytes i one (omega (arith, one, fit .most))) in
       subst⁻¹ (λ z. Leads half img t z (l - 1) (m .entry)) end-read
-      (subst⁻¹ (Leads half img t (end-at bytes (k .page .at .hi) i) (l - 1)) same (entry-leads (l - 1) (k .page) i one begun))
+      (subst⁻¹ (Leads half img t (end-at bytes (k .page .at .hi) index) (l - 1)) entry-read
+      (entry-leads (l - 1) (k .page) index index-in index-begun))
 
   -- the entry found has a later instant too exactly where it ends behind that, in a page that does
   module _ {u : ℕ} (later : t < u) where
     pub has-later : u < m .end → index-of t es ≡ index-of u es
     has-later before =
-        slot-read t ∙ sym (found-only fit u i one (omega (arith, begun)) (omega (arith, end-read))) ∙ sym (slot-read u)
+        index-read t
+        ∙ sym (found-only page-fits u index index-in (omega (arith, index-begun)) (omega (arith, end-read)))
+        ∙ sym (index-read u)
 
     pub not-later : u < hi → m .end ≤ u → ¬ (index-of t es ≡ index-of u es)
     not-later low past same =
-        let here : index-of u (entries-of half bytes) ≡ i = sym (slot-read u) ∙ sym same ∙ slot-read t in
-        omega (arith, past, end-read, rw here at (found-ends fit u (omega (arith, k .page .ends))))
+        let here : index-of u (entries-of half bytes) ≡ index = sym (index-read u) ∙ sym same ∙ index-read t in
+        omega (arith, past, end-read, rw here at (found-ends page-fits u (omega (arith, k .page .ends))))

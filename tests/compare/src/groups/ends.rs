@@ -118,9 +118,10 @@ fn booked(comparer: &mut Comparer, image: &[u8], entries: &[LeafEntry]) {
         let split = tree_pages(comparer.image()) > tree_pages(image);
         assert_eq!(comparer.book(true, 5, s, e), 0, "no cut, and so no page");
         for t in [entry.start, s, e] {
-            match split {
-                false => told(comparer, t, (entry.start, entry.end)),
-                true => drop(comparer.instant(t)),
+            if split {
+                comparer.instant(t);
+            } else {
+                told(comparer, t, (entry.start, entry.end));
             }
         }
         comparer.tally.spans.add_booked(image, split);
