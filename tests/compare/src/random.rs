@@ -26,8 +26,11 @@ impl Random {
         self.below(bound) == 0
     }
 
+    /// From `low` to `high`. The generator's low bits are its worst, and are left out where the range needs no more than the others.
     pub fn between(&mut self, low: i64, high: i64) -> i64 {
-        low + ((self.next() >> 16) % (high - low + 1) as u64) as i64
+        let numbers = (high - low + 1) as u64;
+        let drawn = if numbers < 1 << 47 { self.next() >> 16 } else { self.next() };
+        low + (drawn % numbers) as i64
     }
 
     pub fn pick<T: Copy>(&mut self, from: &[T]) -> T {

@@ -153,9 +153,10 @@ impl Xorshift {
         self.0.wrapping_mul(0x2545_F491_4F6C_DD1D)
     }
 
-    /// From 0 to `bound` − 1.
+    /// From 0 to `bound` − 1. The generator's low bits are its worst, and are left out where the bound needs no more than the others.
     pub fn below(&mut self, bound: u64) -> u64 {
-        (self.next() >> 16) % bound
+        let drawn = if bound < 1 << 47 { self.next() >> 16 } else { self.next() };
+        drawn % bound
     }
 
     pub fn one_in(&mut self, bound: u64) -> bool {
