@@ -150,7 +150,8 @@ struct luw_instant_answer luw_instant(const uint8_t *image, size_t image_length,
  * An average in hundredths. answer tells the case:
  *
  *   0  LUW_NO_AVERAGE  there is none: the count is 0 or less, or the kind isn't 1; also at every refusal
- *   1  LUW_HUNDREDTHS  hundredths is the whole number nearest 100 x sum / count, halves away from zero
+ *   1  LUW_HUNDREDTHS  hundredths is the whole number nearest 100 x sum / count, of two that are equally near the even one:
+ *                      -12 for -1 over 8, 0 for -1 over 200, 2 for 3 over 200
  *   2  LUW_BEYOND      from luw_average_of alone: there is an average, but the sum is above 10^15 or below -10^15, which
  *                      no fit page can show
  *

@@ -49,6 +49,11 @@ fn main() -> Result<(), Box<dyn Error>> {
         println!("from {} sum {} count {} average {}", run.start, run.sum, run.count, in_words(average));
     }
 
+    // A half of a hundredth goes to the even one.
+    for (sum, count) in [(-1, 8), (-1, 200), (3, 200)] {
+        println!("{sum} over {count} averages {}", in_words(average_of(Kind::Totals, sum, count)));
+    }
+
     // A worn header: more entries than the page has room for.
     put(&mut image, 1, 4, &(CAPACITY + 1).to_le_bytes());
     let refused = instant(&image, 22).expect_err("25 entries are refused");

@@ -188,7 +188,7 @@ pub fn instant(image: &[u8], t: u32) -> Result<Instant, Refused> {
 pub enum Average {
     /// There is none: the count is 0 or less, or the kind isn't totals.
     None,
-    /// The whole number nearest 100 × sum / count, halves away from zero.
+    /// The whole number nearest 100 × sum / count, of two that are equally near the even one.
     Hundredths(i64),
     /// The sum is beyond ±10^15, which no fit page can show; never the answer for an image.
     Beyond,
@@ -229,7 +229,10 @@ pub fn average(image: &[u8], t: u32) -> Result<Average, Refusal> {
 /// ```
 /// use luwhenoka::{average_of, Average, Kind};
 ///
-/// assert_eq!(average_of(Kind::Totals, -1, 8), Average::Hundredths(-13));
+/// assert_eq!(average_of(Kind::Totals, 1, 3), Average::Hundredths(33));
+/// // -12.5 hundredths: a half goes to the even number of them
+/// assert_eq!(average_of(Kind::Totals, -1, 8), Average::Hundredths(-12));
+/// assert_eq!(average_of(Kind::Totals, 3, 200), Average::Hundredths(2));
 /// assert_eq!(average_of(Kind::Totals, 5, -1), Average::None);
 /// assert_eq!(average_of(Kind::Greatest, 5, 1), Average::None);
 /// ```

@@ -286,7 +286,11 @@ fn averages() {
     assert_eq!(average(&image, 10), Ok(Average::Hundredths(-33)));
     assert_eq!(average(&image, 40), Ok(Average::None));
     assert_eq!(average(&image, END), Err(Refusal::InstantEnd));
-    assert_eq!(average_of(Kind::Totals, -1, 8), Average::Hundredths(-13));
+    for (sum, count, hundredths) in
+        [(-1, 8, -12), (1, 8, 12), (3, 8, 38), (-3, 8, -38), (1, 200, 0), (-1, 200, 0), (3, 200, 2)]
+    {
+        assert_eq!(average_of(Kind::Totals, sum, count), Average::Hundredths(hundredths), "{sum} over {count}");
+    }
     assert_eq!(average_of(Kind::Totals, i64::MIN, 1), Average::Beyond);
     assert_eq!(average_of(Kind::Totals, 1_000_000_000_000_000, 1), Average::Hundredths(100_000_000_000_000_000));
     assert_eq!(average_of(Kind::Least, 5, 1), Average::None);

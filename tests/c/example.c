@@ -176,7 +176,12 @@ static void averages_of_pairs(void) {
     CHECK(averages(luw_average_of(LUW_TOTALS, 5, -1), LUW_ACCEPTED, LUW_NO_AVERAGE, 0));
     CHECK(averages(luw_average_of(LUW_LEAST, 5, 1), LUW_ACCEPTED, LUW_NO_AVERAGE, 0));
     CHECK(averages(luw_average_of(LUW_TOTALS, INT64_MIN, 1), LUW_ACCEPTED, LUW_BEYOND, 0));
-    printf("-1 over 8: %" PRId64 " hundredths\n", luw_average_of(LUW_TOTALS, -1, 8).hundredths);
+    /* a half goes to the even hundredth */
+    CHECK(averages(luw_average_of(LUW_TOTALS, 1, 200), LUW_ACCEPTED, LUW_HUNDREDTHS, 0));
+    CHECK(averages(luw_average_of(LUW_TOTALS, 3, 200), LUW_ACCEPTED, LUW_HUNDREDTHS, 2));
+    CHECK(averages(luw_average_of(LUW_TOTALS, -3, 8), LUW_ACCEPTED, LUW_HUNDREDTHS, -38));
+    printf("-1 over 8: %" PRId64 " hundredths, over 200: %" PRId64 "\n", luw_average_of(LUW_TOTALS, -1, 8).hundredths,
+           luw_average_of(LUW_TOTALS, -1, 200).hundredths);
 }
 
 static void listings(void) {

@@ -3,7 +3,7 @@ use Prim.Native.Nat.{ℕ}
 use Rattle.rule.specs.Time.{span-ok, value-ok, kind-ok, window-ok, effect-end, covers, overlaps}
 use Rattle.rule.specs.Pairs.{same-number, same-pair, added, greater, lesser, better, combine}
 use Rattle.rule.specs.Bounds.{value-or-none}
-use Rattle.rule.specs.Averages.{nearest, hundredths, signed-as, average}
+use Rattle.rule.specs.Averages.{next-taken, nearest, hundredths, signed-as, average}
 use Rattle.fields.specs.Bytes.{part, patch, unused, all-are, every}
 use Rattle.fields.specs.Numbers.{num, digits, u32-at, i32-at, i64-at, u32-bytes, i32-bytes, i64-bytes}
 use Rattle.page.specs.Entries.{last-from, index-of, inserted, push}
@@ -37,5 +37,5 @@ use Rattle.calls.specs.Index.{index-book-bytewise, index-audit-bytewise}
 
 -- To name this on an `unfolding` line is to open them all.
 unfoldable pub every-call : ℕ
-unfolding span-ok value-ok kind-ok window-ok effect-end covers same-number same-pair added greater lesser better combine value-or-none nearest hundredths signed-as average part patch unused all-are every num digits u32-at i32-at i64-at u32-bytes i32-bytes i64-bytes last-from index-of splice inserted push level-of entry-count listed start-at pair-at child-at entry-at entries-of unused-ok concat-map entry-bytes tree-bytes next-of free-bytes free-ok never-used-ok head-of head-bytes root-context end-at context-below fewest entry-count-ok starts-ok child-ok children-ok pair-ok pairs-ok page-fit ranges-ok field-ok head-fit page-at pages-in length-ok entries-in next-in cell-of cell-bytes image-of image-bytes fresh-page fresh tree-fit tree-pages chain-pages times all-of each-once sound stopped leaf-answer above look-by look-up run-bytes nothing stopped′ then in-turn under leaf-run overlaps walk-page walk join-after join walk-over entries put with-supply spare taken given-back spares pages-taken with-root count-change cut-leaf-entry not-split split split-if-full cut-entry root-entry grow-root grow-if-split cut inside next-start took sent combine-entries combine-over combine-page combine-span heals short sibling left-of pushed joint redistribute merge collapse-root collapse-if-single rebalance heal-page heal cuts lacks-pages path-from path change cut-names combine-names siblings-used heal-names change-names withdraws effect first borrowed scratch-ok cleared scratch-after head head-ok format-status format book-input-rows book-status changed book instant-status instant average-at runs-over too-short written listing-status listing audit-input-rows audit capacity-ok capacity-named capacity-field half-of names-capacity judge judged index-format format-before index-book index-instant index-average index-listing index-audit index-book-bytewise index-audit-bytewise
+unfolding span-ok value-ok kind-ok window-ok effect-end covers same-number same-pair added greater lesser better combine value-or-none next-taken nearest hundredths signed-as average part patch unused all-are every num digits u32-at i32-at i64-at u32-bytes i32-bytes i64-bytes last-from index-of splice inserted push level-of entry-count listed start-at pair-at child-at entry-at entries-of unused-ok concat-map entry-bytes tree-bytes next-of free-bytes free-ok never-used-ok head-of head-bytes root-context end-at context-below fewest entry-count-ok starts-ok child-ok children-ok pair-ok pairs-ok page-fit ranges-ok field-ok head-fit page-at pages-in length-ok entries-in next-in cell-of cell-bytes image-of image-bytes fresh-page fresh tree-fit tree-pages chain-pages times all-of each-once sound stopped leaf-answer above look-by look-up run-bytes nothing stopped′ then in-turn under leaf-run overlaps walk-page walk join-after join walk-over entries put with-supply spare taken given-back spares pages-taken with-root count-change cut-leaf-entry not-split split split-if-full cut-entry root-entry grow-root grow-if-split cut inside next-start took sent combine-entries combine-over combine-page combine-span heals short sibling left-of pushed joint redistribute merge collapse-root collapse-if-single rebalance heal-page heal cuts lacks-pages path-from path change cut-names combine-names siblings-used heal-names change-names withdraws effect first borrowed scratch-ok cleared scratch-after head head-ok format-status format book-input-rows book-status changed book instant-status instant average-at runs-over too-short written listing-status listing audit-input-rows audit capacity-ok capacity-named capacity-field half-of names-capacity judge judged index-format format-before index-book index-instant index-average index-listing index-audit index-book-bytewise index-audit-bytewise
 every-call = 0

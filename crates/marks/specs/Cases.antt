@@ -7,7 +7,9 @@ use mathlib.Core.List.{List, [], _∷_, _++_, map}
 use lib.ListN.{replicate}
 use lib.IntN.{ℤ, pos, negsuc}
 use Rattle.rule.specs.Time.{END, effect-end}
+use Rattle.rule.specs.declared.Average.the-variants.{Hundredths}
 use Rattle.rule.specs.Pairs.{pair, none}
+use Rattle.rule.specs.Averages.{average}
 use Rattle.fields.specs.Bytes.{part, patch}
 use Rattle.fields.specs.Numbers.{u32-bytes, i64-bytes}
 use Rattle.page.specs.Entries.{entry}
@@ -19,7 +21,7 @@ use Rattle.calls.specs.Changes.{Side, entering, withdrawing}
 use Rattle.calls.specs.Calls.{head, no-instant, runs-over}
 use Rattle.calls.specs.Refusals.{borrowed}
 use Rattle.calls.specs.Index.{index-format, index-book, index-instant, index-listing, index-audit, index-audit-bytewise}
-use Rattle.calls.specs.Program.{program}
+use Rattle.calls.specs.Program.{program, average-text}
 use Rattle.marks.specs.Marks.{half, formatted, status, after, pair-of, full-listing, one-booking}
 
 -- s with byte b at offset o
@@ -147,6 +149,21 @@ pub record Cases : Type 0 where
   pub neg-greatest : pair-of 10 (after entering (negsuc 4) 10 40 (formatted 2 2 0)) ≡ pair (negsuc 4) (pos 1)
   pub neg-zero : pair-of 10 (after entering (negsuc 4) 10 40 (after entering (pos 0) 10 30 (formatted 2 2 0))) ≡ pair (pos 0) (pos 1)
   pub least : pair-of 10 (after entering (pos 4) 10 40 (after entering (pos 7) 5 30 (formatted 2 3 0))) ≡ pair (pos 4) (pos 1)
+  -- "a half goes to the even hundredth", on both sides of zero and of an even number; and beside a half to the nearer one. Even is the
+  -- number of hundredths: 99.5 and 100.5 of them are 100, whatever the whole part of the average.
+  pub halves :
+      map (λ s. average 1 (pair s (pos 200))) (pos 1 ∷ negsuc 0 ∷ pos 3 ∷ negsuc 2 ∷ pos 5 ∷ negsuc 4 ∷ pos 199 ∷ pos 201 ∷ negsuc 200 ∷ [])
+      ≡ Hundredths (pos 0) ∷ Hundredths (pos 0) ∷ Hundredths (pos 2) ∷ Hundredths (negsuc 1) ∷ Hundredths (pos 2) ∷ Hundredths (negsuc 1)
+      ∷ Hundredths (pos 100) ∷ Hundredths (pos 100) ∷ Hundredths (negsuc 99) ∷ []
+  pub beside-halves :
+      map (λ c. average 1 (pair (negsuc 2) (pos c))) (119 ∷ 120 ∷ 121 ∷ 199 ∷ 200 ∷ 201 ∷ 400 ∷ 600 ∷ 601 ∷ [])
+      ≡ Hundredths (negsuc 2) ∷ Hundredths (negsuc 1) ∷ Hundredths (negsuc 1) ∷ Hundredths (negsuc 1) ∷ Hundredths (negsuc 1)
+      ∷ Hundredths (negsuc 0) ∷ Hundredths (negsuc 0) ∷ Hundredths (pos 0) ∷ Hundredths (pos 0) ∷ []
+  -- "and −1 over 200 prints 0.00": -1 over 8, -1, 1 and 3 over 200
+  pub halves-printed :
+      map (λ p. average-text (average 1 p))
+      (pair (negsuc 0) (pos 8) ∷ pair (negsuc 0) (pos 200) ∷ pair (pos 1) (pos 200) ∷ pair (pos 3) (pos 200) ∷ [])
+      ≡ (45 ∷ 48 ∷ 46 ∷ 49 ∷ 50 ∷ []) ∷ (48 ∷ 46 ∷ 48 ∷ 48 ∷ []) ∷ (48 ∷ 46 ∷ 48 ∷ 48 ∷ []) ∷ (48 ∷ 46 ∷ 48 ∷ 50 ∷ []) ∷ []
   -- A change is counted.
   pub changes : head half one-booking .changes ≡ 1
   -- "The image is n pages of 512 bytes, n from 2 to 1,024." Fresh pages are a sound image; with a byte more or less, or as 1,025 pages of

@@ -91,8 +91,8 @@ pub record Marks : Type 0 where
   pub last-in-window : status-and-pair 64 greatest-booking ≡ (0, pair (pos 4) (pos 1))
   pub past-window : status-and-pair 65 greatest-booking ≡ (0, none)
   pub no-withdrawal : status withdrawing (pos 4) 35 45 greatest-booking ≡ 22
-  -- * "Sum −1, count 8 averages −13 hundredths; * count −1 none."
-  pub half-away : average 1 (pair (negsuc 0) (pos 8)) ≡ Hundredths (negsuc 12)
+  -- * "Sum −1, count 8 averages −13 hundredths; * count −1 none." Document 02, (ix): "Document 01's −13 becomes −12".
+  pub half-to-even : average 1 (pair (negsuc 0) (pos 8)) ≡ Hundredths (negsuc 11)
   pub no-average : average 1 (pair (negsuc 0) (negsuc 0)) ≡ Nothing
   -- "Value 1 on [10, 15), [20, 25) and so on: 11 leave 23 leaf entries; the twelfth takes two pages: 24 at n = 3, height 2 at n = 4."
   pub eleven : root-entries (in-a-row 11 (formatted 3 1 0)) ≡ 23

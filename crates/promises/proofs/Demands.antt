@@ -6,6 +6,7 @@ use Rattle.promises.proofs.Tables.{by-status}
 use Rattle.promises.proofs.Changes.{every-change-promised}
 use Rattle.promises.proofs.SameAnswers.{same-answers}
 use Rattle.promises.proofs.Until.{until-promised}
+use Rattle.promises.proofs.Rounding.{rounding-promised}
 use Rattle.promises.proofs.Header.{header-runs, header-scratch}
 
 pub demands-met : Demands-met
@@ -17,6 +18,7 @@ demands-met =
       every-change = every-change-promised;
       same-answers = same-answers;
       until-promised = until-promised;
+      rounding-promised = rounding-promised;
       header-runs = header-runs;
       header-scratch = header-scratch;
     }

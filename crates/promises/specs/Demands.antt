@@ -10,6 +10,7 @@ use Rattle.promises.specs.Tables.{By-status}
 use Rattle.promises.specs.Changes.{Every-change-promised}
 use Rattle.promises.specs.SameAnswers.{Same-answers}
 use Rattle.promises.specs.Until.{Until-promised}
+use Rattle.promises.specs.Rounding.{Rounding-promised}
 use Rattle.promises.specs.Header.{Header-runs, Header-scratch}
 
 pub record Demands-met : Type 0 where
@@ -19,5 +20,6 @@ pub record Demands-met : Type 0 where
   pub every-change : Every-change-promised
   pub same-answers : Same-answers
   pub until-promised : Until-promised
+  pub rounding-promised : Rounding-promised
   pub header-runs : Header-runs
   pub header-scratch : Header-scratch

@@ -5,4 +5,5 @@ pub mod Changes
 pub mod Header
 pub mod AfterLists
 pub mod Until
+pub mod Rounding
 pub mod Demands

@@ -3,6 +3,7 @@ pub mod Tests
 pub mod Signed
 pub mod Order
 pub mod Laws
+pub mod Nearest
 pub mod Rounding
 pub mod Window
 pub mod Wrapped

@@ -1,43 +1,22 @@
--- Rounding: `nearest` is the whole number nearest n / d, a half up, and the code's way leads to it. Assumes nothing.
-use Prim.Native.Nat.{ℕ, suc, _+_, _*_, _/_, _≤_, _<_}
-use mathlib.Core.Path.{_≡_, refl, sym, ap, _∙_}
-use native.Mathlib.Nat.{div-mul-le-self, div-le-self, lt-div-mul-add, div-eq-of-lt-le, mul-assoc, mul-left-comm, add-mul, one-mul}
-use native.Mathlib.Nat.{not-suc-le-zero}
+-- Rounding: the code's way leads to `hundredths`, and each way out of it to the average. Assumes nothing.
+use Prim.Native.Nat.{ℕ, zero, suc, _+_, _*_, _/_, _%_, _≤_, _<_, _^_}
+use mathlib.Core.Path.{_≡_, refl, ap, _∙_}
+use native.Mathlib.Nat.{div-le-self, mod-lt, not-suc-le-zero}
 use native.Mathlib.Omega.{arith}
-use mathlib.Core.Bool.{Bool, true, false, not, _||_, true≢false}
-use lib.Dec.{eqb}
-use lib.IntN.{ℤ, pos, negsuc, negℤ, natAbs, _+ℤ_, _-ℤ_, _*ℤ_, negℤ-+ℤ}
-use lib.Signed.{quotZ, leZ, ltZ, natAbs-le}
+use mathlib.Core.Bool.{Bool, true, false, cond, not, _||_, true≢false}
+use lib.Dec.{T, eqb}
+use lib.IntN.{ℤ, pos, negsuc, negℤ, natAbs, _+ℤ_, _*ℤ_, negℤ-+ℤ}
+use lib.Signed.{quotZ, remZ, leZ, ltZ, nonNeg, natAbs-le}
 use borrow.Author.Tests.{ltb-true, leb-false, lt-ltb, le-ltb}
 use mir.Syntax.{w32, w64}
 use mir.Val.{SFits, ofZ}
 use Rattle.rule.specs.declared.Pair.{Pair}
 use Rattle.rule.specs.declared.Average.the-variants.{Hundredths, Nothing, Beyond}
-use Rattle.rule.specs.Averages.{nearest, Nearest, hundredths, signed-as, most-sum, average}
+use Rattle.rule.specs.Averages.{next-taken, nearest, hundredths, signed-as, most-sum, average}
 use Rattle.rule.specs.Bounds.{Averageable}
-use Rattle.rule.proofs.Signed.{sfits-natAbs, natAbs-neg, natAbs-add, natAbs-mul, natAbs-quot, quot-neg}
+use Rattle.rule.proofs.Signed.{sfits-natAbs, natAbs-neg, natAbs-add, natAbs-mul, natAbs-quot, natAbs-rem, quot-neg, rem-neg}
 
--- the products of the definition and of the two bounds, as multiples of k * d
-abbrev Products : ℕ → ℕ → Type 0
-Products k d =
-    (k * (2 * d) ≡ 2 * (k * d)) × (2 * k * d ≡ 2 * (k * d)) × ((2 * k + 1) * d ≡ 2 * k * d + d) × ((k + 1) * (2 * d) ≡ k * (2 * d) + 2 * d)
-
-products : (k d : ℕ) → Products k d
-products k d = (mul-left-comm k 2 d, mul-assoc 2 k d, rw (add-mul, one-mul), rw (add-mul, one-mul))
-
-pub nearest-is : (n d : ℕ) → 0 < d → Nearest n d (nearest n d)
-unfolding nearest
-nearest-is n d h =
-    let q = (2 * n + d) / (2 * d) in
-    let low : q * (2 * d) ≤ 2 * n + d = div-mul-le-self (2 * n + d) (2 * d) in
-    let high : 2 * n + d < q * (2 * d) + 2 * d = lt-div-mul-add (omega arith) in
-    omega (arith, products q d)
-
-pub nearest-only : (n d k : ℕ) → 0 < d → Nearest n d k → k ≡ nearest n d
-unfolding nearest
-nearest-only n d k h near = sym (div-eq-of-lt-le (2 * d) (omega (arith, products k d)) (omega (arith, products k d)))
-
--- ---- the code's way: half a step is added on the sum's side, and division cuts towards zero
+-- ---- the code's way: division cuts towards zero, and a step on the sum's side may follow
 
 pub signed-as-neg : (sum count : ℤ) → ltZ sum (pos 0) ≡ true → signed-as sum count ≡ negℤ count
 unfolding signed-as
@@ -58,43 +37,78 @@ positive : (z : ℤ) → leZ z (pos 0) ≡ false → (z ≡ pos (natAbs z)) × (
 positive (pos n) e = (refl, leb-false n 0 e)
 positive (negsuc n) e = absurd (true≢false e)
 
-hundredths-by : (sum : ℤ) (d : ℕ) → quotZ (pos 200 *ℤ sum +ℤ signed-as sum (pos d)) (pos (2 * d)) ≡ hundredths sum d
-unfolding hundredths signed-as nearest
-hundredths-by (pos n) d = let e : 200 * n ≡ 2 * (100 * n) = omega arith in rw e
-hundredths-by (negsuc n) d =
-    let e : 200 * suc n ≡ 2 * (100 * suc n) = omega arith in
-    ap (λ z. quotZ z (pos (2 * d))) (sym (negℤ-+ℤ (pos (200 * suc n)) (pos d)))
-    ∙ quot-neg (200 * suc n + d) (2 * d)
-    ∙ ap (λ m. negℤ (pos ((m + d) / (2 * d)))) e
+-- what a division by two leaves is 0 or not, whatever the sign
+pub even-bits : (z : ℤ) → eqb (ofZ w64 (remZ z (pos 2))) 0 ≡ eqb (natAbs z % 2) 0
+even-bits (pos n) = refl
+even-bits (negsuc n) = go (suc n % 2) (mod-lt (suc n) (omega arith))
+  where
+    go : (m : ℕ) → m < 2 → eqb (ofZ w64 (negℤ (pos m))) 0 ≡ eqb m 0
+    go zero h = refl
+    go (suc zero) h = refl
+    go (suc (suc m)) h = absurd (omega arith)
 
--- Each number on the way fits, and the last is the average.
+-- where the code stands before it has chosen, for a count of d
+abbrev whole : ℤ → ℕ → ℤ
+whole sum d = quotZ (pos 100 *ℤ sum) (pos d)
+
+abbrev rest : ℤ → ℕ → ℤ
+rest sum d = remZ (pos 100 *ℤ sum) (pos d)
+
+chosen : (sum : ℤ) (d : ℕ)
+    → hundredths sum d ≡
+    cond (next-taken (natAbs (whole sum d)) (natAbs (rest sum d)) d) (whole sum d +ℤ signed-as sum (pos 1)) (whole sum d)
+unfolding hundredths nearest signed-as
+chosen (pos n) d = go (next-taken (100 * n / d) (100 * n % d) d)
+  where
+    go : (t : Bool) → pos (cond t (suc (100 * n / d)) (100 * n / d)) ≡ cond t (pos (100 * n / d) +ℤ pos 1) (pos (100 * n / d))
+    go true = ap pos (omega arith)
+    go false = refl
+chosen (negsuc n) d =
+    rw (quot-neg (100 * suc n) d, rem-neg (100 * suc n) d, natAbs-neg (pos (100 * suc n / d)), natAbs-neg (pos (100 * suc n % d)))
+    (go (next-taken (100 * suc n / d) (100 * suc n % d) d))
+  where
+    go : (t : Bool)
+        → negℤ (pos (cond t (suc (100 * suc n / d)) (100 * suc n / d))) ≡
+        cond t (negℤ (pos (100 * suc n / d)) +ℤ negsuc 0) (negℤ (pos (100 * suc n / d)))
+    go true =
+        let next : suc (100 * suc n / d) ≡ 100 * suc n / d + 1 = omega arith in
+        ap (λ m. negℤ (pos m)) next ∙ negℤ-+ℤ (pos (100 * suc n / d)) (pos 1)
+    go false = refl
+
+-- Each number on the way fits, and what the choice takes is the average.
 pub record Steps (sum count : ℤ) : Type 0 where
-  pub opposite : SFits w64 (pos 0 -ℤ count)
-  pub side : SFits w64 (signed-as sum count)
-  pub scaled : SFits w64 (pos 200 *ℤ sum)
-  pub shifted : SFits w64 (pos 200 *ℤ sum +ℤ signed-as sum count)
-  pub doubled : SFits w64 (pos 2 *ℤ count)
-  pub nonzero : 0 < ofZ w64 (pos 2 *ℤ count)
-  pub divided : SFits w64 (quotZ (pos 200 *ℤ sum +ℤ signed-as sum count) (pos 2 *ℤ count))
-  pub done : quotZ (pos 200 *ℤ sum +ℤ signed-as sum count) (pos 2 *ℤ count) ≡ hundredths sum (natAbs count)
+  pub scaled : SFits w64 (pos 100 *ℤ sum)
+  pub nonzero : 0 < ofZ w64 count
+  pub divided : SFits w64 (quotZ (pos 100 *ℤ sum) count)
+  pub left : SFits w64 (remZ (pos 100 *ℤ sum) count)
+  pub short : natAbs (remZ (pos 100 *ℤ sum) count) < 2 ^ 63
+  pub positive : T (nonNeg count)
+  pub step : SFits w64 (signed-as sum (pos 1))
+  pub stepped : SFits w64 (quotZ (pos 100 *ℤ sum) count +ℤ signed-as sum (pos 1))
+  pub done : hundredths sum (natAbs count) ≡
+      cond (next-taken (natAbs (quotZ (pos 100 *ℤ sum) count)) (natAbs (remZ (pos 100 *ℤ sum) count)) (natAbs count))
+      (quotZ (pos 100 *ℤ sum) count +ℤ signed-as sum (pos 1)) (quotZ (pos 100 *ℤ sum) count)
 
 pub steps : (sum count : ℤ) → Averageable sum count → Steps sum count
 steps sum count ok =
     let d = positive count (ok .some) in
-    let scale = natAbs-mul (pos 200) sum in
-    let shift = natAbs-add (pos 200 *ℤ sum) (signed-as sum count) in
-    let sign = natAbs-signed-as sum count in
-    let whole = natAbs-quot (pos 200 *ℤ sum +ℤ signed-as sum count) (pos 2 *ℤ count) in
-    let less = div-le-self (natAbs (pos 200 *ℤ sum +ℤ signed-as sum count)) (natAbs (pos 2 *ℤ count)) in
+    let scale = natAbs-mul (pos 100) sum in
+    let whole = natAbs-quot (pos 100 *ℤ sum) count in
+    let less = div-le-self (natAbs (pos 100 *ℤ sum)) (natAbs count) in
+    let rest = natAbs-rem (pos 100 *ℤ sum) count in
+    let small = mod-lt (natAbs (pos 100 *ℤ sum)) (d .1) in
+    let one = natAbs-signed-as sum (pos 1) in
+    let next = natAbs-add (quotZ (pos 100 *ℤ sum) count) (signed-as sum (pos 1)) in
     record {
-      opposite = sfits-natAbs w64 (omega (arith, natAbs-add (pos 0) (negℤ count), natAbs-neg count));
-      side = sfits-natAbs w64 (omega arith);
       scaled = sfits-natAbs w64 (omega arith);
-      shifted = sfits-natAbs w64 (omega arith);
-      doubled = sfits-natAbs w64 (omega (arith, natAbs-mul (pos 2) count));
       nonzero = rw (d .0) (omega arith);
       divided = sfits-natAbs w64 (omega arith);
-      done = rw (d .0) (hundredths-by sum (natAbs count));
+      left = sfits-natAbs w64 (omega arith);
+      short = omega arith;
+      positive = rw (d .0) tt;
+      step = sfits-natAbs w64 (omega arith);
+      stepped = sfits-natAbs w64 (omega arith);
+      done = rw (d .0) (chosen sum (natAbs count));
     }
 
 -- ---- the ways out of the code, over the tests that it makes

@@ -1,13 +1,13 @@
 -- Signed numbers: the absolute value of each operation's result, and from it that the result fits its width. Assumes nothing.
-use Prim.Native.Nat.{ℕ, zero, suc, _+_, _-_, _*_, _/_, _≤_, _<_, _^_}
+use Prim.Native.Nat.{ℕ, zero, suc, _+_, _-_, _*_, _/_, _%_, _≤_, _<_, _^_}
 use mathlib.Core.Path.{_≡_, refl, sym, ap, _∙_, subst⁻¹}
 use mathlib.Core.Logic.{_↔_}
 use mathlib.Core.Bool.{Bool, true, false, cond, false≢true, true≢false}
-use native.Mathlib.Nat.{le-refl, zero-div, lt-of-le-of-lt, not-suc-le-zero}
+use native.Mathlib.Nat.{le-refl, zero-div, zero-mod, lt-of-le-of-lt, not-suc-le-zero}
 use native.Mathlib.Omega.{arith}
 use lib.Dec.{T, ltb, eqb}
 use lib.IntN.{ℤ, pos, negsuc, negℤ, _+ℤ_, _-ℤ_, _*ℤ_, natAbs, subℕ, pos-ne-negsuc, +ℤ-one, +ℤ-idl}
-use lib.Signed.{mag, quotZ, ltZ, nonNeg}
+use lib.Signed.{mag, quotZ, remZ, ltZ, nonNeg}
 use borrow.Author.Tests.{eqb-true, eq-eqb, ltb-true}
 use mir.Syntax.{Width}
 use mir.Val.{SFits, hbits, ofZ, toZ}
@@ -57,10 +57,18 @@ natAbs-quot (pos a) (negsuc b) = natAbs-neg (pos (a / suc b))
 natAbs-quot (negsuc a) (pos b) = natAbs-neg (pos (suc a / b))
 natAbs-quot (negsuc a) (negsuc b) = refl
 
--- division cuts towards zero: the sign of what is divided passes to the quotient
+pub natAbs-rem : (a b : ℤ) → natAbs (remZ a b) ≡ natAbs a % natAbs b
+natAbs-rem (pos a) b = refl
+natAbs-rem (negsuc a) b = natAbs-neg (pos (suc a % natAbs b))
+
+-- division cuts towards zero: the sign of what is divided passes to the quotient and to what is left
 pub quot-neg : (a b : ℕ) → quotZ (negℤ (pos a)) (pos b) ≡ negℤ (pos (a / b))
 quot-neg zero b = rw (zero-div b)
 quot-neg (suc a) b = refl
+
+pub rem-neg : (a b : ℕ) → remZ (negℤ (pos a)) (pos b) ≡ negℤ (pos (a % b))
+rem-neg zero b = rw (zero-mod b)
+rem-neg (suc a) b = refl
 
 -- ---- the absolute value by the code's way: one more, the opposite, and one more again
 

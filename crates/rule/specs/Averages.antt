@@ -1,23 +1,38 @@
--- Document 01, "Time and value": the average. Assumes nothing.
-use Prim.Native.Nat.{ℕ, suc, _+_, _*_, _/_, _≤_, _<_}
-use mathlib.Core.Bool.{cond, not, _||_}
+-- Document 01, "Time and value": the average; document 02, (ix): how it is rounded. Assumes nothing.
+use Prim.Native.Nat.{ℕ, suc, _*_, _/_, _%_, _≤_}
+use mathlib.Core.Path.{_≡_}
+use mathlib.Core.Logic.{_≢_}
+use mathlib.Core.Bool.{Bool, cond, not, _&&_, _||_}
 use lib.Dec.{eqb, ltb}
-use lib.IntN.{ℤ, pos, negsuc, negℤ, natAbs}
+use lib.IntN.{ℤ, pos, negsuc, negℤ, natAbs, _-ℤ_, _*ℤ_}
 use lib.Signed.{leZ}
 use Rattle.rule.specs.declared.Pair.{Pair}
 use Rattle.rule.specs.declared.Average.{Average}
 use Rattle.rule.specs.declared.Average.the-variants.{Hundredths, Nothing, Beyond}
 
--- the whole number nearest n / d, a half up
+-- Division by d gave q and left r. Whether q + 1 is taken for q: it is nearer, or it is as near and q is odd.
+unfoldable pub next-taken : ℕ → ℕ → ℕ → Bool
+next-taken q r d = ltb d (2 * r) || (eqb (2 * r) d && not (eqb (q % 2) 0))
+
+-- the whole number nearest n / d, of two that are equally near the even one
 unfoldable pub nearest : ℕ → ℕ → ℕ
-nearest n d = (2 * n + d) / (2 * d)
+nearest n d = cond (next-taken (n / d) (n % d) d) (suc (n / d)) (n / d)
 
--- what that says: k lies at most half a step above n / d, and less than half a step below it
-pub record Nearest (n d k : ℕ) : Type 0 where
-  pub above : 2 * k * d ≤ 2 * n + d
-  pub below : 2 * n < (2 * k + 1) * d
+-- how far n / d lies from a whole number k, in parts of which d make one
+abbrev pub distance : ℤ → ℕ → ℤ → ℕ
+distance n d k = natAbs (n -ℤ k *ℤ pos d)
 
--- "in hundredths: the whole number nearest 100 × sum / count, halves away from zero"
+-- What that says, by the words alone and below zero too: no whole number is nearer, and where another one is as near, k is even.
+pub record Nearest (n : ℤ) (d : ℕ) (k : ℤ) : Type 0 where
+  pub none-nearer : (j : ℤ) → distance n d k ≤ distance n d j
+  pub even : (j : ℤ) → j ≢ k → distance n d j ≡ distance n d k → natAbs k % 2 ≡ 0
+
+-- k is, and no other number
+pub record The-nearest (n : ℤ) (d : ℕ) (k : ℤ) : Type 0 where
+  pub is : Nearest n d k
+  pub only : (j : ℤ) → Nearest n d j → j ≡ k
+
+-- "in hundredths: the whole number nearest 100 × sum / count", and (ix): "a half goes to the even hundredth"
 unfoldable pub hundredths : ℤ → ℕ → ℤ
 hundredths (pos n) count = pos (nearest (100 * n) count)
 hundredths (negsuc n) count = negℤ (pos (nearest (100 * suc n) count))

@@ -1,28 +1,46 @@
-// The average, document 01, "Time and value": for kind 1, in hundredths, halves away from zero.
+// The average, document 01, "Time and value": for kind 1, in hundredths. Document 02, (ix): a half goes to the even one.
 use crate::Average;
 use crate::Pair;
 use crate::limits::MOST_SUM;
 use crate::limits::TOTALS;
 use crate::numbers::magnitude;
+ghost use Prim.Native.Nat.{_<_, _^_};
 ghost use mathlib.Core.Path.{_≡_};
-ghost use lib.IntN.{natAbs};
-ghost use Rattle.rule.specs.Averages.{signed-as, hundredths, average};
+ghost use lib.IntN.{pos, natAbs};
+ghost use Rattle.rule.specs.Averages.{signed-as, next-taken, hundredths, average};
 ghost use Rattle.rule.specs.Bounds.{Averageable};
 
-// Half a step away from zero: a count on the side of the sum's sign.
-fn away(sum: i64, count: i64) -> i64
-    requires { ⌜ Averageable sum count ⌝ }
-    ensures { λ r. ⌜ r ≡ signed-as sum count ⌝ }
+// One step away from zero, on the side of the sum's sign.
+fn away(sum: i64) -> i64
+    ensures { λ r. ⌜ r ≡ signed-as sum (pos 1) ⌝ }
 {
-    if sum < 0 { -count } else { count }
+    if sum < 0 { -1 } else { 1 }
 }
 
-// The whole number nearest 100 × sum / count: division cuts towards zero, so half a step away from it is added first.
+// Whether the next number away from zero is nearer than `whole`, or as near while `whole` is odd. Of an odd number below zero a division
+// by 2 leaves -1.
+fn next_taken(whole: i64, rest: u64, count: u64) -> bool
+    requires { ⌜ rest < 2 ^ 63 ⌝ }
+    ensures { λ r. ⌜ r ≡ next-taken (natAbs whole) rest count ⌝ }
+{
+    let twice = 2 * rest;
+    (twice > count) | ((twice == count) & (whole % 2 != 0))
+}
+
+// The whole number nearest 100 × sum / count, of two that are equally near the even one. Division cuts towards zero, and what it leaves has
+// the sum's sign.
 fn rounded(sum: i64, count: i64) -> i64
     requires { ⌜ Averageable sum count ⌝ }
     ensures { λ r. ⌜ r ≡ hundredths sum (natAbs count) ⌝ }
 {
-    (200 * sum + away(sum, count)) / (2 * count)
+    let scaled = 100 * sum;
+    let whole = scaled / count;
+    let rest = magnitude(scaled % count);
+    if next_taken(whole, rest, count as u64) {
+        whole + away(sum)
+    } else {
+        whole
+    }
 }
 
 // The average of a pair of a kind, for any numbers that a damaged page may hold.

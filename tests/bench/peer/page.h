@@ -48,6 +48,7 @@
 #define MOST_WINDOW 1000000000
 #define MOST_CHANGES 1000000000
 #define MOST_VALUE 1000000
+#define MOST_SUM ((int64_t)MOST_VALUE * MOST_CHANGES)
 
 /* ------------------------------------------------------------ statuses */
 

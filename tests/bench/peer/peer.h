@@ -37,6 +37,9 @@ struct peer_instant_answer peer_instant(const uint8_t *image, size_t image_lengt
 /* The same with no search: the index of t's entry is known for each page from the root on. It tells what a search costs. */
 struct peer_instant_answer peer_instant_known(const uint8_t *image, size_t image_length, uint32_t t, const uint8_t *known);
 
+/* answer is 0 for none, 1 for hundredths, 2 for a sum that no fit page can show. */
+struct peer_average_answer peer_average_of(uint32_t kind, int64_t sum, int32_t count);
+
 struct peer_average_answer peer_average(const uint8_t *image, size_t image_length, uint32_t t);
 
 struct peer_listing_answer peer_listing(const uint8_t *image, size_t image_length, uint32_t a, uint32_t b,

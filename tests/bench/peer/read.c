@@ -58,24 +58,35 @@ struct peer_instant_answer peer_instant_known(const uint8_t *image, size_t image
 
 /* ------------------------------------------------------------ average */
 
-/* The whole number nearest 100 x sum / count for a count above 0, halves away from zero. */
+/* The whole number nearest 100 x sum / count for a count above 0, of two that are equally near the even one. */
 static int64_t hundredths(int64_t sum, int32_t count) {
     int64_t quotient = 100 * sum / count;
     int64_t rest = 100 * sum % count;
-    if (2 * rest >= count) {
+    /* at an even quotient a half isn't enough to go on */
+    int64_t half = (int64_t)count + (quotient % 2 == 0);
+    if (2 * rest >= half) {
         return quotient + 1;
     }
-    return 2 * rest <= -(int64_t)count ? quotient - 1 : quotient;
+    return 2 * rest <= -half ? quotient - 1 : quotient;
+}
+
+struct peer_average_answer peer_average_of(uint32_t kind, int64_t sum, int32_t count) {
+    struct peer_average_answer answer = {ACCEPTED, 0, 0};
+    if (kind == TOTALS && count > 0) {
+        int shown = -MOST_SUM <= sum && sum <= MOST_SUM;
+        answer.answer = shown ? 1 : 2;
+        answer.hundredths = shown ? hundredths(sum, count) : 0;
+    }
+    return answer;
 }
 
 struct peer_average_answer peer_average(const uint8_t *image, size_t image_length, uint32_t t) {
     struct peer_instant_answer instant = peer_instant(image, image_length, t);
-    struct peer_average_answer answer = {instant.status, 0, 0};
-    if (instant.status == ACCEPTED && instant.count > 0 && load32(image + offsetof(struct head, kind)) == TOTALS) {
-        answer.answer = 1;
-        answer.hundredths = hundredths(instant.sum, instant.count);
+    if (instant.status != ACCEPTED) {
+        struct peer_average_answer refused = {instant.status, 0, 0};
+        return refused;
     }
-    return answer;
+    return peer_average_of(load32(image + offsetof(struct head, kind)), instant.sum, instant.count);
 }
 
 /* ------------------------------------------------------------ listing */

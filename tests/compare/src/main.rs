@@ -11,6 +11,7 @@ mod capacities;
 mod comparer;
 mod groups;
 mod guarded;
+mod halves;
 mod images;
 mod places;
 mod random;

@@ -2,6 +2,7 @@
 
 use crate::calls::{Answer, Call, NAMES};
 use crate::capacities::Capacities;
+use crate::halves::Halves;
 use crate::places::Places;
 use crate::scratches::Scratches;
 use crate::spans::Spans;
@@ -24,6 +25,7 @@ pub struct Tally {
     refused_pages: [u64; MOST_PAGES_READ + 1],
     /// Averages by their case: none, hundredths, beyond.
     averages: [u64; 3],
+    halves: Halves,
     pub capacities: Capacities,
     places: Places,
     pub scratches: Scratches,
@@ -40,6 +42,7 @@ impl Default for Tally {
             answered_pages: [0; MOST_PAGES_READ + 1],
             refused_pages: [0; MOST_PAGES_READ + 1],
             averages: [0; 3],
+            halves: Halves::default(),
             capacities: Capacities::default(),
             places: Places::default(),
             scratches: Scratches::default(),
@@ -60,7 +63,12 @@ impl Tally {
                 self.places.add(image, t);
             }
             Call::Instant { .. } if answer.status == 21 => self.refused_pages[answer.pages as usize] += 1,
-            Call::AverageOf { .. } => self.averages[answer.average as usize] += 1,
+            Call::AverageOf { sum, count, .. } => {
+                self.averages[answer.average as usize] += 1;
+                if answer.average == 1 {
+                    self.halves.add(sum, count);
+                }
+            }
             _ => {}
         }
     }
@@ -72,6 +80,7 @@ impl Tally {
         add(&mut self.answered_pages, &other.answered_pages);
         add(&mut self.refused_pages, &other.refused_pages);
         add(&mut self.averages, &other.averages);
+        self.halves.add_all(&other.halves);
         self.capacities.add_all(&other.capacities);
         self.places.add_all(&other.places);
         self.scratches.add_all(&other.scratches);
@@ -99,6 +108,7 @@ impl Tally {
             "averages of pairs: none {}, hundredths {}, beyond {}",
             self.averages[0], self.averages[1], self.averages[2]
         );
+        self.halves.print();
         self.places.print();
         self.spans.print();
         self.scratches.print();
@@ -124,6 +134,7 @@ impl Tally {
         lacking.extend(
             cases.iter().zip(self.averages).filter(|(_, n)| *n == 0).map(|(case, _)| format!("an average {case}")),
         );
+        lacking.extend(self.halves.lacking());
         lacking.extend(self.steps.lacking());
         lacking.extend(self.capacities.lacking());
         lacking.extend(self.scratches.lacking());

@@ -1,5 +1,7 @@
 //! Document 01, "Time and value".
 
+use std::cmp::Ordering;
+
 /// "Instants are 0 to 4,294,967,294. END = 4,294,967,295 is no instant."
 pub const END: u32 = 4_294_967_295;
 
@@ -89,7 +91,7 @@ pub fn combine(kind: u32, one: Pair, other: Pair) -> Pair {
 pub enum Average {
     /// "It is 'none' where count ≤ 0 or for kinds 2 and 3."
     None,
-    /// "in hundredths: the whole number nearest 100 × sum / count, halves away from zero"
+    /// "in hundredths: the whole number nearest 100 × sum / count", and by document 02, (ix), "a half goes to the even hundredth"
     Hundredths(i64),
     /// The sum is beyond ±10^15. No fit page can show such a sum, as 1,000,000 × changes is at most 10^15. Document 01
     /// doesn't say what comes here; it is only asked where there is an average at all.
@@ -99,8 +101,8 @@ pub enum Average {
 /// The greatest absolute sum that fit pages can show: 1,000,000 × 1,000,000,000.
 pub const GREATEST_SUM: u64 = 1_000_000_000_000_000;
 
-/// "The average, kind 1 only, is in hundredths: the whole number nearest 100 × sum / count, halves away from zero. It is
-/// 'none' where count ≤ 0 or for kinds 2 and 3."
+/// "The average, kind 1 only, is in hundredths: the whole number nearest 100 × sum / count .. It is 'none' where count ≤ 0 or for
+/// kinds 2 and 3." Document 02, (ix): "a half goes to the even hundredth."
 pub fn average_of(kind: u32, sum: i64, count: i32) -> Average {
     if kind != TOTALS || count <= 0 {
         return Average::None;
@@ -111,15 +113,16 @@ pub fn average_of(kind: u32, sum: i64, count: i32) -> Average {
     Average::Hundredths(nearest(100 * sum, i64::from(count)))
 }
 
-/// The whole number nearest `upper / lower` for `lower` above 0, halves away from zero.
+/// The whole number nearest `upper / lower` for `lower` above 0: of the two around it the nearer one, and halfway between them
+/// "the even" one.
 fn nearest(upper: i64, lower: i64) -> i64 {
-    let toward_zero = upper / lower;
-    let rest = (upper % lower).abs();
-    if 2 * rest < lower {
-        toward_zero
-    } else if upper < 0 {
-        toward_zero - 1
-    } else {
-        toward_zero + 1
+    let below = upper.div_euclid(lower);
+    let above = below + 1;
+    let over = upper - below * lower;
+    match over.cmp(&(above * lower - upper)) {
+        Ordering::Less => below,
+        Ordering::Greater => above,
+        Ordering::Equal if below.rem_euclid(2) == 0 => below,
+        Ordering::Equal => above,
     }
 }

@@ -1,4 +1,4 @@
-//! Averages of pairs, for any kind, sum and count.
+//! Averages of pairs, for any kind, sum and count; document 02, (ix): "a half goes to the even hundredth."
 
 use crate::comparer::Comparer;
 use crate::images::Pool;
@@ -29,6 +29,30 @@ pub fn averages(comparer: &mut Comparer, _: &Pool, _: usize) {
         let (sum, count) = near_a_half(&mut comparer.random);
         comparer.average_of(1, sum, count);
     }
+    for sum in -1_001..=1_001 {
+        around(comparer, sum, 200);
+    }
+    for _ in 0..20_000 {
+        let (sum, count) = a_half(&mut comparer.random);
+        around(comparer, sum, count);
+    }
+}
+
+/// The pair, and those beside it.
+fn around(comparer: &mut Comparer, sum: i64, count: i32) {
+    for (sum, count) in [(sum, count), (sum - 1, count), (sum + 1, count), (sum, count - 1), (sum, count + 1)] {
+        comparer.average_of(1, sum, count);
+    }
+}
+
+/// A pair whose average is an odd number of half hundredths: an odd sum over 200, 40 or 8, both multiplied by the same number.
+fn a_half(random: &mut Random) -> (i64, i32) {
+    let over = random.pick(&[200, 40, 8]);
+    let most_times = random.pick(&[10, 1_000, 10_000_000]);
+    let times = random.between(1, most_times);
+    let most = if random.one_in(2) { 1_000 } else { GREATEST / times };
+    let odd = 2 * random.between(-most / 2, most / 2 - 1) + 1;
+    (times * odd, (times * over) as i32)
 }
 
 /// A pair whose average lies near a half of a hundredth, or any pair.

@@ -56,11 +56,20 @@ pub fn marks(comparer: &mut Comparer, _: &Pool, _: usize) {
             greatest_within_a_window(comparer, &fresh_or_without(n, 2, 20, without));
         }
     }
-    comparer.expect(Call::AverageOf { kind: 1, sum: -1, count: 8 }, 0, 0, Answer::hundredths(-13));
+    averages_to_even(comparer);
     comparer.expect(Call::AverageOf { kind: 1, sum: 5, count: -1 }, 0, 0, Answer::default());
     for without in [false, true] {
         twelfth_booking(comparer, without);
         six_runs(comparer, without);
+    }
+}
+
+/// Document 02, (ix): "Sum −1 over count 8 is now −0.12, and −1 over 200 prints 0.00. Document 01's −13 becomes −12".
+fn averages_to_even(comparer: &mut Comparer) {
+    for (sum, count, hundredths) in
+        [(-1, 8, -12), (1, 8, 12), (3, 8, 38), (-3, 8, -38), (-1, 200, 0), (1, 200, 0), (3, 200, 2), (-3, 200, -2)]
+    {
+        comparer.expect(Call::AverageOf { kind: 1, sum, count }, 0, 0, Answer::hundredths(hundredths));
     }
 }
 

@@ -111,10 +111,10 @@ fn greatest_within_a_window() {
     assert!(image == before);
 }
 
-/// "Sum −1, count 8 averages −13 hundredths; count −1 none."
+/// "Sum −1, count 8 averages −13 hundredths; count −1 none." Document 02, (ix): "Document 01's −13 becomes −12".
 #[test]
 fn average_marks() {
-    assert_eq!(average_of(1, -1, 8), Average::Hundredths(-13));
+    assert_eq!(average_of(1, -1, 8), Average::Hundredths(-12));
     assert_eq!(average_of(1, 5, -1), Average::None);
     let mut image = fresh(2, 1, 0);
     assert_eq!(enter_in(&mut image, -1, 10, 20), 0);
@@ -122,7 +122,7 @@ fn average_marks() {
         assert_eq!(enter_in(&mut image, 0, 10, 20), 0);
     }
     assert_eq!(pair_at(&image, 10), (-1, 8));
-    assert_eq!(average(&image, 10), (0, Some(-13)));
+    assert_eq!(average(&image, 10), (0, Some(-12)));
     assert_eq!(withdraw_in(&mut image, 3, 30, 40), 0);
     assert_eq!(pair_at(&image, 30), (-3, -1));
     assert_eq!(average(&image, 30), (0, None));

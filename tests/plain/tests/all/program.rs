@@ -119,14 +119,29 @@ fn refused() {
     );
 }
 
-/// R26: "−1 over 200 prints -0.01, −1 over 201 prints 0.00".
+/// Document 02, (ix): "Sum −1 over count 8 is now −0.12, and −1 over 200 prints 0.00." "program listings follow."
 #[test]
 fn small_averages() {
-    let text = |zeros: usize| format!("+ -1 2 3\n{}", "+ 0 2 3\n".repeat(zeros));
-    prints(&text(199), "runs 3\n0 2 0 0 -\n2 3 -1 200 -0.01\n3 4294967295 0 0 -\n");
-    prints(&text(200), "runs 3\n0 2 0 0 -\n2 3 -1 201 0.00\n3 4294967295 0 0 -\n");
-    prints(&text(7), "runs 3\n0 2 0 0 -\n2 3 -1 8 -0.13\n3 4294967295 0 0 -\n");
-    prints("+ 0 2 3", "runs 3\n0 2 0 0 -\n2 3 0 1 0.00\n3 4294967295 0 0 -\n");
+    let one = |value: i64, zeros: usize, average: &str| {
+        let text = format!("+ {value} 2 3\n{}", "+ 0 2 3\n".repeat(zeros));
+        let count = zeros + 1;
+        prints(&text, &format!("runs 3\n0 2 0 0 -\n2 3 {value} {count} {average}\n3 4294967295 0 0 -\n"));
+    };
+    for (value, zeros, average) in [
+        (-1, 7, "-0.12"),
+        (1, 7, "0.12"),
+        (3, 7, "0.38"),
+        (-3, 7, "-0.38"),
+        (-1, 198, "-0.01"),
+        (-1, 199, "0.00"),
+        (-1, 200, "0.00"),
+        (1, 199, "0.00"),
+        (3, 199, "0.02"),
+        (-3, 199, "-0.02"),
+        (0, 0, "0.00"),
+    ] {
+        one(value, zeros, average);
+    }
 }
 
 /// Bookings until 64 pages lack: refused with 24, the runs are those of the accepted ones.

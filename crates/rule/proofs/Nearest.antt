@@ -1,0 +1,196 @@
+-- Rounding: `hundredths` is the one whole number that the words of document 02, (ix), name. Assumes nothing.
+use Prim.Native.Nat.{ℕ, zero, suc, _+_, _-_, _*_, _/_, _%_, _≤_, _<_}
+use mathlib.Core.Path.{_≡_, refl, sym, ap, _∙_}
+use mathlib.Core.Logic.{_≢_, _⊎_, inl, inr, ⊎-elim}
+use mathlib.Core.Bool.{Bool, true, false, cond, not, _&&_, _||_}
+use native.Mathlib.Nat.{div-add-mod', mod-lt, zero-mul, suc-mul, mul-le-mul-right, eq-or-lt-of-le}
+use native.Mathlib.Omega.{arith}
+use lib.Dec.{ltb, eqb}
+use lib.IntN.{ℤ, pos, negsuc, negℤ, natAbs, _+ℤ_, _-ℤ_, _*ℤ_, negℤ-negℤ, negℤ-+ℤ, *ℤ-comm}
+use borrow.Author.Tests.{ltb-true, ltb-false, eqb-true, eqb-false}
+use Rattle.rule.specs.Averages.{next-taken, nearest, distance, Nearest, The-nearest, hundredths}
+use Rattle.rule.proofs.Signed.{natAbs-neg}
+
+-- what a division by 2 leaves
+parity : (n : ℕ) → n < 2 → (n ≡ 0) ⊎ (n ≡ 1)
+parity zero h = inl refl
+parity (suc zero) h = inr refl
+parity (suc (suc n)) h = absurd (omega arith)
+
+-- ---- distances from a number that isn't negative
+
+natAbs-difference : (x y : ℕ) → natAbs (pos x -ℤ pos y) ≡ (x - y) + (y - x)
+natAbs-difference x zero = omega arith
+natAbs-difference x (suc y) = go (ltb x (suc y)) refl
+  where
+    go : (t : Bool) → ltb x (suc y) ≡ t → natAbs (cond t (negsuc (suc y - suc x)) (pos (x - suc y))) ≡ (x - suc y) + (suc y - x)
+    go true e = let h : x < suc y = ltb-true x (suc y) e in omega arith
+    go false e = let h : suc y ≤ x = ltb-false x (suc y) e in omega arith
+
+to-positive : (a d b : ℕ) → distance (pos a) d (pos b) ≡ (a - b * d) + (b * d - a)
+to-positive a d b = natAbs-difference a (b * d)
+
+to-negative : (a d b : ℕ) → distance (pos a) d (negsuc b) ≡ a + suc b * d
+to-negative a d b = rw (negℤ-negℤ (pos (suc b * d))) refl
+
+module _ (a d : ℕ) (some : 0 < d) where
+  abbrev q : ℕ
+  q = a / d
+
+  abbrev r : ℕ
+  r = a % d
+
+  parts : (a ≡ q * d + r) × (r < d)
+  parts = (sym (div-add-mod' a d), mod-lt a some)
+
+  at-whole : distance (pos a) d (pos q) ≡ r
+  at-whole = omega (arith, to-positive a d q, parts)
+
+  at-next : distance (pos a) d (pos (suc q)) ≡ d - r
+  at-next = omega (arith, to-positive a d (suc q), suc-mul q d, parts)
+
+  -- every other whole number is a whole step away, or more
+  place : (j : ℤ) → (j ≡ pos q) ⊎ ((j ≡ pos (suc q)) ⊎ (d ≤ distance (pos a) d j))
+  place (negsuc b) = inr (inr (omega (arith, to-negative a d b, suc-mul b d)))
+  place (pos b) = go (ltb b q) refl
+    where
+      behind : suc q < b → d ≤ distance (pos a) d (pos b)
+      behind h =
+          let m : suc (suc q) * d ≤ b * d = mul-le-mul-right d h in
+          omega (arith, to-positive a d b, suc-mul (suc q) d, suc-mul q d, parts)
+
+      go : (t : Bool) → ltb b q ≡ t → (pos b ≡ pos q) ⊎ ((pos b ≡ pos (suc q)) ⊎ (d ≤ distance (pos a) d (pos b)))
+      go true e =
+          let m : suc b * d ≤ q * d = mul-le-mul-right d (ltb-true b q e) in
+          inr (inr (omega (arith, to-positive a d b, suc-mul b d, parts)))
+      go false e =
+          ⊎-elim (λ f. inl (ap pos (sym f)))
+          (λ h. ⊎-elim (λ f. inr (inl (ap pos (sym f)))) (λ g. inr (inr (behind g))) (eq-or-lt-of-le h))
+          (eq-or-lt-of-le (ltb-false b q e))
+
+  -- ---- which of the two, where q stays and where the next is taken
+
+  abbrev Stays : Type 0
+  Stays = (2 * r ≤ d) × (2 * r ≡ d → q % 2 ≡ 0)
+
+  abbrev Passes : Type 0
+  Passes = (d ≤ 2 * r) × (2 * r ≡ d → q % 2 ≡ 1)
+
+  whole-nearest : Stays → The-nearest (pos a) d (pos q)
+  whole-nearest s = record { is = record { none-nearer = none-nearer; even = even }; only = only }
+    where
+      none-nearer : (j : ℤ) → distance (pos a) d (pos q) ≤ distance (pos a) d j
+      none-nearer j =
+          ⊎-elim (λ e. rw e (omega arith))
+          (⊎-elim (λ e. rw e (omega (arith, at-whole, at-next, parts, s .0))) (λ h. omega (arith, at-whole, parts)))
+          (place j)
+
+      even : (j : ℤ) → j ≢ pos q → distance (pos a) d j ≡ distance (pos a) d (pos q) → q % 2 ≡ 0
+      even j other as-near =
+          ⊎-elim (λ e. absurd (other e))
+          (⊎-elim (λ e. s .1 (omega (arith, at-whole, at-next, parts, ap (distance (pos a) d) e)))
+          (λ h. absurd (omega (arith, at-whole, parts))))
+          (place j)
+
+      only : (j : ℤ) → Nearest (pos a) d j → j ≡ pos q
+      only j near =
+          ⊎-elim (λ e. e)
+          (⊎-elim (λ e. absurd (not-next (rw e at near)))
+          (λ h. absurd (omega (arith, at-whole, parts, near .none-nearer (pos q)))))
+          (place j)
+        where
+          not-next : Nearest (pos a) d (pos (suc q)) → ⊥
+          not-next n =
+              let half : 2 * r ≡ d = omega (arith, at-whole, at-next, parts, s .0, n .none-nearer (pos q)) in
+              let e : suc q % 2 ≡ 0 = n .even (pos q) (λ f. omega (arith, ap natAbs f)) (omega (arith, at-whole, at-next)) in
+              omega (arith, s .1 half)
+
+  next-nearest : Passes → The-nearest (pos a) d (pos (suc q))
+  next-nearest p = record { is = record { none-nearer = none-nearer; even = even }; only = only }
+    where
+      none-nearer : (j : ℤ) → distance (pos a) d (pos (suc q)) ≤ distance (pos a) d j
+      none-nearer j =
+          ⊎-elim (λ e. rw e (omega (arith, at-whole, at-next, parts, p .0)))
+          (⊎-elim (λ e. rw e (omega arith)) (λ h. omega (arith, at-next, parts)))
+          (place j)
+
+      even : (j : ℤ) → j ≢ pos (suc q) → distance (pos a) d j ≡ distance (pos a) d (pos (suc q)) → suc q % 2 ≡ 0
+      even j other as-near =
+          ⊎-elim (λ e.
+          let half : 2 * r ≡ d = omega (arith, at-whole, at-next, parts, ap (distance (pos a) d) e) in
+          omega (arith, p .1 half))
+          (⊎-elim (λ e. absurd (other e)) (λ h. absurd (omega (arith, at-next, parts, p .0))))
+          (place j)
+
+      only : (j : ℤ) → Nearest (pos a) d j → j ≡ pos (suc q)
+      only j near =
+          ⊎-elim (λ e. absurd (not-whole (rw e at near)))
+          (⊎-elim (λ e. e) (λ h. absurd (omega (arith, at-next, parts, p .0, near .none-nearer (pos (suc q))))))
+          (place j)
+        where
+          not-whole : Nearest (pos a) d (pos q) → ⊥
+          not-whole n =
+              let half : 2 * r ≡ d = omega (arith, at-whole, at-next, parts, p .0, n .none-nearer (pos (suc q))) in
+              let e : q % 2 ≡ 0 = n .even (pos (suc q)) (λ f. omega (arith, ap natAbs f)) (omega (arith, at-whole, at-next)) in
+              omega (arith, p .1 half)
+
+  pub nearest-is : The-nearest (pos a) d (pos (nearest a d))
+  unfolding nearest next-taken
+  nearest-is = go (ltb d (2 * r)) (eqb (2 * r) d) (eqb (q % 2) 0) refl refl refl
+    where
+      go : (x y z : Bool) → ltb d (2 * r) ≡ x → eqb (2 * r) d ≡ y → eqb (q % 2) 0 ≡ z
+          → The-nearest (pos a) d (pos (cond (x || (y && not z)) (suc q) q))
+      go true y z e f g = let h : d < 2 * r = ltb-true d (2 * r) e in next-nearest (omega arith, λ i. absurd (omega arith))
+      go false true true e f g =
+          let h : 2 * r ≡ d = eqb-true (2 * r) d f in whole-nearest (omega arith, λ i. eqb-true (q % 2) 0 g)
+      go false true false e f g =
+          let h : 2 * r ≡ d = eqb-true (2 * r) d f in next-nearest (omega arith, λ i. odd (eqb-false (q % 2) 0 g))
+        where
+          odd : (q % 2 ≡ 0 → ⊥) → q % 2 ≡ 1
+          odd n = ⊎-elim (λ k. absurd (n k)) (λ k. k) (parity (q % 2) (mod-lt q (omega arith)))
+      go false false z e f g =
+          let h : 2 * r ≤ d = ltb-false d (2 * r) e in whole-nearest (h, λ i. absurd (eqb-false (2 * r) d f i))
+
+-- ---- below zero all is turned round
+
+neg-mul : (k : ℤ) (d : ℕ) → negℤ k *ℤ pos d ≡ negℤ (k *ℤ pos d)
+neg-mul (pos zero) d = rw (zero-mul d) refl
+neg-mul (pos (suc n)) d = refl
+neg-mul (negsuc n) d = sym (negℤ-negℤ (pos (suc n * d)))
+
+turned : (n : ℤ) (d : ℕ) (j : ℤ) → distance (negℤ n) d j ≡ distance n d (negℤ j)
+turned n d j =
+    ap natAbs (sym (negℤ-+ℤ n (j *ℤ pos d)))
+    ∙ natAbs-neg (n +ℤ j *ℤ pos d)
+    ∙ ap (λ z. natAbs (n +ℤ z)) (sym (ap negℤ (neg-mul j d) ∙ negℤ-negℤ (j *ℤ pos d)))
+
+nearest-turned : {n : ℤ} {d : ℕ} {k : ℤ} → Nearest n d k → Nearest (negℤ n) d (negℤ k)
+nearest-turned {n} {d} {k} near =
+    record {
+      none-nearer = λ j. rw (turned n d j, turned n d (negℤ k), negℤ-negℤ k) (near .none-nearer (negℤ j));
+      even = λ j other as-near.
+          rw (natAbs-neg k)
+          (near .even (negℤ j) (λ e. other (sym (negℤ-negℤ j) ∙ ap negℤ e)) (rw (turned n d j, turned n d (negℤ k), negℤ-negℤ k) at as-near));
+    }
+
+the-nearest-turned : {n : ℤ} {d : ℕ} {k : ℤ} → The-nearest n d k → The-nearest (negℤ n) d (negℤ k)
+the-nearest-turned {n} {d} {k} t =
+    record {
+      is = nearest-turned (t .is);
+      only = λ j near. sym (negℤ-negℤ j) ∙ ap negℤ (t .only (negℤ j) (rw (negℤ-negℤ n) at (nearest-turned near)));
+    }
+
+pub hundredths-nearest : (sum : ℤ) (count : ℕ) → 0 < count → The-nearest (pos 100 *ℤ sum) count (hundredths sum count)
+unfolding hundredths
+hundredths-nearest (pos n) count some = nearest-is (100 * n) count some
+hundredths-nearest (negsuc n) count some = the-nearest-turned (nearest-is (100 * suc n) count some)
+
+-- ---- the average of the opposite sum
+
+mul-neg : (m : ℕ) (k : ℤ) → pos m *ℤ negℤ k ≡ negℤ (pos m *ℤ k)
+mul-neg m k = *ℤ-comm (pos m) (negℤ k) ∙ neg-mul k m ∙ ap negℤ (*ℤ-comm k (pos m))
+
+pub hundredths-opposite : (sum : ℤ) (count : ℕ) → 0 < count → hundredths (negℤ sum) count ≡ negℤ (hundredths sum count)
+hundredths-opposite sum count some =
+    the-nearest-turned (hundredths-nearest sum count some) .only (hundredths (negℤ sum) count)
+    (rw (mul-neg 100 sum) at (hundredths-nearest (negℤ sum) count some .is))
