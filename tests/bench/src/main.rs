@@ -3,8 +3,11 @@
 //!
 //!     cargo run --release --offline --manifest-path tests/bench/Cargo.toml --target-dir target/cargo
 //!
-//! A name behind it, instant, audit, listing or change, measures these rows alone; search, tables of its own, for which
-//! LUWHENOKA_BEFORE names the folder of another commit's archive.
+//! A name behind it, instant, audit, listing or change, measures these rows alone; search or rounding, tables of their own, for
+//! which LUWHENOKA_BEFORE names the folder of another commit's archive.
+
+#[macro_use]
+mod copies;
 
 mod agree;
 mod booking;
@@ -12,6 +15,7 @@ mod even;
 mod measure;
 mod peer;
 mod reading;
+mod rounding;
 mod search;
 mod subjects;
 
@@ -23,15 +27,22 @@ const PARTS: [(&str, fn()); 4] = [
     ("change", booking::changes),
 ];
 
+/// Tables that stand apart, of this archive and one of before.
+const APART: [(&str, fn()); 2] = [("search", search::searches), ("rounding", rounding::roundings)];
+
 fn main() {
     let asked: Vec<String> = std::env::args().skip(1).collect();
-    if asked == ["search"] {
-        print_setup();
-        search::searches();
-        return;
+    if let [name] = &asked[..] {
+        if let Some((_, tables)) = APART.iter().find(|(apart, _)| apart == name) {
+            print_setup();
+            println!("before: {}; after: this archive; each at four places", env!("BEFORE_IS"));
+            println!();
+            tables();
+            return;
+        }
     }
     if let Some(unknown) = asked.iter().find(|name| PARTS.iter().all(|(part, _)| part != name)) {
-        eprintln!("{unknown}: not one of instant, audit, listing, change; search stands alone");
+        eprintln!("{unknown}: not one of instant, audit, listing, change; search and rounding stand alone");
         std::process::exit(2);
     }
     print_setup();

@@ -38,16 +38,6 @@ impl BeforeAnswer {
 type InstantOf<A> = unsafe extern "C" fn(*const u8, usize, u32) -> A;
 type KnownOf = unsafe extern "C" fn(*const u8, usize, u32, *const u8) -> InstantAnswer;
 
-/// The four copies of a function, declared with its arguments and its answer.
-macro_rules! copies {
-    ($name:ident: $type:ty, $arguments:tt -> $answer:ty, $($copy:ident)*) => {
-        extern "C" {
-            $(fn $copy $arguments -> $answer;)*
-        }
-        const $name: [$type; 4] = [$($copy),*];
-    };
-}
-
 copies!(BEFORE: InstantOf<BeforeAnswer>, (image: *const u8, image_length: usize, t: u32) -> BeforeAnswer,
     before_0_instant before_1_instant before_2_instant before_3_instant);
 copies!(AFTER: InstantOf<InstantAnswer>, (image: *const u8, image_length: usize, t: u32) -> InstantAnswer,
@@ -87,8 +77,6 @@ struct Subject {
 }
 
 pub fn searches() {
-    println!("before: {}; after: this archive; each at four places", env!("BEFORE_IS"));
-    println!();
     let subjects = subjects();
     before_and_after(&subjects);
     println!();
