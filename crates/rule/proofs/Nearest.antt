@@ -3,7 +3,7 @@ use Prim.Native.Nat.{ℕ, zero, suc, _+_, _-_, _*_, _/_, _%_, _≤_, _<_}
 use mathlib.Core.Path.{_≡_, refl, sym, ap, _∙_}
 use mathlib.Core.Logic.{_≢_, _⊎_, inl, inr, ⊎-elim}
 use mathlib.Core.Bool.{Bool, true, false, cond, not, _&&_, _||_}
-use native.Mathlib.Nat.{div-add-mod', mod-lt, zero-mul, suc-mul, mul-le-mul-right, eq-or-lt-of-le}
+use native.Mathlib.Nat.{le-refl, le-antisymm, div-add-mod', mod-lt, zero-mul, suc-mul, mul-le-mul-right, eq-or-lt-of-le}
 use native.Mathlib.Omega.{arith}
 use lib.Dec.{ltb, eqb}
 use lib.IntN.{ℤ, pos, negsuc, negℤ, natAbs, _+ℤ_, _-ℤ_, _*ℤ_, negℤ-negℤ, negℤ-+ℤ, *ℤ-comm}
@@ -16,6 +16,38 @@ parity : (n : ℕ) → n < 2 → (n ≡ 0) ⊎ (n ≡ 1)
 parity zero h = inl refl
 parity (suc zero) h = inr refl
 parity (suc (suc n)) h = absurd (omega arith)
+
+-- ---- of two candidates, where every other number is a whole step away or more: the nearer one, and of two that are as near the even one
+
+module _ {n : ℤ} {d : ℕ} (k other : ℤ) (places : (j : ℤ) → (j ≡ k) ⊎ ((j ≡ other) ⊎ (d ≤ distance n d j)))
+    (short : distance n d k < d) (nearer : distance n d k ≤ distance n d other)
+    (tie : distance n d other ≡ distance n d k → (natAbs k % 2 ≡ 0) × (natAbs other % 2 ≡ 1)) where
+  -- the other one would have to be as near, and even
+  not-other : Nearest n d other → ⊥
+  not-other near =
+      let as-near : distance n d other ≡ distance n d k = le-antisymm (near .none-nearer k) nearer in
+      let even = near .even k (λ e. omega (arith, ap natAbs e, tie as-near)) (sym as-near) in
+      omega (arith, tie as-near .1)
+
+  the-nearer : The-nearest n d k
+  the-nearer =
+      record {
+        is =
+            record {
+              none-nearer = λ j.
+                  ⊎-elim (λ e. rw e (le-refl (distance n d k)))
+                  (⊎-elim (λ e. rw e nearer) (λ far. omega (arith, far, short))) (places j);
+              even = λ j differs as-near.
+                  ⊎-elim (λ e. absurd (differs e))
+                  (⊎-elim (λ e. tie (rw e at as-near) .0) (λ far. absurd (omega (arith, far, short, as-near)))) (places j);
+            };
+        only = λ j near.
+            ⊎-elim (λ e. e)
+            (⊎-elim (λ e. absurd (not-other (rw e at near))) (λ far. absurd (omega (arith, far, short, near .none-nearer k)))) (places j);
+      }
+
+swapped {ℓ} : {A B C : Type ℓ} → A ⊎ (B ⊎ C) → B ⊎ (A ⊎ C)
+swapped = ⊎-elim (λ x. inr (inl x)) (⊎-elim inl (λ z. inr (inr z)))
 
 -- ---- distances from a number that isn't negative
 
@@ -70,69 +102,15 @@ module _ (a d : ℕ) (some : 0 < d) where
 
   -- ---- which of the two, where q stays and where the next is taken
 
-  abbrev Stays : Type 0
-  Stays = (2 * r ≤ d) × (2 * r ≡ d → q % 2 ≡ 0)
+  stays : 2 * r ≤ d → (2 * r ≡ d → q % 2 ≡ 0) → The-nearest (pos a) d (pos q)
+  stays low even =
+      the-nearer (pos q) (pos (suc q)) place (omega (arith, at-whole, parts)) (omega (arith, at-whole, at-next, parts))
+      (λ e. omega (arith, even (omega (arith, at-whole, at-next, parts, e))))
 
-  abbrev Passes : Type 0
-  Passes = (d ≤ 2 * r) × (2 * r ≡ d → q % 2 ≡ 1)
-
-  whole-nearest : Stays → The-nearest (pos a) d (pos q)
-  whole-nearest s = record { is = record { none-nearer = none-nearer; even = even }; only = only }
-    where
-      none-nearer : (j : ℤ) → distance (pos a) d (pos q) ≤ distance (pos a) d j
-      none-nearer j =
-          ⊎-elim (λ e. rw e (omega arith))
-          (⊎-elim (λ e. rw e (omega (arith, at-whole, at-next, parts, s .0))) (λ h. omega (arith, at-whole, parts)))
-          (place j)
-
-      even : (j : ℤ) → j ≢ pos q → distance (pos a) d j ≡ distance (pos a) d (pos q) → q % 2 ≡ 0
-      even j other as-near =
-          ⊎-elim (λ e. absurd (other e))
-          (⊎-elim (λ e. s .1 (omega (arith, at-whole, at-next, parts, ap (distance (pos a) d) e)))
-          (λ h. absurd (omega (arith, at-whole, parts))))
-          (place j)
-
-      only : (j : ℤ) → Nearest (pos a) d j → j ≡ pos q
-      only j near =
-          ⊎-elim (λ e. e)
-          (⊎-elim (λ e. absurd (not-next (rw e at near)))
-          (λ h. absurd (omega (arith, at-whole, parts, near .none-nearer (pos q)))))
-          (place j)
-        where
-          not-next : Nearest (pos a) d (pos (suc q)) → ⊥
-          not-next n =
-              let half : 2 * r ≡ d = omega (arith, at-whole, at-next, parts, s .0, n .none-nearer (pos q)) in
-              let e : suc q % 2 ≡ 0 = n .even (pos q) (λ f. omega (arith, ap natAbs f)) (omega (arith, at-whole, at-next)) in
-              omega (arith, s .1 half)
-
-  next-nearest : Passes → The-nearest (pos a) d (pos (suc q))
-  next-nearest p = record { is = record { none-nearer = none-nearer; even = even }; only = only }
-    where
-      none-nearer : (j : ℤ) → distance (pos a) d (pos (suc q)) ≤ distance (pos a) d j
-      none-nearer j =
-          ⊎-elim (λ e. rw e (omega (arith, at-whole, at-next, parts, p .0)))
-          (⊎-elim (λ e. rw e (omega arith)) (λ h. omega (arith, at-next, parts)))
-          (place j)
-
-      even : (j : ℤ) → j ≢ pos (suc q) → distance (pos a) d j ≡ distance (pos a) d (pos (suc q)) → suc q % 2 ≡ 0
-      even j other as-near =
-          ⊎-elim (λ e.
-          let half : 2 * r ≡ d = omega (arith, at-whole, at-next, parts, ap (distance (pos a) d) e) in
-          omega (arith, p .1 half))
-          (⊎-elim (λ e. absurd (other e)) (λ h. absurd (omega (arith, at-next, parts, p .0))))
-          (place j)
-
-      only : (j : ℤ) → Nearest (pos a) d j → j ≡ pos (suc q)
-      only j near =
-          ⊎-elim (λ e. absurd (not-whole (rw e at near)))
-          (⊎-elim (λ e. e) (λ h. absurd (omega (arith, at-next, parts, p .0, near .none-nearer (pos (suc q))))))
-          (place j)
-        where
-          not-whole : Nearest (pos a) d (pos q) → ⊥
-          not-whole n =
-              let half : 2 * r ≡ d = omega (arith, at-whole, at-next, parts, p .0, n .none-nearer (pos (suc q))) in
-              let e : q % 2 ≡ 0 = n .even (pos (suc q)) (λ f. omega (arith, ap natAbs f)) (omega (arith, at-whole, at-next)) in
-              omega (arith, p .1 half)
+  passes : d ≤ 2 * r → (2 * r ≡ d → q % 2 ≡ 1) → The-nearest (pos a) d (pos (suc q))
+  passes high odd =
+      the-nearer (pos (suc q)) (pos q) (λ j. swapped (place j)) (omega (arith, at-next, parts)) (omega (arith, at-whole, at-next, parts))
+      (λ e. omega (arith, odd (omega (arith, at-whole, at-next, parts, e))))
 
   pub nearest-is : The-nearest (pos a) d (pos (nearest a d))
   unfolding nearest next-taken
@@ -140,16 +118,16 @@ module _ (a d : ℕ) (some : 0 < d) where
     where
       go : (x y z : Bool) → ltb d (2 * r) ≡ x → eqb (2 * r) d ≡ y → eqb (q % 2) 0 ≡ z
           → The-nearest (pos a) d (pos (cond (x || (y && not z)) (suc q) q))
-      go true y z e f g = let h : d < 2 * r = ltb-true d (2 * r) e in next-nearest (omega arith, λ i. absurd (omega arith))
+      go true y z e f g = let h : d < 2 * r = ltb-true d (2 * r) e in passes (omega arith) (λ i. absurd (omega arith))
       go false true true e f g =
-          let h : 2 * r ≡ d = eqb-true (2 * r) d f in whole-nearest (omega arith, λ i. eqb-true (q % 2) 0 g)
+          let h : 2 * r ≡ d = eqb-true (2 * r) d f in stays (omega arith) (λ i. eqb-true (q % 2) 0 g)
       go false true false e f g =
-          let h : 2 * r ≡ d = eqb-true (2 * r) d f in next-nearest (omega arith, λ i. odd (eqb-false (q % 2) 0 g))
+          let h : 2 * r ≡ d = eqb-true (2 * r) d f in passes (omega arith) (λ i. odd (eqb-false (q % 2) 0 g))
         where
           odd : (q % 2 ≡ 0 → ⊥) → q % 2 ≡ 1
           odd n = ⊎-elim (λ k. absurd (n k)) (λ k. k) (parity (q % 2) (mod-lt q (omega arith)))
       go false false z e f g =
-          let h : 2 * r ≤ d = ltb-false d (2 * r) e in whole-nearest (h, λ i. absurd (eqb-false (2 * r) d f i))
+          let h : 2 * r ≤ d = ltb-false d (2 * r) e in stays h (λ i. absurd (eqb-false (2 * r) d f i))
 
 -- ---- below zero all is turned round
 
