@@ -49,7 +49,7 @@ fn main() -> Result<(), Box<dyn Error>> {
         println!("from {} sum {} count {} average {}", run.start, run.sum, run.count, in_words(average));
     }
 
-    // A half of a hundredth goes to the even one.
+    // Half a hundredth goes to the even hundredth.
     for (sum, count) in [(-1, 8), (-1, 200), (3, 200)] {
         println!("{sum} over {count} averages {}", in_words(average_of(Kind::Totals, sum, count)));
     }

@@ -40,7 +40,8 @@ module _ (p : Pair) (count : ℕ) (e : p .count ≡ pos count) (some : 0 < count
     where
       go : (x : Bool) → ltb most-sum (natAbs (p .sum)) ≡ x → natAbs (p .sum) ≤ most-sum
       go true h =
-          absurd (d (ap (λ (a : AverageAnswer). a .answer) (q ∙ ap (average-answer 0) (sym (average-beyond 1 p counts (ltb-true most-sum _ h))))))
+          let beyond = average-beyond 1 p counts (ltb-true most-sum _ h) in
+          absurd (d (ap (λ (a : AverageAnswer). a .answer) (q ∙ ap (average-answer 0) (sym beyond))))
       go false h = ltb-false most-sum _ h
 
   rounded : natAbs (p .sum) ≤ most-sum → Rounded (p .sum) count r

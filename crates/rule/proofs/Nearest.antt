@@ -1,7 +1,7 @@
 -- Rounding: `hundredths` is the one whole number that the words of document 02, (ix), name. Assumes nothing.
 use Prim.Native.Nat.{ℕ, zero, suc, _+_, _-_, _*_, _/_, _%_, _≤_, _<_}
 use mathlib.Core.Path.{_≡_, refl, sym, ap, _∙_}
-use mathlib.Core.Logic.{_≢_, _⊎_, inl, inr, ⊎-elim}
+use mathlib.Core.Logic.{_⊎_, inl, inr, ⊎-elim}
 use mathlib.Core.Bool.{Bool, true, false, cond, not, _&&_, _||_}
 use native.Mathlib.Nat.{le-refl, le-antisymm, div-add-mod', mod-lt, zero-mul, suc-mul, mul-le-mul-right, eq-or-lt-of-le}
 use native.Mathlib.Omega.{arith}
@@ -75,8 +75,8 @@ module _ (a d : ℕ) (some : 0 < d) where
   parts : (a ≡ q * d + r) × (r < d)
   parts = (sym (div-add-mod' a d), mod-lt a some)
 
-  at-whole : distance (pos a) d (pos q) ≡ r
-  at-whole = omega (arith, to-positive a d q, parts)
+  at-quotient : distance (pos a) d (pos q) ≡ r
+  at-quotient = omega (arith, to-positive a d q, parts)
 
   at-next : distance (pos a) d (pos (suc q)) ≡ d - r
   at-next = omega (arith, to-positive a d (suc q), suc-mul q d, parts)
@@ -104,13 +104,13 @@ module _ (a d : ℕ) (some : 0 < d) where
 
   stays : 2 * r ≤ d → (2 * r ≡ d → q % 2 ≡ 0) → The-nearest (pos a) d (pos q)
   stays low even =
-      the-nearer (pos q) (pos (suc q)) place (omega (arith, at-whole, parts)) (omega (arith, at-whole, at-next, parts))
-      (λ e. omega (arith, even (omega (arith, at-whole, at-next, parts, e))))
+      the-nearer (pos q) (pos (suc q)) place (omega (arith, at-quotient, parts)) (omega (arith, at-quotient, at-next, parts))
+      (λ e. omega (arith, even (omega (arith, at-quotient, at-next, parts, e))))
 
   passes : d ≤ 2 * r → (2 * r ≡ d → q % 2 ≡ 1) → The-nearest (pos a) d (pos (suc q))
   passes high odd =
-      the-nearer (pos (suc q)) (pos q) (λ j. swapped (place j)) (omega (arith, at-next, parts)) (omega (arith, at-whole, at-next, parts))
-      (λ e. omega (arith, odd (omega (arith, at-whole, at-next, parts, e))))
+      the-nearer (pos (suc q)) (pos q) (λ j. swapped (place j)) (omega (arith, at-next, parts)) (omega (arith, at-quotient, at-next, parts))
+      (λ e. omega (arith, odd (omega (arith, at-quotient, at-next, parts, e))))
 
   pub nearest-is : The-nearest (pos a) d (pos (nearest a d))
   unfolding nearest next-taken
@@ -148,7 +148,8 @@ nearest-turned {n} {d} {k} near =
       none-nearer = λ j. rw (turned n d j, turned n d (negℤ k), negℤ-negℤ k) (near .none-nearer (negℤ j));
       even = λ j other as-near.
           rw (natAbs-neg k)
-          (near .even (negℤ j) (λ e. other (sym (negℤ-negℤ j) ∙ ap negℤ e)) (rw (turned n d j, turned n d (negℤ k), negℤ-negℤ k) at as-near));
+          (near .even (negℤ j) (λ e. other (sym (negℤ-negℤ j) ∙ ap negℤ e))
+          (rw (turned n d j, turned n d (negℤ k), negℤ-negℤ k) at as-near));
     }
 
 the-nearest-turned : {n : ℤ} {d : ℕ} {k : ℤ} → The-nearest n d k → The-nearest (negℤ n) d (negℤ k)

@@ -48,15 +48,15 @@ even-bits (negsuc n) = go (suc n % 2) (mod-lt (suc n) (omega arith))
     go (suc (suc m)) h = absurd (omega arith)
 
 -- where the code stands before it has chosen, for a count of d
-abbrev whole : ℤ → ℕ → ℤ
-whole sum d = quotZ (pos 100 *ℤ sum) (pos d)
+abbrev quotient : ℤ → ℕ → ℤ
+quotient sum d = quotZ (pos 100 *ℤ sum) (pos d)
 
 abbrev rest : ℤ → ℕ → ℤ
 rest sum d = remZ (pos 100 *ℤ sum) (pos d)
 
 chosen : (sum : ℤ) (d : ℕ)
     → hundredths sum d ≡
-    cond (next-taken (natAbs (whole sum d)) (natAbs (rest sum d)) d) (whole sum d +ℤ signed-as sum (pos 1)) (whole sum d)
+    cond (next-taken (natAbs (quotient sum d)) (natAbs (rest sum d)) d) (quotient sum d +ℤ signed-as sum (pos 1)) (quotient sum d)
 unfolding hundredths nearest signed-as
 chosen (pos n) d = go (next-taken (100 * n / d) (100 * n % d) d)
   where
@@ -93,7 +93,7 @@ pub steps : (sum count : ℤ) → Averageable sum count → Steps sum count
 steps sum count ok =
     let d = positive count (ok .some) in
     let scale = natAbs-mul (pos 100) sum in
-    let whole = natAbs-quot (pos 100 *ℤ sum) count in
+    let quotient = natAbs-quot (pos 100 *ℤ sum) count in
     let less = div-le-self (natAbs (pos 100 *ℤ sum)) (natAbs count) in
     let rest = natAbs-rem (pos 100 *ℤ sum) count in
     let small = mod-lt (natAbs (pos 100 *ℤ sum)) (d .1) in

@@ -10,7 +10,7 @@ use Rattle.rule.specs.declared.Pair.{Pair}
 use Rattle.rule.specs.declared.Average.{Average}
 use Rattle.rule.specs.declared.Average.the-variants.{Hundredths, Nothing, Beyond}
 
--- Division by d gave q and left r. Whether q + 1 is taken for q: it is nearer, or it is as near and q is odd.
+-- Division by d gave q and left r. Whether q + 1 is taken instead of q: it is nearer, or it is as near and q is odd.
 unfoldable pub next-taken : ℕ → ℕ → ℕ → Bool
 next-taken q r d = ltb d (2 * r) || (eqb (2 * r) d && not (eqb (q % 2) 0))
 
@@ -18,16 +18,16 @@ next-taken q r d = ltb d (2 * r) || (eqb (2 * r) d && not (eqb (q % 2) 0))
 unfoldable pub nearest : ℕ → ℕ → ℕ
 nearest n d = cond (next-taken (n / d) (n % d) d) (suc (n / d)) (n / d)
 
--- how far n / d lies from a whole number k, in parts of which d make one
+-- d times the distance of n / d from the whole number k
 abbrev pub distance : ℤ → ℕ → ℤ → ℕ
 distance n d k = natAbs (n -ℤ k *ℤ pos d)
 
--- What that says, by the words alone and below zero too: no whole number is nearer, and where another one is as near, k is even.
+-- What `nearest` says, by the words alone and below zero too: no whole number is nearer than k, and where another is as near, k is even.
 pub record Nearest (n : ℤ) (d : ℕ) (k : ℤ) : Type 0 where
   pub none-nearer : (j : ℤ) → distance n d k ≤ distance n d j
   pub even : (j : ℤ) → j ≢ k → distance n d j ≡ distance n d k → natAbs k % 2 ≡ 0
 
--- k is, and no other number
+-- k is `Nearest`, and no other number is
 pub record The-nearest (n : ℤ) (d : ℕ) (k : ℤ) : Type 0 where
   pub is : Nearest n d k
   pub only : (j : ℤ) → Nearest n d j → j ≡ k
@@ -37,10 +37,10 @@ unfoldable pub hundredths : ℤ → ℕ → ℤ
 hundredths (pos n) count = pos (nearest (100 * n) count)
 hundredths (negsuc n) count = negℤ (pos (nearest (100 * suc n) count))
 
--- count with the sign of sum
+-- a step on the side of the sum's sign
 unfoldable pub signed-as : ℤ → ℤ → ℤ
-signed-as (pos n) count = count
-signed-as (negsuc n) count = negℤ count
+signed-as (pos n) step = step
+signed-as (negsuc n) step = negℤ step
 
 -- the greatest absolute sum that a fit page can show: 1,000,000 × 1,000,000,000
 abbrev pub most-sum : ℕ

@@ -17,14 +17,14 @@ fn away(sum: i64) -> i64
     if sum < 0 { -1 } else { 1 }
 }
 
-// Whether the next number away from zero is nearer than `whole`, or as near while `whole` is odd. Of an odd number below zero a division
-// by 2 leaves -1.
-fn next_taken(whole: i64, rest: u64, count: u64) -> bool
+// Whether the next number away from zero is nearer than the quotient, or as near while the quotient is odd. Divided by 2, an odd number
+// below zero leaves -1.
+fn next_taken(quotient: i64, rest: u64, count: u64) -> bool
     requires { ⌜ rest < 2 ^ 63 ⌝ }
-    ensures { λ r. ⌜ r ≡ next-taken (natAbs whole) rest count ⌝ }
+    ensures { λ r. ⌜ r ≡ next-taken (natAbs quotient) rest count ⌝ }
 {
     let twice = 2 * rest;
-    (twice > count) | ((twice == count) & (whole % 2 != 0))
+    (twice > count) | ((twice == count) & (quotient % 2 != 0))
 }
 
 // The whole number nearest 100 × sum / count, of two that are equally near the even one. Division cuts towards zero, and what it leaves has
@@ -34,12 +34,12 @@ fn rounded(sum: i64, count: i64) -> i64
     ensures { λ r. ⌜ r ≡ hundredths sum (natAbs count) ⌝ }
 {
     let scaled = 100 * sum;
-    let whole = scaled / count;
+    let quotient = scaled / count;
     let rest = magnitude(scaled % count);
-    if next_taken(whole, rest, count as u64) {
-        whole + away(sum)
+    if next_taken(quotient, rest, count as u64) {
+        quotient + away(sum)
     } else {
-        whole
+        quotient
     }
 }
 

@@ -63,11 +63,11 @@ static int64_t hundredths(int64_t sum, int32_t count) {
     int64_t quotient = 100 * sum / count;
     int64_t rest = 100 * sum % count;
     /* at an even quotient a half isn't enough to go on */
-    int64_t half = (int64_t)count + (quotient % 2 == 0);
-    if (2 * rest >= half) {
+    int64_t enough = (int64_t)count + (quotient % 2 == 0);
+    if (2 * rest >= enough) {
         return quotient + 1;
     }
-    return 2 * rest <= -half ? quotient - 1 : quotient;
+    return 2 * rest <= -enough ? quotient - 1 : quotient;
 }
 
 struct peer_average_answer peer_average_of(uint32_t kind, int64_t sum, int32_t count) {

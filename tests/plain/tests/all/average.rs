@@ -9,8 +9,8 @@ fn distance(whole: i64, sum: i64, count: i32) -> i128 {
     (i128::from(whole) * i128::from(count) - 100 * i128::from(sum)).abs()
 }
 
-/// Nearest by its own words: no whole number is nearer, and one that another is as near as is even. Of these only the two beside it need
-/// be tried, since others are farther.
+/// Nearest by its own words: no whole number is nearer, and where another is as near, the answer is even. Only the two beside it need be
+/// tried, since all others are farther.
 fn is_nearest(answer: i64, sum: i64, count: i32) -> bool {
     let here = distance(answer, sum, count);
     let beside = [answer - 1, answer + 1].map(|other| distance(other, sum, count));
@@ -62,17 +62,15 @@ fn nearest_with_halves_to_even() {
         checked.check(random.between(-most, most), random.between(1, 1_000_000_000) as i32);
         checked.check(random.between(-1_000_000, 1_000_000), random.between(1, 1_000) as i32);
     }
-    // An odd number over 200, 40 or 8, or an equal part of both, is an odd number of halves; beside it nothing is.
+    // An odd sum over 200, 40 or 8 is an odd number of halves, and so it is with both multiplied; beside it nothing is.
     for _ in 0..20_000 {
         let over = random.pick(&[200, 40, 8]);
-        let most_parts = random.pick(&[10, 1_000, 10_000_000]);
-        let part = random.between(1, most_parts);
-        let most = most / part;
-        let odd = 2 * random.between(-most / 2, most / 2 - 1) + 1;
-        let (sum, count) = (part * odd, (part * over) as i32);
-        checked.check(sum, count);
-        for (sum, count) in [(sum - 1, count), (sum + 1, count), (sum, count - 1), (sum, count + 1)] {
-            checked.check(sum.clamp(-1_000_000_000_000_000, 1_000_000_000_000_000), count);
+        let most_times = random.pick(&[10, 1_000, 10_000_000]);
+        let times = random.between(1, most_times);
+        let odd = 2 * random.between(-most / times / 2, most / times / 2 - 1) + 1;
+        let (sum, count) = (times * odd, (times * over) as i32);
+        for (sum, count) in [(sum, count), (sum - 1, count), (sum + 1, count), (sum, count - 1), (sum, count + 1)] {
+            checked.check(sum, count);
         }
     }
     assert!(checked.halves.iter().flatten().all(|halves| *halves > 1_000));

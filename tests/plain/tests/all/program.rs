@@ -1,4 +1,4 @@
-//! The program: document 01's example and the readings R22 to R26.
+//! The program: document 01's example, the readings R22 to R26, and document 02, (ix).
 
 use crate::support::*;
 use plain::run;

@@ -20,14 +20,14 @@ mul-twice c = omega (arith, c .pre)
 
 rem-result : tie.Need-rem-result
 rem-result c =
-    let whole = c .args .whole in
-    rw (toZ-ofZ (c .fits .whole))
-    (omega arith, sfits-natAbs w64 (omega (arith, natAbs-quot whole (pos 2), natAbs-le whole (c .fits .whole .sfits))))
+    let quotient = c .args .quotient in
+    rw (toZ-ofZ (c .fits .quotient))
+    (omega arith, sfits-natAbs w64 (omega (arith, natAbs-quot quotient (pos 2), natAbs-le quotient (c .fits .quotient .sfits))))
 
 -- what the bits tell of the quotient, whatever its sign
 even-told : (c : tie.Start)
-    → eqb (ofZ w64 (remZ (toZ w64 (ofZ w64 (c .args .whole))) (pos 2))) 0 ≡ eqb (natAbs (c .args .whole) % 2) 0
-even-told c = rw (toZ-ofZ (c .fits .whole)) (even-bits (c .args .whole))
+    → eqb (ofZ w64 (remZ (toZ w64 (ofZ w64 (c .args .quotient))) (pos 2))) 0 ≡ eqb (natAbs (c .args .quotient) % 2) 0
+even-told c = rw (toZ-ofZ (c .fits .quotient)) (even-bits (c .args .quotient))
 
 returns : tie.Need-returns
 unfolding next-taken

@@ -18,20 +18,20 @@ on-the-way c = steps _ _ (c .pre)
 mul-scaled : tie.Need-mul-scaled
 mul-scaled c = rw (toZ-ofZ (c .fits .sum)) (on-the-way c .scaled)
 
-div-whole : tie.Need-div-whole
-div-whole c =
+div-quotient : tie.Need-div-quotient
+div-quotient c =
     let st = on-the-way c in
     rw (toZ-ofZ (c .fits .sum), toZ-ofZ (c .fits .count), toZ-ofZ (st .scaled)) (st .nonzero, st .divided)
 
 -- the remainder asks what the quotient does
 rem-magnitude : tie.Need-rem-magnitude
-rem-magnitude = div-whole
+rem-magnitude = div-quotient
 
 -- the quotient, as the machine reads it back, in the parameters' own terms
-whole-is : (c : tie.Start)
+quotient-is : (c : tie.Start)
     → toZ w64 (ofZ w64 (quotZ (toZ w64 (ofZ w64 (pos 100 *ℤ toZ w64 (ofZ w64 (c .args .sum))))) (toZ w64 (ofZ w64 (c .args .count)))))
     ≡ quotZ (pos 100 *ℤ c .args .sum) (c .args .count)
-whole-is c =
+quotient-is c =
     let st = on-the-way c in
     rw (toZ-ofZ (c .fits .sum), toZ-ofZ (c .fits .count), toZ-ofZ (st .scaled)) (toZ-ofZ (st .divided))
 
@@ -59,7 +59,7 @@ taken-is : (c : tie.After-next-taken)
     (natAbs (c .before .before .args .count))
 taken-is c =
     let s = c .before .before in
-    rw (whole-is s, rest-is (c .before), toZ-ofZ (s .fits .count)) at (c .next-taken .ensures)
+    rw (quotient-is s, rest-is (c .before), toZ-ofZ (s .fits .count)) at (c .next-taken .ensures)
 
 -- and `away`
 step-is : (c : tie.After-away) → c .away .result ≡ signed-as (c .before .before .before .before .args .sum) (pos 1)
@@ -69,7 +69,7 @@ add-result : tie.Need-add-result
 add-result c =
     let s = c .before .before .before .before in
     let st = on-the-way s in
-    rw (whole-is s, step-is c, toZ-ofZ (st .step)) (st .stepped)
+    rw (quotient-is s, step-is c, toZ-ofZ (st .step)) (st .stepped)
 
 returns : tie.Need-returns
 returns c =
@@ -77,7 +77,7 @@ returns c =
     let s = n .before .before in
     let st = on-the-way s in
     let told = sym (taken-is n) ∙ c .before .if1 .taken in
-    rw (whole-is s, step-is c, toZ-ofZ (st .step), toZ-ofZ (st .stepped)) (sym (rw told at (st .done)))
+    rw (quotient-is s, step-is c, toZ-ofZ (st .step), toZ-ofZ (st .stepped)) (sym (rw told at (st .done)))
 
 returns-2 : tie.Need-returns-2
 returns-2 c =
@@ -85,10 +85,10 @@ returns-2 c =
     let s = n .before .before in
     let st = on-the-way s in
     let told = sym (taken-is n) ∙ c .if1 .left in
-    rw (whole-is s) (sym (rw told at (st .done)))
+    rw (quotient-is s) (sym (rw told at (st .done)))
 
 pub rounded-spec : {M : Type 1} → statement M
 rounded-spec =
     tie.close
-    (tie.spec mul-scaled div-whole rem-magnitude (λ c κs. search needs) cast-next-taken next-taken-requires (λ c κs. search needs) add-result
-    returns returns-2)
+    (tie.spec mul-scaled div-quotient rem-magnitude (λ c κs. search needs) cast-next-taken next-taken-requires
+    (λ c κs. search needs) add-result returns returns-2)
