@@ -34,10 +34,10 @@ fn put(image: &mut [u8], page: usize, at: usize, bytes: &[u8]) {
     image[512 * page + at..][..bytes.len()].copy_from_slice(bytes);
 }
 
-/// A leaf with these starts, sums and counts, after three changes.
+/// A leaf with these starts, sums and counts, after eight changes.
 fn leaf_of(entries: &[(u32, i64, i32)]) -> Vec<u8> {
     let mut image = fresh(2, Kind::Totals);
-    put(&mut image, 0, 32, &3u32.to_le_bytes());
+    put(&mut image, 0, 32, &8u32.to_le_bytes());
     put(&mut image, 1, 4, &(entries.len() as u32).to_le_bytes());
     for (i, (start, sum, count)) in entries.iter().enumerate() {
         put(&mut image, 1, 32 + 4 * i, &start.to_le_bytes());
@@ -281,9 +281,11 @@ fn polling_by_ends() {
 
 #[test]
 fn averages() {
-    let image = leaf_of(&[(0, 0, 0), (10, -1, 3), (40, 5, -1), (50, 0, 0)]);
+    let image = leaf_of(&[(0, 0, 0), (10, -1, 3), (20, -1, 8), (30, 3, 8), (40, 5, -1), (50, 0, 0)]);
     assert_eq!(average(&image, 0), Ok(Average::None));
     assert_eq!(average(&image, 10), Ok(Average::Hundredths(-33)));
+    assert_eq!(average(&image, 20), Ok(Average::Hundredths(-12)));
+    assert_eq!(average(&image, 30), Ok(Average::Hundredths(38)));
     assert_eq!(average(&image, 40), Ok(Average::None));
     assert_eq!(average(&image, END), Err(Refusal::InstantEnd));
     for (sum, count, hundredths) in

@@ -1,21 +1,15 @@
 -- Rounding: `hundredths` is the one whole number that the words of document 02, (ix), name. Assumes nothing.
-use Prim.Native.Nat.{ℕ, zero, suc, _+_, _-_, _*_, _/_, _%_, _≤_, _<_}
+use Prim.Native.Nat.{ℕ, suc, _+_, _-_, _*_, _/_, _%_, _≤_, _<_}
 use mathlib.Core.Path.{_≡_, refl, sym, ap, _∙_}
 use mathlib.Core.Logic.{_⊎_, inl, inr, ⊎-elim}
 use mathlib.Core.Bool.{Bool, true, false, cond, not, _&&_, _||_}
-use native.Mathlib.Nat.{le-refl, le-antisymm, div-add-mod', mod-lt, zero-mul, suc-mul, mul-le-mul-right, eq-or-lt-of-le}
+use native.Mathlib.Nat.{le-refl, le-antisymm, div-add-mod', mod-lt, suc-mul, mul-le-mul-right, eq-or-lt-of-le}
 use native.Mathlib.Omega.{arith}
 use lib.Dec.{ltb, eqb}
-use lib.IntN.{ℤ, pos, negsuc, negℤ, natAbs, _+ℤ_, _-ℤ_, _*ℤ_, negℤ-negℤ, negℤ-+ℤ, *ℤ-comm}
+use lib.IntN.{ℤ, pos, negsuc, negℤ, natAbs, _+ℤ_, _*ℤ_, negℤ-negℤ, negℤ-+ℤ, *ℤ-comm}
 use borrow.Author.Tests.{ltb-true, ltb-false, eqb-true, eqb-false}
 use Rattle.rule.specs.Averages.{next-taken, nearest, distance, Nearest, The-nearest, hundredths}
-use Rattle.rule.proofs.Signed.{natAbs-neg}
-
--- what a division by 2 leaves
-parity : (n : ℕ) → n < 2 → (n ≡ 0) ⊎ (n ≡ 1)
-parity zero h = inl refl
-parity (suc zero) h = inr refl
-parity (suc (suc n)) h = absurd (omega arith)
+use Rattle.rule.proofs.Signed.{natAbs-neg, natAbs-minus, neg-mul, parity}
 
 -- ---- of two candidates, where every other number is a whole step away or more: the nearer one, and of two that are as near the even one
 
@@ -51,16 +45,8 @@ swapped = ⊎-elim (λ x. inr (inl x)) (⊎-elim inl (λ z. inr (inr z)))
 
 -- ---- distances from a number that isn't negative
 
-natAbs-difference : (x y : ℕ) → natAbs (pos x -ℤ pos y) ≡ (x - y) + (y - x)
-natAbs-difference x zero = omega arith
-natAbs-difference x (suc y) = go (ltb x (suc y)) refl
-  where
-    go : (t : Bool) → ltb x (suc y) ≡ t → natAbs (cond t (negsuc (suc y - suc x)) (pos (x - suc y))) ≡ (x - suc y) + (suc y - x)
-    go true e = let h : x < suc y = ltb-true x (suc y) e in omega arith
-    go false e = let h : suc y ≤ x = ltb-false x (suc y) e in omega arith
-
 to-positive : (a d b : ℕ) → distance (pos a) d (pos b) ≡ (a - b * d) + (b * d - a)
-to-positive a d b = natAbs-difference a (b * d)
+to-positive a d b = natAbs-minus a (b * d)
 
 to-negative : (a d b : ℕ) → distance (pos a) d (negsuc b) ≡ a + suc b * d
 to-negative a d b = rw (negℤ-negℤ (pos (suc b * d))) refl
@@ -125,16 +111,11 @@ module _ (a d : ℕ) (some : 0 < d) where
           let h : 2 * r ≡ d = eqb-true (2 * r) d f in passes (omega arith) (λ i. odd (eqb-false (q % 2) 0 g))
         where
           odd : (q % 2 ≡ 0 → ⊥) → q % 2 ≡ 1
-          odd n = ⊎-elim (λ k. absurd (n k)) (λ k. k) (parity (q % 2) (mod-lt q (omega arith)))
+          odd n = ⊎-elim (λ k. absurd (n k)) (λ k. k) (parity q)
       go false false z e f g =
           let h : 2 * r ≤ d = ltb-false d (2 * r) e in stays h (λ i. absurd (eqb-false (2 * r) d f i))
 
 -- ---- below zero all is turned round
-
-neg-mul : (k : ℤ) (d : ℕ) → negℤ k *ℤ pos d ≡ negℤ (k *ℤ pos d)
-neg-mul (pos zero) d = rw (zero-mul d) refl
-neg-mul (pos (suc n)) d = refl
-neg-mul (negsuc n) d = sym (negℤ-negℤ (pos (suc n * d)))
 
 turned : (n : ℤ) (d : ℕ) (j : ℤ) → distance (negℤ n) d j ≡ distance n d (negℤ j)
 turned n d j =

@@ -1,6 +1,7 @@
 -- Rounding: the code's way leads to `hundredths`, and each way out of it to the average. Assumes nothing.
-use Prim.Native.Nat.{ℕ, zero, suc, _+_, _*_, _/_, _%_, _≤_, _<_, _^_}
+use Prim.Native.Nat.{ℕ, suc, _*_, _/_, _%_, _≤_, _<_, _^_}
 use mathlib.Core.Path.{_≡_, refl, ap, _∙_}
+use mathlib.Core.Logic.{⊎-elim}
 use native.Mathlib.Nat.{div-le-self, mod-lt, not-suc-le-zero}
 use native.Mathlib.Omega.{arith}
 use mathlib.Core.Bool.{Bool, true, false, cond, not, _||_, true≢false}
@@ -14,7 +15,7 @@ use Rattle.rule.specs.declared.Pair.{Pair}
 use Rattle.rule.specs.declared.Average.the-variants.{Hundredths, Nothing, Beyond}
 use Rattle.rule.specs.Averages.{next-taken, nearest, hundredths, signed-as, most-sum, average}
 use Rattle.rule.specs.Bounds.{Averageable}
-use Rattle.rule.proofs.Signed.{sfits-natAbs, natAbs-neg, natAbs-add, natAbs-mul, natAbs-quot, natAbs-rem, quot-neg, rem-neg}
+use Rattle.rule.proofs.Signed.{sfits-natAbs, natAbs-neg, natAbs-add, natAbs-mul, natAbs-quot, natAbs-rem, quot-neg, rem-neg, parity}
 
 -- ---- the code's way: division cuts towards zero, and a step on the sum's side may follow
 
@@ -37,68 +38,62 @@ positive : (z : ℤ) → leZ z (pos 0) ≡ false → (z ≡ pos (natAbs z)) × (
 positive (pos n) e = (refl, leb-false n 0 e)
 positive (negsuc n) e = absurd (true≢false e)
 
--- what a division by two leaves is 0 or not, whatever the sign
+-- what a division by 2 leaves is 0 or not, whatever the sign
 pub even-bits : (z : ℤ) → eqb (ofZ w64 (remZ z (pos 2))) 0 ≡ eqb (natAbs z % 2) 0
 even-bits (pos n) = refl
-even-bits (negsuc n) = go (suc n % 2) (mod-lt (suc n) (omega arith))
-  where
-    go : (m : ℕ) → m < 2 → eqb (ofZ w64 (negℤ (pos m))) 0 ≡ eqb m 0
-    go zero h = refl
-    go (suc zero) h = refl
-    go (suc (suc m)) h = absurd (omega arith)
+even-bits (negsuc n) = ⊎-elim (λ e. rw e refl) (λ e. rw e refl) (parity (suc n))
 
--- where the code stands before it has chosen, for a count of d
-abbrev quotient : ℤ → ℕ → ℤ
-quotient sum d = quotZ (pos 100 *ℤ sum) (pos d)
+-- where the code stands before it has chosen
+abbrev quotient : ℤ → ℤ → ℤ
+quotient sum count = quotZ (pos 100 *ℤ sum) count
 
-abbrev rest : ℤ → ℕ → ℤ
-rest sum d = remZ (pos 100 *ℤ sum) (pos d)
+abbrev rest : ℤ → ℤ → ℤ
+rest sum count = remZ (pos 100 *ℤ sum) count
 
-chosen : (sum : ℤ) (d : ℕ)
-    → hundredths sum d ≡
-    cond (next-taken (natAbs (quotient sum d)) (natAbs (rest sum d)) d) (quotient sum d +ℤ signed-as sum (pos 1)) (quotient sum d)
+-- and what it may choose
+abbrev choice : ℤ → ℤ → ℤ
+choice sum count =
+    cond (next-taken (natAbs (quotient sum count)) (natAbs (rest sum count)) (natAbs count)) (quotient sum count +ℤ signed-as sum (pos 1))
+    (quotient sum count)
+
+-- q or the next, above zero and below it
+step-up : (t : Bool) (q : ℕ) → pos (cond t (suc q) q) ≡ cond t (pos q +ℤ pos 1) (pos q)
+step-up true q = ap pos (omega arith)
+step-up false q = refl
+
+step-down : (t : Bool) (q : ℕ) → negℤ (pos (cond t (suc q) q)) ≡ cond t (negℤ (pos q) +ℤ negsuc 0) (negℤ (pos q))
+step-down true q = ap negℤ (step-up true q) ∙ negℤ-+ℤ (pos q) (pos 1)
+step-down false q = refl
+
+chosen : (sum : ℤ) (d : ℕ) → hundredths sum d ≡ choice sum (pos d)
 unfolding hundredths nearest signed-as
-chosen (pos n) d = go (next-taken (100 * n / d) (100 * n % d) d)
-  where
-    go : (t : Bool) → pos (cond t (suc (100 * n / d)) (100 * n / d)) ≡ cond t (pos (100 * n / d) +ℤ pos 1) (pos (100 * n / d))
-    go true = ap pos (omega arith)
-    go false = refl
+chosen (pos n) d = step-up (next-taken (100 * n / d) (100 * n % d) d) (100 * n / d)
 chosen (negsuc n) d =
     rw (quot-neg (100 * suc n) d, rem-neg (100 * suc n) d, natAbs-neg (pos (100 * suc n / d)), natAbs-neg (pos (100 * suc n % d)))
-    (go (next-taken (100 * suc n / d) (100 * suc n % d) d))
-  where
-    go : (t : Bool)
-        → negℤ (pos (cond t (suc (100 * suc n / d)) (100 * suc n / d))) ≡
-        cond t (negℤ (pos (100 * suc n / d)) +ℤ negsuc 0) (negℤ (pos (100 * suc n / d)))
-    go true =
-        let next : suc (100 * suc n / d) ≡ 100 * suc n / d + 1 = omega arith in
-        ap (λ m. negℤ (pos m)) next ∙ negℤ-+ℤ (pos (100 * suc n / d)) (pos 1)
-    go false = refl
+    (step-down (next-taken (100 * suc n / d) (100 * suc n % d) d) (100 * suc n / d))
 
--- Each number on the way fits, and what the choice takes is the average.
+-- Each number on the way fits, and the choice is the average.
 pub record Steps (sum count : ℤ) : Type 0 where
   pub scaled : SFits w64 (pos 100 *ℤ sum)
   pub nonzero : 0 < ofZ w64 count
-  pub divided : SFits w64 (quotZ (pos 100 *ℤ sum) count)
-  pub left : SFits w64 (remZ (pos 100 *ℤ sum) count)
-  pub short : natAbs (remZ (pos 100 *ℤ sum) count) < 2 ^ 63
+  pub divided : SFits w64 (quotient sum count)
+  pub left : SFits w64 (rest sum count)
+  pub short : natAbs (rest sum count) < 2 ^ 63
   pub positive : T (nonNeg count)
   pub step : SFits w64 (signed-as sum (pos 1))
-  pub stepped : SFits w64 (quotZ (pos 100 *ℤ sum) count +ℤ signed-as sum (pos 1))
-  pub done : hundredths sum (natAbs count) ≡
-      cond (next-taken (natAbs (quotZ (pos 100 *ℤ sum) count)) (natAbs (remZ (pos 100 *ℤ sum) count)) (natAbs count))
-      (quotZ (pos 100 *ℤ sum) count +ℤ signed-as sum (pos 1)) (quotZ (pos 100 *ℤ sum) count)
+  pub stepped : SFits w64 (quotient sum count +ℤ signed-as sum (pos 1))
+  pub done : hundredths sum (natAbs count) ≡ choice sum count
 
 pub steps : (sum count : ℤ) → Averageable sum count → Steps sum count
 steps sum count ok =
     let d = positive count (ok .some) in
     let scale = natAbs-mul (pos 100) sum in
-    let quotient = natAbs-quot (pos 100 *ℤ sum) count in
+    let size = natAbs-quot (pos 100 *ℤ sum) count in
     let less = div-le-self (natAbs (pos 100 *ℤ sum)) (natAbs count) in
-    let rest = natAbs-rem (pos 100 *ℤ sum) count in
+    let over = natAbs-rem (pos 100 *ℤ sum) count in
     let small = mod-lt (natAbs (pos 100 *ℤ sum)) (d .1) in
     let one = natAbs-signed-as sum (pos 1) in
-    let next = natAbs-add (quotZ (pos 100 *ℤ sum) count) (signed-as sum (pos 1)) in
+    let next = natAbs-add (quotient sum count) (signed-as sum (pos 1)) in
     record {
       scaled = sfits-natAbs w64 (omega arith);
       nonzero = rw (d .0) (omega arith);

@@ -1,14 +1,14 @@
 -- Signed numbers: the absolute value of each operation's result, and from it that the result fits its width. Assumes nothing.
 use Prim.Native.Nat.{ℕ, zero, suc, _+_, _-_, _*_, _/_, _%_, _≤_, _<_, _^_}
 use mathlib.Core.Path.{_≡_, refl, sym, ap, _∙_, subst⁻¹}
-use mathlib.Core.Logic.{_↔_}
+use mathlib.Core.Logic.{_↔_, _⊎_, inl, inr}
 use mathlib.Core.Bool.{Bool, true, false, cond, false≢true, true≢false}
-use native.Mathlib.Nat.{le-refl, zero-div, zero-mod, lt-of-le-of-lt, not-suc-le-zero}
+use native.Mathlib.Nat.{le-refl, zero-mul, zero-div, zero-mod, mod-lt, lt-of-le-of-lt, not-suc-le-zero}
 use native.Mathlib.Omega.{arith}
 use lib.Dec.{T, ltb, eqb}
-use lib.IntN.{ℤ, pos, negsuc, negℤ, _+ℤ_, _-ℤ_, _*ℤ_, natAbs, subℕ, pos-ne-negsuc, +ℤ-one, +ℤ-idl}
+use lib.IntN.{ℤ, pos, negsuc, negℤ, _+ℤ_, _-ℤ_, _*ℤ_, natAbs, subℕ, pos-ne-negsuc, +ℤ-one, +ℤ-idl, negℤ-negℤ}
 use lib.Signed.{mag, quotZ, remZ, ltZ, nonNeg}
-use borrow.Author.Tests.{eqb-true, eq-eqb, ltb-true}
+use borrow.Author.Tests.{eqb-true, eq-eqb, ltb-true, ltb-false}
 use mir.Syntax.{Width}
 use mir.Val.{SFits, hbits, ofZ, toZ}
 use mir.ValLaws.{toZ-ofZ}
@@ -32,16 +32,20 @@ natAbs-neg (pos zero) = refl
 natAbs-neg (pos (suc n)) = refl
 natAbs-neg (negsuc n) = refl
 
-natAbs-sub : (a b : ℕ) → natAbs (subℕ a b) ≤ a + b
+natAbs-sub : (a b : ℕ) → natAbs (subℕ a b) ≡ (a - b) + (b - a)
 natAbs-sub a b = go (ltb a b) refl
   where
-    go : (t : Bool) → ltb a b ≡ t → natAbs (cond t (negsuc (b - suc a)) (pos (a - b))) ≤ a + b
+    go : (t : Bool) → ltb a b ≡ t → natAbs (cond t (negsuc (b - suc a)) (pos (a - b))) ≡ (a - b) + (b - a)
     go true e = let h : a < b = ltb-true a b e in omega arith
-    go false e = omega arith
+    go false e = let h : b ≤ a = ltb-false a b e in omega arith
+
+pub natAbs-minus : (a b : ℕ) → natAbs (pos a -ℤ pos b) ≡ (a - b) + (b - a)
+natAbs-minus a zero = omega arith
+natAbs-minus a (suc b) = natAbs-sub a (suc b)
 
 pub natAbs-add : (a b : ℤ) → natAbs (a +ℤ b) ≤ natAbs a + natAbs b
 natAbs-add (pos a) (pos b) = le-refl (a + b)
-natAbs-add (pos a) (negsuc b) = natAbs-sub a (suc b)
+natAbs-add (pos a) (negsuc b) = omega (arith, natAbs-sub a (suc b))
 natAbs-add (negsuc a) (pos b) = omega (arith, natAbs-sub b (suc a))
 natAbs-add (negsuc a) (negsuc b) = omega arith
 
@@ -61,6 +65,11 @@ pub natAbs-rem : (a b : ℤ) → natAbs (remZ a b) ≡ natAbs a % natAbs b
 natAbs-rem (pos a) b = refl
 natAbs-rem (negsuc a) b = natAbs-neg (pos (suc a % natAbs b))
 
+pub neg-mul : (k : ℤ) (d : ℕ) → negℤ k *ℤ pos d ≡ negℤ (k *ℤ pos d)
+neg-mul (pos zero) d = rw (zero-mul d) refl
+neg-mul (pos (suc n)) d = refl
+neg-mul (negsuc n) d = sym (negℤ-negℤ (pos (suc n * d)))
+
 -- division cuts towards zero: the sign of what is divided passes to the quotient and to what is left
 pub quot-neg : (a b : ℕ) → quotZ (negℤ (pos a)) (pos b) ≡ negℤ (pos (a / b))
 quot-neg zero b = rw (zero-div b)
@@ -69,6 +78,15 @@ quot-neg (suc a) b = refl
 pub rem-neg : (a b : ℕ) → remZ (negℤ (pos a)) (pos b) ≡ negℤ (pos (a % b))
 rem-neg zero b = rw (zero-mod b)
 rem-neg (suc a) b = refl
+
+-- what a division by 2 leaves
+pub parity : (n : ℕ) → (n % 2 ≡ 0) ⊎ (n % 2 ≡ 1)
+parity n = go (n % 2) (mod-lt n (omega arith))
+  where
+    go : (m : ℕ) → m < 2 → (m ≡ 0) ⊎ (m ≡ 1)
+    go zero h = inl refl
+    go (suc zero) h = inr refl
+    go (suc (suc m)) h = absurd (omega arith)
 
 -- ---- the absolute value by the code's way: one more, the opposite, and one more again
 

@@ -70,6 +70,13 @@ fn averages_to_even(comparer: &mut Comparer) {
         [(-1, 8, -12), (1, 8, 12), (3, 8, 38), (-3, 8, -38), (-1, 200, 0), (1, 200, 0), (3, 200, 2), (-3, 200, -2)]
     {
         comparer.expect(Call::AverageOf { kind: 1, sum, count }, 0, 0, Answer::hundredths(hundredths));
+        // The same of bookings: one of this sum, the others of 0.
+        comparer.lend(&fresh(2, 1, 0));
+        comparer.expect_booked(0, sum, 10, 20);
+        for _ in 1..count {
+            comparer.expect_booked(0, 0, 10, 20);
+        }
+        comparer.expect_average(10, Some(hundredths));
     }
 }
 

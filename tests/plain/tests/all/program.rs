@@ -122,11 +122,6 @@ fn refused() {
 /// Document 02, (ix): "Sum −1 over count 8 is now −0.12, and −1 over 200 prints 0.00." "program listings follow."
 #[test]
 fn small_averages() {
-    let one = |value: i64, zeros: usize, average: &str| {
-        let text = format!("+ {value} 2 3\n{}", "+ 0 2 3\n".repeat(zeros));
-        let count = zeros + 1;
-        prints(&text, &format!("runs 3\n0 2 0 0 -\n2 3 {value} {count} {average}\n3 4294967295 0 0 -\n"));
-    };
     for (value, zeros, average) in [
         (-1, 7, "-0.12"),
         (1, 7, "0.12"),
@@ -140,7 +135,9 @@ fn small_averages() {
         (-3, 199, "-0.02"),
         (0, 0, "0.00"),
     ] {
-        one(value, zeros, average);
+        let text = format!("+ {value} 2 3\n{}", "+ 0 2 3\n".repeat(zeros));
+        let count = zeros + 1;
+        prints(&text, &format!("runs 3\n0 2 0 0 -\n2 3 {value} {count} {average}\n3 4294967295 0 0 -\n"));
     }
 }
 
