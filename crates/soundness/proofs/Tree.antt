@@ -64,7 +64,7 @@ pub tree-top : (half : ℕ) (h : Head) (img : List ℕ) (l : ℕ) (at : Page-con
 tree-top half h img l at q t = page-fit-is half h at (page-at half img q) .0 (top-fit half h img l at q t)
 
 module _ (half : ℕ) (img : List ℕ) (l q : ℕ) (m : entry-count (page-at half img q) ≤ capacity half) where
-  tree-more : tree-pages half img (suc l) q
+  pub tree-more : tree-pages half img (suc l) q
       ≡ q ∷ concat-map (λ e. tree-pages half img l (e .child))
       (listed (entry-count (page-at half img q)) (λ i. entry-at half (page-at half img q) i))
   unfolding tree-pages entries-of

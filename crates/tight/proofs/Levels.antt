@@ -1,0 +1,135 @@
+-- The entries of a level in its pages, and the levels one above another. Assumes nothing.
+use Prim.Native.Nat.{ℕ, zero, suc, _+_, _-_, _*_, _≤_, _<_, min}
+use mathlib.Core.Path.{_≡_, refl, sym, ap, _∙_}
+use mathlib.Core.Bool.{Bool, true, false, cond}
+use mathlib.Core.List.{List, [], _∷_, _++_, map}
+use native.Mathlib.Omega.{arith}
+use native.Mathlib.Decide.{decLe}
+use lib.ListN.{length, length-map, length-append, length-take, length-drop, getD, take, drop}
+use lib.Seq.{take-add, take-all, getD-take, getD-drop}
+use borrow.Author.Tests.{le-leb, lt-leb}
+use lib.Dec.{leb}
+use Rattle.lists.specs.Lists.{sum, total}
+use Rattle.lists.proofs.Listed.{length-listed}
+use Rattle.lists.proofs.Edits.{map-take, map-drop}
+use Rattle.page.specs.declared.Entry.{Entry}
+use Rattle.page.specs.Layout.{capacity}
+use Rattle.image.specs.Images.{Cell}
+use Rattle.tight.specs.Tight.{pages-for, page-entries, entries-before, in-page, level-cells, entries-above, level-sizes, cells}
+use Rattle.tight.proofs.Pages.{pages-some, before-more, before-all, before-most, page-some}
+
+-- ---- the pages of a level
+
+-- how many pages, and how many entries in the i-th and before it
+module _ (half m : ℕ) where
+  abbrev pages : ℕ
+  pages = pages-for half m
+
+  abbrev size : ℕ → ℕ
+  size i = page-entries m pages i
+
+  abbrev before : ℕ → ℕ
+  before i = entries-before m pages i
+
+module _ {A : Type 0} (half : ℕ) (es : List A) where
+  -- the first pages, and one more
+  pub in-page-more : (i : ℕ)
+      → take (before half (length es) (suc i)) es ≡ take (before half (length es) i) es ++ in-page half es i
+  unfolding in-page
+  in-page-more i =
+      let m : ℕ = length es in
+      let p : ℕ = pages-for half (length es) in
+      ap (λ n. take n es) (before-more m p i) ∙ take-add (entries-before m p i) (page-entries m p i) es
+
+  -- all pages
+  pub in-page-all : 1 ≤ half → 1 ≤ length es → take (before half (length es) (pages half (length es))) es ≡ es
+  in-page-all some one =
+      let m : ℕ = length es in
+      take-all (before half m (pages half m)) es (omega (arith, before-all m (pages half m) (pages-some half m some one)))
+
+  module _ (i : ℕ) (some : 1 ≤ half) (lt : i < pages-for half (length es)) where
+    pub length-in-page : length (in-page half es i) ≡ size half (length es) i
+    unfolding in-page
+    length-in-page =
+        let m : ℕ = length es in
+        let p : ℕ = pages-for half (length es) in
+        omega (
+          arith,
+          length-take (page-entries m p i) (drop (entries-before m p i) es),
+          length-drop (entries-before m p i) es,
+          before-more m p i,
+          before-most m p (omega arith) (suc i) lt,
+        )
+
+    -- the j-th of its entries
+    pub at-in-page : (j : ℕ) (d : A) → j < size half (length es) i
+        → getD (in-page half es i) j d ≡ getD es (before half (length es) i + j) d
+    unfolding in-page
+    at-in-page j d small =
+        let m : ℕ = length es in
+        getD-take (size half m i) (drop (before half m i) es) j d small ∙ getD-drop (before half m i) es j d
+
+  -- a level that is one page
+  pub in-page-one : 1 ≤ half → 1 ≤ length es → pages-for half (length es) ≤ 1 → in-page half es 0 ≡ es
+  unfolding entries-before total
+  in-page-one some one few =
+      let p : ℕ = pages-for half (length es) in
+      let e : p ≡ 1 = omega (arith, pages-some half (length es) some one) in
+      sym (in-page-more 0) ∙ ap (λ n. take (entries-before (length es) p n) es) (sym e) ∙ in-page-all some one
+
+-- of each entry, what f makes of it
+pub map-in-page : {A B : Type 0} (f : A → B) (half : ℕ) (es : List A) (i : ℕ) → map f (in-page half es i) ≡ in-page half (map f es) i
+unfolding in-page
+map-in-page f half es i =
+    let m : ℕ = length es in
+    map-take f (size half m i) (drop (before half m i) es)
+    ∙ ap (take (size half m i)) (map-drop f (before half m i) es)
+    ∙ ap (λ n. take (size half n i) (drop (before half n i) (map f es))) (sym (length-map es f))
+
+pub length-above : (half first : ℕ) (es : List Entry) → length (entries-above half first es) ≡ pages-for half (length es)
+unfolding entries-above
+length-above half first es = length-listed _ _
+
+-- ---- the levels above
+
+module _ (half most m : ℕ) where
+  pub sizes-one : pages-for half m ≤ 1 → level-sizes half (suc most) m ≡ pages-for half m ∷ []
+  unfolding level-sizes
+  sizes-one few = rw (le-leb (pages-for half m) 1 few)
+
+  pub sizes-more : 2 ≤ pages-for half m → level-sizes half (suc most) m ≡ pages-for half m ∷ level-sizes half most (pages-for half m)
+  unfolding level-sizes
+  sizes-more many = rw (lt-leb (pages-for half m) 1 many)
+
+module _ (half most level first : ℕ) (es : List Entry) where
+  pub cells-one : pages-for half (length es) ≤ 1 → cells half (suc most) level first es ≡ level-cells half level es ++ []
+  unfolding cells
+  cells-one few = rw (le-leb (pages-for half (length es)) 1 few)
+
+  pub cells-more : 2 ≤ pages-for half (length es)
+      → cells half (suc most) level first es
+      ≡ level-cells half level es ++ cells half most (suc level) (first + pages-for half (length es)) (entries-above half first es)
+  unfolding cells
+  cells-more many = rw (lt-leb (pages-for half (length es)) 1 many)
+
+-- as many pages as the sizes add to
+pub length-cells : (half most level first : ℕ) (es : List Entry)
+    → length (cells half most level first es) ≡ sum (λ p. p) (level-sizes half most (length es))
+unfolding cells level-sizes sum
+length-cells half zero level first es = refl
+length-cells half (suc most) level first es =
+    let p : ℕ = pages-for half (length es) in
+    let here : length (level-cells half level es) ≡ p = length-pages in
+    let rest : length (cells half most (suc level) (first + p) (entries-above half first es)) ≡ sum (λ q. q) (level-sizes half most p) =
+    length-cells half most (suc level) (first + p) (entries-above half first es)
+    ∙ ap (λ n. sum (λ q. q) (level-sizes half most n)) (length-above half first es) in
+    length-append (level-cells half level es) (cond (leb p 1) [] (cells half most (suc level) (first + p) (entries-above half first es)))
+    ∙ go (leb p 1) (cells half most (suc level) (first + p) (entries-above half first es)) (level-sizes half most p) here rest
+  where
+    length-pages : length (level-cells half level es) ≡ pages-for half (length es)
+    length-pages = unfold level-cells in length-listed _ _
+
+    go : (b : Bool) (xs : List Cell) (ns : List ℕ) {k p : ℕ} → k ≡ p → length xs ≡ sum (λ q. q) ns
+        → k + length (cond b [] xs) ≡ p + sum (λ q. q) (cond b [] ns)
+    go true xs ns e f = omega arith
+    go false xs ns e f = omega arith

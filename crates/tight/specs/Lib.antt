@@ -1,0 +1,4 @@
+pub mod Tight
+pub mod Counts
+pub mod Layout
+pub mod Cases
