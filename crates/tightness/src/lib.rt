@@ -1,0 +1,1 @@
+// That a tight image is what a sound image is: theory alone.
