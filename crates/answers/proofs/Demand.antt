@@ -25,10 +25,11 @@ use Rattle.calls.specs.Calls.{head, head-ok, instant, instant-status, average-a
 use Rattle.calls.specs.Index.{index-instant, index-average, index-listing}
 use Rattle.calls.specs.Demands.{Demand-1}
 use Rattle.calls.proofs.Judged.{by-judge}
-use Rattle.calls.proofs.Steps.{index-book-keeps, index-format-keeps}
+use Rattle.calls.proofs.Steps.{index-book-keeps, index-format-keeps, index-rebuild-keeps}
 use Rattle.fit.proofs.Laws.Heads.{fit-ranges}
+use Rattle.fit.proofs.Laws.Pages.{Paired}
 use Rattle.answers.proofs.Rows.{kept}
-use Rattle.answers.proofs.Scratch.{booking-leaves, audit-leaves}
+use Rattle.answers.proofs.Scratch.{booking-leaves, audit-leaves, rebuild-leaves}
 use Rattle.answers.proofs.Look.{half-some, look-top}
 use Rattle.lookup.proofs.Laws.Looks.{look-paired}
 use Rattle.answers.proofs.Calls.{Answered, answered, instant-pair, instant-pages, look-up-pages}
@@ -65,17 +66,23 @@ average-within kind p f = go (eqb kind 1) (leZ (p .count) (pos 0)) (ltb most-sum
     go true false true d f e = omega (arith, ltb-true most-sum (natAbs (p .sum)) d, f refl)
     go true false false d f e = let no : _≡_ {A = ℕ} 0 1 = cc in omega arith
 
--- kind 1: what an instant answers is at most what a fit page can show
-pub look-up-sum : (half t : ℕ) (img : List ℕ) → Answered half t img → eqb (head half img .kind) 1 ≡ true
-    → natAbs (look-up half img t .pair .sum) ≤ most-sum
-unfolding look-up head head-ok root-context
-look-up-sum half t img f one =
+-- what an instant answers is what a fit page can show
+pub look-up-paired : (half t : ℕ) (img : List ℕ) → Answered half t img
+    → Paired (head half img) (root-context (head half img)) (look-up half img t .pair)
+unfolding look-up head
+look-up-paired half t img f =
     let h : Head = head half img in
-    let k = fit-ranges half (pages-in half img) (page-at half img 0) (f .head-fits) in
     let top = look-top half h img t (h .height - 1) (root-context h) (h .root) (f .look-fits) in
     let some = half-some half h (page-at half img (h .root)) top in
-    omega
-    (arith, look-paired half h img t some (h .height - 1) (root-context h) (h .root) (f .look-fits) .total one .sums, k .changes-most)
+    look-paired half h img t some (h .height - 1) (root-context h) (h .root) (f .look-fits)
+
+-- kind 1: it is at most what a fit page can show
+pub look-up-sum : (half t : ℕ) (img : List ℕ) → Answered half t img → eqb (head half img .kind) 1 ≡ true
+    → natAbs (look-up half img t .pair .sum) ≤ most-sum
+unfolding head head-ok root-context
+look-up-sum half t img f one =
+    let k = fit-ranges half (pages-in half img) (page-at half img 0) (f .head-fits) in
+    omega (arith, look-up-paired half t img f .total one .sums, k .changes-most)
 
 never-beyond : (half t : ℕ) (img : List ℕ) → average-at half t img .average ≢ Beyond
 unfolding average-at
@@ -107,7 +114,9 @@ demand-1 =
       of-listing = λ a b img out.
           by-judge _ (λ half. listing half a b img out) img (λ (r : Listed). r .status ≢ 0 → (r .output ≡ out) × (r .runs ≡ 0))
           (λ g n. (kept _ _ out n, kept _ _ 0 n)) (λ r n. (refl, refl));
+      of-rebuild = index-rebuild-keeps;
       of-scratch = λ side v s e img scratch. (booking-leaves side v s e img scratch, audit-leaves img scratch);
+      of-rebuild-scratch = rebuild-leaves;
       of-pages = λ t img.
           by-judge _ (λ half. instant half t img) img
           (λ (r : Instant). (r .status ≡ 0 → r .pages ≡ head (half-of img) img .height) × (r .status ≢ 0 → r .status ≢ 21 → r .pages ≡ 0))

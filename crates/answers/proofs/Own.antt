@@ -17,8 +17,8 @@ use Rattle.image.proofs.Capacity.{Half, own-half, fit-half}
 use Rattle.soundness.proofs.Sound.{sound-whole, sound-facts}
 use Rattle.calls.specs.Refusals.{borrowed}
 use Rattle.calls.specs.Changes.{Side}
-use Rattle.calls.specs.Calls.{book, instant, average-at, listing, audit}
-use Rattle.calls.specs.Index.{names-capacity, judge, judged, index-book, index-instant, index-average, index-listing, index-audit}
+use Rattle.calls.specs.Calls.{book, instant, average-at, listing, audit, rebuild}
+use Rattle.calls.specs.Index.{names-capacity, judge, judged, index-book, index-instant, index-average, index-listing, index-audit, index-rebuild}
 use Rattle.calls.proofs.Judged.{judged-own, goes-on, judge-passes}
 
 -- half is the image's own, and the rows ahead of every call pass
@@ -63,3 +63,7 @@ module _ {half : ℕ} {img : List ℕ} (o : Own half img) where
   pub own-audit : (scratch : List ℕ) → index-audit img scratch ≡ audit borrowed half img scratch
   unfolding index-audit
   own-audit scratch = own _ (λ half. audit borrowed half img scratch)
+
+  pub own-rebuild : (target scratch : List ℕ) → index-rebuild img target scratch ≡ rebuild borrowed half img target scratch
+  unfolding index-rebuild
+  own-rebuild target scratch = own _ (λ half. rebuild borrowed half img target scratch)

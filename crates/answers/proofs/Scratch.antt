@@ -15,8 +15,8 @@ use Rattle.image.specs.Sound.{sound}
 use Rattle.steps.specs.Change.{lacks-pages}
 use Rattle.calls.specs.Refusals.{first, borrowed, scratch-ok, cleared, scratch-after}
 use Rattle.calls.specs.Changes.{Side, withdraws}
-use Rattle.calls.specs.Calls.{Booked, Audited, head, book-input-rows, book-status, book, audit-input-rows, audit}
-use Rattle.calls.specs.Index.{names-capacity, judge, judged, index-book, index-audit}
+use Rattle.calls.specs.Calls.{Booked, Audited, Rebuilt, head, book-input-rows, book-status, book, audit-input-rows, audit, rebuild}
+use Rattle.calls.specs.Index.{names-capacity, judge, judged, index-book, index-audit, index-rebuild}
 use Rattle.calls.specs.Tables.{Case, Returned, Exactly, _when_, Whole-pages, Fewer-bits, judge-cases, book-cases, audit-cases}
 use Rattle.calls.specs.Scratch.{Bytes-cleared, Untouched, Scratch-left}
 use Rattle.calls.proofs.Judged.{by-judge, goes-on}
@@ -138,3 +138,15 @@ audit-leaves img scratch =
     (unfold index-audit in
     goes img _ (λ half. audit borrowed half img scratch) (λ (a : Audited). a .status) (λ (a : Audited). a .scratch) scratch refl refl
     (audit-goes (half-of img) img scratch))
+
+-- a rebuild clears what an audit of its source clears
+pub rebuild-leaves : (source target scratch : List ℕ) → index-rebuild source target scratch .scratch ≡ index-audit source scratch .scratch
+unfolding index-rebuild index-audit judged rebuild audit
+rebuild-leaves source target scratch = go (eqb (judge source) 0)
+  where
+    go : (b : Bool)
+        → cond b (rebuild borrowed (half-of source) source target scratch)
+        (record { status = judge source; target = target; scratch = scratch }) .scratch
+        ≡ cond b (audit borrowed (half-of source) source scratch) (record { status = judge source; scratch = scratch }) .scratch
+    go true = refl
+    go false = refl

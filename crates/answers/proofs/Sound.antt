@@ -40,7 +40,7 @@ module _ (half : ℕ) (img : List ℕ) (fits : sound half img ≡ true) where
       walk-fit half h img a b (h .height - 1) (root-context h) (h .root) (sound-facts half img fits .fit .tree)
 
   -- no instant and no listing is turned back by the image
-  sound-answered : (t : ℕ) → t < END → Answered half t img
+  pub sound-answered : (t : ℕ) → t < END → Answered half t img
   sound-answered t l =
       record { length-fits = sound-whole half img fits; before-end = l; head-fits = sound-head; look-fits = sound-look t }
 

@@ -1,10 +1,11 @@
 -- Runs that tile a span, and what they come to when joined: the runs of the span's instants. Assumes nothing.
 use Prim.Native.Nat.{ℕ, zero, suc, _+_, _-_, _≤_, _<_}
-use mathlib.Core.Path.{_≡_, refl, sym, ap, _∙_, subst}
+use mathlib.Core.Path.{_≡_, refl, sym, ap, _∙_, subst, subst⁻¹}
 use mathlib.Core.Bool.{Bool, true, false, cond}
 use mathlib.Core.List.{List, [], _∷_, _++_, map}
 use native.Mathlib.Omega.{arith}
 use native.Mathlib.Decide.{decLt}
+use Rattle.lists.specs.Lists.{All, all-none, all-more}
 use Rattle.rule.specs.declared.Pair.{Pair}
 use Rattle.rule.specs.Pairs.{same-pair}
 use Rattle.rule.proofs.Laws.{same-pair-is}
@@ -141,3 +142,61 @@ module _ {Q : ℕ → Pair → Type 0} (f : ℕ → Pair) (is : (t : ℕ) (p : P
       ∙ rest
       ∙ sym (runs-skip f (v - a) a (b - suc a) (b - m) v (omega arith) (omega arith) (λ i x y. steady q i x (omega arith))) in
       λ j. record { start = s j; pair = first j } ∷ tail j
+
+-- ---- and back: the runs of a span's instants tile it
+
+module _ (f : ℕ → Pair) where
+  -- a run that has lasted from a to t, and those behind it
+  tiles-after : (a t k : ℕ) (p : Pair) → a ≤ t → ((u : ℕ) → a ≤ u → u ≤ t → f u ≡ p)
+      → Tiles (λ u q. f u ≡ q) a (suc (t + k)) (record { start = a; pair = p } ∷ runs-after f t k)
+  unfolding runs-after
+  tiles-after a t zero p le lasts =
+      let e : suc (t + 0) ≡ suc t = omega arith in
+      subst⁻¹ (λ b. Tiles (λ u q. f u ≡ q) a b (record { start = a; pair = p } ∷ [])) e
+      (tiles-one refl (omega arith) (λ u l g. lasts u l (omega arith)))
+  tiles-after a t (suc k) p le lasts =
+      go (same-pair (f t) (f (suc t))) refl (λ same. tiles-after a (suc t) k p (omega arith) (longer same))
+      (tiles-after (suc t) (suc t) k (f (suc t)) (omega arith)
+      (λ u l g.
+      let e : u ≡ suc t = omega arith in
+      ap f e))
+    where
+      longer : f (suc t) ≡ p → (u : ℕ) → a ≤ u → u ≤ suc t → f u ≡ p
+      longer same u l g = at (decLt t u)
+        where
+          at : Dec (t < u) → f u ≡ p
+          at (yes h) =
+              let e : u ≡ suc t = omega arith in
+              ap f e ∙ same
+          at (no h) = lasts u l (omega arith)
+
+      go : (c : Bool) → same-pair (f t) (f (suc t)) ≡ c
+          → (f (suc t) ≡ p → Tiles (λ u q. f u ≡ q) a (suc (suc t + k)) (record { start = a; pair = p } ∷ runs-after f (suc t) k))
+          → Tiles (λ u q. f u ≡ q) (suc t) (suc (suc t + k)) (record { start = suc t; pair = f (suc t) } ∷ runs-after f (suc t) k)
+          → Tiles (λ u q. f u ≡ q) a (suc (t + suc k))
+          (record { start = a; pair = p }
+          ∷ cond c (runs-after f (suc t) k) (record { start = suc t; pair = f (suc t) } ∷ runs-after f (suc t) k))
+      go true same on next =
+          let e : suc (t + suc k) ≡ suc (suc t + k) = omega arith in
+          rw e (on (sym (same-pair-is (f t) (f (suc t)) .0 same) ∙ lasts t le (omega arith)))
+      go false other on next =
+          let e : suc (t + suc k) ≡ suc (suc t + k) = omega arith in
+          rw e (more {a = a} {m = suc t} refl (omega arith) (λ u l g. lasts u l (omega arith)) next)
+
+  pub tiles-of-runs : (a b : ℕ) → a < b → Tiles (λ u q. f u ≡ q) a b (runs-of f a b)
+  unfolding runs-of
+  tiles-of-runs a b lt =
+      let e : b ≡ suc (a + (b - suc a)) = omega arith in
+      subst⁻¹ (λ end. Tiles (λ u q. f u ≡ q) a end (runs-of f a b)) e
+      (tiles-after a a (b - suc a) (f a) (omega arith)
+      (λ u l g.
+      let e : u ≡ a = omega arith in
+      ap f e))
+
+-- what holds of every pair holds of each run's
+pub tiles-all : {Q : ℕ → Pair → Type 0} {R : Pair → Type 0} {a b : ℕ} {rs : List Run} → Tiles Q a b rs
+    → ((t : ℕ) (p : Pair) → a ≤ t → t < b → Q t p → R p) → All (λ (r : Run). R (r .pair)) rs
+tiles-all done h = all-none
+tiles-all (more {r = r} s l q u) h =
+    all-more {x = r} (h _ _ (omega arith) (omega (arith, tiles-le u)) (q _ (omega arith) l))
+    (tiles-all u (λ t p x y. h t p (omega arith) y))

@@ -14,3 +14,4 @@ pub mod Opened
 pub mod BookCases
 pub mod AggregateCases
 pub mod ListCases
+pub mod RebuildCases

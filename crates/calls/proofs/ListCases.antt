@@ -13,12 +13,12 @@ use Rattle.calls.specs.Changes.{entering, withdrawing, Change}
 use Rattle.calls.specs.Calls.{Booked, head}
 use Rattle.calls.specs.Index.{index-book}
 use Rattle.calls.specs.Book.{empty-book, entered, entered-all, book-of, items-pair, book-pair, runs-after, runs-of, listing-of}
-use Rattle.calls.specs.Trace.{Step, kept, accepted, Trace, formatted, formatted-before, extended, Throughout, change-made}
-use Rattle.calls.specs.Demands.{fixed-status, Booking, couples, Reordered, same, next, swap, then, Same-changes}
+use Rattle.calls.specs.Trace.{Step, kept, accepted, Trace, formatted, formatted-before, extended, rebuilt, Throughout, change-made}
+use Rattle.calls.specs.Demands.{fixed-status, rebuild-of, Booking, couples, Reordered, same, next, swap, then, Same-changes}
 use Rattle.calls.specs.BookCases.{one, windowed}
 use Rattle.calls.specs.AggregateCases.{entry}
 use Rattle.calls.specs.ListCases.{fresh-image, before-image, after-one, after-two, after-three, three-changes, greatest-one, greatest-book, struck}
-use Rattle.calls.specs.ListCases.{struck-too, List-cases}
+use Rattle.calls.specs.ListCases.{struck-too, roomier, after-season, List-cases}
 use Rattle.calls.proofs.Opened.{every-call}
 use Rattle.calls.proofs.Steps.{stayed, steps}
 
@@ -41,6 +41,18 @@ a-day =
     kept)
     (accepted (7 ∷ 7 ∷ []) refl))
     (accepted (7 ∷ 7 ∷ []) refl)
+
+-- a season: what the first booking left goes on in four pages, and that in five
+a-season : Trace 1 0 4 after-season (entry (pos 6) 10 40 ∷ entry (pos 3) 20 50 ∷ [])
+unfolding every-call fresh-image after-one roomier after-season
+a-season =
+    rebuilt {field = 4} (replicate (112 * 5) 9) (7 ∷ 7 ∷ [])
+    (extended
+    (rebuilt {field = 4} (replicate (112 * 4) 9) (7 ∷ 7 ∷ [])
+    (extended (formatted (replicate (112 * 2) 0) refl) (accepted (7 ∷ 7 ∷ []) refl))
+    refl)
+    (accepted (7 ∷ 7 ∷ []) refl))
+    refl
 
 -- whatever the scratch, 3 on [20, 50) is refused on what the first booking left
 refused-booking : (scratch : List ℕ) → index-book entering (pos 3) 20 50 after-one scratch .status ≢ 0
@@ -84,7 +96,7 @@ differs S =
     )
 
 pub list-cases : List-cases
-unfolding every-call empty-book entered entered-all book-of book-pair items-pair runs-after runs-of listing-of one windowed fixed-status couples fresh-image before-image after-one after-two after-three three-changes greatest-one greatest-book change-made Throughout a-day
+unfolding every-call empty-book entered entered-all book-of book-pair items-pair runs-after runs-of listing-of one windowed fixed-status couples fresh-image before-image after-one after-two after-three three-changes greatest-one greatest-book change-made Throughout a-day roomier after-season a-season rebuild-of
 list-cases =
     record {
       fits-at-first = refl;
@@ -103,6 +115,13 @@ list-cases =
       made-by-status = (refl, refl);
       day = a-day;
       before-day = extended (formatted-before (replicate (512 * 2) 0) refl) (accepted (7 ∷ 7 ∷ []) refl);
+      season = a-season;
+      before-season = rebuilt (replicate 1024 9) (7 ∷ 7 ∷ []) (formatted-before (replicate (512 * 2) 0) refl) refl;
+      first-of-season = λ h. omega (arith, h .0 .0 .0 .0);
+      last-of-season = λ h. omega (arith, h .1);
+      within-season = ((((omega arith, omega arith), omega arith), omega arith), omega arith);
+      accepted-rebuild = λ step. let e : _≡_ {A = ℕ} 0 1 = ap (λ img. head 2 img .changes) (stayed step) in omega arith;
+      book-rebuild = (refl, refl);
       two-capacities = λ D T U. D .demand-3-two T U (record { struck-x = []; struck-y = []; left = _; of-x = same; of-y = same });
       all-day = ((((((omega arith, omega arith), omega arith), omega arith), omega arith), omega arith), omega arith);
       last-of-day = λ h. omega (arith, h .1);

@@ -18,11 +18,13 @@ use Rattle.image.specs.Sound.{sound}
 use Rattle.image.proofs.Sizes.{sized}
 use Rattle.calls.specs.Refusals.{Row, first, borrowed, scratch-ok, cleared}
 use Rattle.calls.specs.Changes.{Side}
-use Rattle.calls.specs.Calls.{Booked, Audited, book-state-rows, changed, book-input-rows, book-status, book, audit-input-rows, audit}
-use Rattle.calls.specs.Index.{judge, judged, index-book, index-audit, index-book-bytewise, index-audit-bytewise}
+use Rattle.calls.specs.Calls.{Booked, Audited, Rebuilt, book-state-rows, changed, book-input-rows, book-status, book, audit-input-rows, audit}
+use Rattle.calls.specs.Calls.{rebuilt-bytes, rebuild-state-rows, rebuild-status, rebuild}
+use Rattle.calls.specs.Index.{judge, judged, index-book, index-audit, index-rebuild, index-book-bytewise, index-audit-bytewise}
+use Rattle.calls.specs.Index.{index-rebuild-bytewise}
 use Rattle.calls.specs.Scratch.{Bytes-cleared, Enough, Bit-per-page}
 use Rattle.calls.proofs.Judged.{by-judge, judge-not}
-use Rattle.calls.proofs.Tables.{booking-bytewise, audit-bytewise}
+use Rattle.calls.proofs.Tables.{booking-bytewise, audit-bytewise, rebuild-bytewise}
 
 -- ---- what is cleared
 
@@ -72,12 +74,15 @@ both-judged P refused call refused′ call′ img p q = go (eqb (judge img) 0)
     go true = p
     go false = q
 
--- two bookings, or two audits
+-- two bookings, two audits, or two rebuilds
 abbrev Same-booking : Booked → Booked → Type 0
 Same-booking a b = a .status ≢ 17 → b .status ≢ 17 → (a .status ≡ b .status) × (a .image ≡ b .image)
 
 abbrev Same-audit : Audited → Audited → Type 0
 Same-audit a b = a .status ≢ 17 → b .status ≢ 17 → a .status ≡ b .status
+
+abbrev Same-rebuild : Rebuilt → Rebuilt → Type 0
+Same-rebuild a b = a .status ≢ 17 → b .status ≢ 17 → (a .status ≡ b .status) × (a .target ≡ b .target)
 
 module _ (half : ℕ) (f g : ℕ → ℕ) (img scratch other : List ℕ) where
   same-book : (side : Side) (v : ℤ) (s e : ℕ) → Same-booking (book f half side v s e img scratch) (book g half side v s e img other)
@@ -94,6 +99,14 @@ module _ (half : ℕ) (f g : ℕ → ℕ) (img scratch other : List ℕ) where
       same-first (not (length-ok half img)) (not (scratch-ok f (pages-in half img) scratch)) (not (scratch-ok g (pages-in half img) other))
       ((21, not (sound half img)) ∷ [])
 
+  same-rebuilt : (target : List ℕ) → Same-rebuild (rebuild f half img target scratch) (rebuild g half img target other)
+  unfolding rebuild rebuild-status audit-input-rows
+  same-rebuilt target n m =
+      let number =
+      same-first (not (length-ok half img)) (not (scratch-ok f (pages-in half img) scratch)) (not (scratch-ok g (pages-in half img) other))
+      (rebuild-state-rows half img target) n m in
+      (number, ap (λ k. cond (eqb k 0) (rebuilt-bytes half img (pages-in half target)) target) number)
+
 module _ (img scratch other : List ℕ) where
   same-booking : (side : Side) (v : ℤ) (s e : ℕ)
       → Same-booking (index-book side v s e img scratch) (index-book-bytewise side v s e img other)
@@ -107,6 +120,12 @@ module _ (img scratch other : List ℕ) where
   same-audit =
       both-judged Same-audit _ (λ half. audit borrowed half img scratch) _ (λ half. audit (λ n. n) half img other) img
       (same-verdict (half-of img) borrowed (λ n. n) img scratch other) (λ n m. refl)
+
+  same-rebuild : (target : List ℕ) → Same-rebuild (index-rebuild img target scratch) (index-rebuild-bytewise img target other)
+  unfolding index-rebuild index-rebuild-bytewise
+  same-rebuild target =
+      both-judged Same-rebuild _ (λ half. rebuild borrowed half img target scratch) _ (λ half. rebuild (λ n. n) half img target other) img
+      (same-rebuilt (half-of img) borrowed (λ n. n) img scratch other target) (λ n m. (refl, refl))
 
 -- ---- what is always enough
 
@@ -157,6 +176,13 @@ module _ (f : ℕ → ℕ) (img scratch : List ℕ)
       judged-passes (λ (a : Audited). a .status) refused (λ half. audit f half img scratch) told
       (passes-17 _ _ _ has (all-more (λ z. omega arith) all-none))
 
+  rebuild-passes : (refused : ℕ → Rebuilt) → ((n : ℕ) → refused n .status ≡ n) → (target : List ℕ)
+      → judged refused (λ half. rebuild f half img target scratch) img .status ≢ 17
+  unfolding rebuild rebuild-status audit-input-rows
+  rebuild-passes refused told target =
+      judged-passes (λ (b : Rebuilt). b .status) refused (λ half. rebuild f half img target scratch) told
+      (passes-17 _ _ _ has (all-more (λ z. omega arith) (all-more (λ z. omega arith) (all-more (λ z. omega arith) all-none))))
+
 module _ (img scratch : List ℕ) (enough : Enough (pages-in (half-of img) img) scratch) where
   booking-enough : (side : Side) (v : ℤ) (s e : ℕ) → index-book side v s e img scratch .status ≢ 17
   unfolding index-book
@@ -165,6 +191,10 @@ module _ (img scratch : List ℕ) (enough : Enough (pages-in (half-of img) img) 
   audit-enough : index-audit img scratch .status ≢ 17
   unfolding index-audit
   audit-enough = audit-passes borrowed img scratch (has-enough (half-of img) img scratch enough) _ (λ n. refl)
+
+  rebuild-enough : (target : List ℕ) → index-rebuild img target scratch .status ≢ 17
+  unfolding index-rebuild
+  rebuild-enough target = rebuild-passes borrowed img scratch (has-enough (half-of img) img scratch enough) _ (λ n. refl) target
 
 -- a byte for each page was always enough, and so it is
 module _ (img scratch : List ℕ) (long : pages-in (half-of img) img ≤ length scratch) where
@@ -188,6 +218,13 @@ module _ (img scratch : List ℕ) (long : pages-in (half-of img) img ≤ length 
       same-audit img scratch scratch (audit-enough img scratch enough)
       (unfold index-audit-bytewise in audit-passes (λ n. n) img scratch (λ whole. has-bytes) _ (λ n. refl))
 
+  same-scratch-rebuild : (target : List ℕ)
+      → (index-rebuild img target scratch .status ≡ index-rebuild-bytewise img target scratch .status)
+      × (index-rebuild img target scratch .target ≡ index-rebuild-bytewise img target scratch .target)
+  same-scratch-rebuild target =
+      same-rebuild img scratch scratch target (rebuild-enough img scratch enough target)
+      (unfold index-rebuild-bytewise in rebuild-passes (λ n. n) img scratch (λ whole. has-bytes) _ (λ n. refl) target)
+
 -- ---- all of it
 
 pub bit-per-page : Bit-per-page
@@ -195,10 +232,14 @@ bit-per-page =
     record {
       enough-booking = λ side v s e img scratch enough. booking-enough img scratch enough side v s e;
       enough-audit = audit-enough;
+      enough-rebuild = λ source target scratch enough. rebuild-enough source scratch enough target;
       of-booking-bytewise = booking-bytewise;
       of-audit-bytewise = audit-bytewise;
+      of-rebuild-bytewise = rebuild-bytewise;
       same-booking = λ side v s e img scratch other. same-booking img scratch other side v s e;
       same-audit = same-audit;
+      same-rebuild = λ source target scratch other. same-rebuild source scratch other target;
       same-scratch-booking = λ side v s e img scratch long. same-scratch-booking img scratch long side v s e;
       same-scratch-audit = same-scratch-audit;
+      same-scratch-rebuild = λ source target scratch long. same-scratch-rebuild source scratch long target;
     }

@@ -13,9 +13,9 @@ use Rattle.page.specs.Layout.{capacity-ok}
 use Rattle.image.specs.Images.{half-of, pages-in, image-bytes, fresh}
 use Rattle.calls.specs.Refusals.{borrowed}
 use Rattle.calls.specs.Changes.{Side, Change}
-use Rattle.calls.specs.Calls.{Formatted, Booked, format, changed, book}
-use Rattle.calls.specs.Index.{index-format, index-book}
-use Rattle.calls.specs.Trace.{Step, kept, accepted, formatted, formatted-before, change-made, Steps}
+use Rattle.calls.specs.Calls.{Formatted, Booked, Rebuilt, format, changed, book, rebuilt-bytes, rebuild}
+use Rattle.calls.specs.Index.{index-format, index-book, index-rebuild}
+use Rattle.calls.specs.Trace.{Step, kept, accepted, formatted, formatted-before, rebuilt, change-made, Steps}
 use Rattle.calls.proofs.Judged.{by-judge}
 
 -- a call that left the image as it was
@@ -57,6 +57,20 @@ unfolding index-format
 index-format-keeps kind window k img =
     cond-one (λ (f : Formatted). Keeps img (f .status) (f .image)) (capacity-ok k) (λ g. format-keeps (k / 2) kind window k img) (λ r n. refl)
 
+rebuild-keeps : (half : ℕ) (source target scratch : List ℕ)
+    → Keeps target (rebuild borrowed half source target scratch .status) (rebuild borrowed half source target scratch .target)
+unfolding rebuild
+rebuild-keeps half source target scratch n =
+    ap (λ x. cond x (rebuilt-bytes half source (pages-in half target)) target)
+    (ne-eqb (rebuild borrowed half source target scratch .status) 0 n)
+
+pub index-rebuild-keeps : (source target scratch : List ℕ) → index-rebuild source target scratch .status ≢ 0
+    → index-rebuild source target scratch .target ≡ target
+unfolding index-rebuild
+index-rebuild-keeps source target scratch =
+    by-judge _ (λ half. rebuild borrowed half source target scratch) source (λ (b : Rebuilt). Keeps target (b .status) (b .target))
+    (λ g. rebuild-keeps (half-of source) source target scratch) (λ r n. refl)
+
 -- ---- the steps
 
 module _ (side : Side) (v : ℤ) (s e : ℕ) (img scratch : List ℕ) (r : ℕ) (after left : List ℕ)
@@ -85,6 +99,14 @@ refused-format kind window k img r after p n =
     ap (λ (f : Formatted). f .image) p
     ∙ index-format-keeps kind window k img (λ z. n (ap (λ (f : Formatted). f .status) p ∙ z))
 
+refused-rebuild : (source target scratch : List ℕ) (r : ℕ) (after left : List ℕ)
+    → record { status = r; target = after; scratch = left } ≡ index-rebuild source target scratch
+    → r ≢ 0
+    → after ≡ target
+refused-rebuild source target scratch r after left p n =
+    ap (λ (b : Rebuilt). b .target) p
+    ∙ index-rebuild-keeps source target scratch (λ z. n (ap (λ (b : Rebuilt). b .status) p ∙ z))
+
 pub steps : Steps
 steps =
     record {
@@ -92,4 +114,6 @@ steps =
       of-format = λ kind window k img after p. formatted img p;
       of-format-before = λ kind window img after p. formatted-before img p;
       of-refused-format = λ kind window k img r after p n. stays (refused-format kind window k img r after p n);
+      of-rebuild = λ source target scratch after left T p. rebuilt target scratch T p;
+      of-refused-rebuild = λ source target scratch r after left p n. stays (refused-rebuild source target scratch r after left p n);
     }

@@ -1,5 +1,5 @@
 -- Every call returns the status that document 01's tables have for it, and an instant tells the pages that it looked at. Assumes nothing.
-use Prim.Native.Nat.{ℕ, _+_, _*_, _<_, _≤_, _/_, _%_}
+use Prim.Native.Nat.{ℕ, suc, _+_, _*_, _<_, _≤_, _/_, _%_}
 use mathlib.Core.Path.{_≡_, refl, sym, ap, _∙_, subst⁻¹}
 use mathlib.Core.Logic.{_⊎_, inl, inr}
 use mathlib.Core.Bool.{Bool, true, false, cond, not, _&&_, false≢true}
@@ -17,21 +17,23 @@ use Rattle.page.specs.Fit.{head-fit}
 use Rattle.image.specs.Images.{Image, capacity-field, half-of, page-at, pages-in, length-ok, image-of}
 use Rattle.image.specs.Sound.{sound}
 use Rattle.image.specs.Instant.{look-up}
-use Rattle.image.specs.Listing.{walk-over}
+use Rattle.image.specs.Listing.{walk-over, join}
 use Rattle.image.specs.Trail.{Visit, finds-fit, all-fit, instant-trail, listing-trail}
 use Rattle.image.proofs.Capacity.{fit-half}
 use Rattle.image.proofs.Trails.{each-fits, one-unfit, look-up-fit, look-up-looks, instant-ends, walk-over-fit}
+use Rattle.tight.specs.Tight.{pages-used, too-small}
 use Rattle.steps.specs.Change.{lacks-pages}
 use Rattle.calls.specs.Refusals.{first, scratch-ok, borrowed}
 use Rattle.calls.specs.Changes.{Side, entering, withdrawing, withdraws}
-use Rattle.calls.specs.Calls.{Booked, Instant, Averaged, Listed, Audited}
+use Rattle.calls.specs.Calls.{Booked, Instant, Averaged, Listed, Audited, Rebuilt}
 use Rattle.calls.specs.Calls.{head, head-ok, format, format-status, book, book-input-rows, book-status, instant, instant-status}
 use Rattle.calls.specs.Calls.{average-at, listing, listing-status, runs-over, too-short, audit, audit-input-rows}
+use Rattle.calls.specs.Calls.{full-runs, rebuild-status, rebuild}
 use Rattle.calls.specs.Index.{names-capacity, judge, judged, index-format, format-before, index-book, index-instant, index-average}
-use Rattle.calls.specs.Index.{index-listing, index-audit, index-book-bytewise, index-audit-bytewise}
+use Rattle.calls.specs.Index.{index-listing, index-audit, index-rebuild, index-book-bytewise, index-audit-bytewise, index-rebuild-bytewise}
 use Rattle.calls.specs.Tables.{Case, Exactly, No-capacity, Bad-field, Whole-pages, Fit-head, No-span, No-kind-or-window, Meets-unfit, Too-few-pages}
-use Rattle.calls.specs.Tables.{Fewer-bits, Fewer-bytes, format-cases-before, format-cases}
-use Rattle.calls.specs.Tables.{judge-cases, book-cases, instant-cases, listing-cases, audit-cases, Pages-told, Turned-back}
+use Rattle.calls.specs.Tables.{Fewer-bits, Fewer-bytes, Too-small, format-cases-before, format-cases}
+use Rattle.calls.specs.Tables.{judge-cases, book-cases, instant-cases, listing-cases, audit-cases, rebuild-cases, Pages-told, Turned-back}
 use Rattle.calls.proofs.Reflects.{Reflects, passes, fails, fails-by, restated, is-less, is-most, is-equal, is-true, is-false, is-not, is-above}
 use Rattle.calls.proofs.Reflects.{is-least, both, either-fails, chosen, other}
 use Rattle.calls.proofs.Cases.{Tested, no-row, next-row, third-case}
@@ -123,6 +125,13 @@ too-few : (half s e : ℕ) (X : Image) → Reflects (Too-few-pages half s e X) (
 unfolding Too-few-pages lacks-pages
 too-few half s e X = is-less _ _
 
+small-target : (half : ℕ) (source target : List ℕ)
+    → Reflects (Too-small half source target) (too-small half (pages-in half target) (length (full-runs half source)))
+unfolding Too-small too-small full-runs runs-over
+small-target half source target =
+    let used : ℕ = pages-used half (length (join (walk-over half source 0 END .runs))) in
+    restated {P = pages-in half target < suc used} (λ l. omega arith) (λ l. omega arith) (is-less (pages-in half target) (suc used))
+
 -- a fit head names a capacity
 named-by-head : (half : ℕ) (img : List ℕ) → Fit-head half img → names-capacity img ≡ true
 unfolding Fit-head names-capacity
@@ -166,6 +175,17 @@ module _ (half : ℕ) where
   audit-tested short img scratch =
       (next-row 16 (is-not (whole-pages half img))
       (next-row 17 (short .reflects (pages-in half img) scratch) (next-row 21 (is-false (sound half img)) no-row))) .exactly
+
+  rebuild-tested : {Short : ℕ → List ℕ → Type 0} {bytes-for : ℕ → ℕ} → Short-by Short bytes-for
+      → (source target scratch : List ℕ)
+      → Exactly (rebuild-cases half Short source target scratch) (rebuild bytes-for half source target scratch .status)
+  unfolding rebuild-cases rebuild rebuild-status audit-input-rows first
+  rebuild-tested short source target scratch =
+      (next-row 16 (is-not (whole-pages half source))
+      (next-row 17 (short .reflects (pages-in half source) scratch)
+      (next-row 21 (is-false (sound half source))
+      (next-row 16 (is-not (whole-pages half target))
+      (next-row 24 (small-target half source target) no-row))))) .exactly
 
   -- ---- the pages that an instant tells
 
@@ -270,7 +290,7 @@ index-pages-told t img =
 -- ---- all of them
 
 pub turned-back : Turned-back
-unfolding format-before index-book index-instant index-average index-listing index-audit average-at
+unfolding format-before index-book index-instant index-average index-listing index-audit index-rebuild average-at
 turned-back =
     record {
       of-format = format-tested;
@@ -288,6 +308,9 @@ turned-back =
       of-audit = λ img scratch.
           judged-tested _ (λ half. audit borrowed half img scratch) (λ (r : Audited). r .status) img refl _
           (audit-tested (half-of img) fewer-bits img scratch);
+      of-rebuild = λ source target scratch.
+          judged-tested _ (λ half. rebuild borrowed half source target scratch) (λ (r : Rebuilt). r .status) source refl _
+          (rebuild-tested (half-of source) fewer-bits source target scratch);
     }
 
 -- ---- the calls of before (vi)
@@ -306,3 +329,11 @@ unfolding index-audit-bytewise
 audit-bytewise img scratch =
     judged-tested _ (λ half. audit (λ pages. pages) half img scratch) (λ (r : Audited). r .status) img refl _
     (audit-tested (half-of img) fewer-bytes img scratch)
+
+pub rebuild-bytewise : (source target scratch : List ℕ)
+    → Exactly (judge-cases source (rebuild-cases (half-of source) Fewer-bytes source target scratch))
+    (index-rebuild-bytewise source target scratch .status)
+unfolding index-rebuild-bytewise
+rebuild-bytewise source target scratch =
+    judged-tested _ (λ half. rebuild (λ pages. pages) half source target scratch) (λ (r : Rebuilt). r .status) source refl _
+    (rebuild-tested (half-of source) fewer-bytes source target scratch)

@@ -1,6 +1,7 @@
--- Every call of document 01 as a function of its inputs: the status returned (document 01's number), the answer, and every byte of image,
--- output and scratch afterwards, on every image and argument. Over half the capacity of a page; where a call has that from is Index.antt.
--- Calls that take a scratch are over how many bytes of it they borrow for n pages. Assumes nothing.
+-- Every call of document 01, and document 02's rebuild, as a function of its inputs: the status returned (document 01's number), the
+-- answer, and every byte of image, target, output and scratch afterwards, on every image and argument. What a call only reads stands for
+-- nothing that it leaves. Over half the capacity of a page; where a call has that from is Index.antt. Calls that take a scratch are over
+-- how many bytes of it they borrow for n pages. Assumes nothing.
 use Prim.Native.Nat.{ℕ, _*_}
 use mathlib.Core.Bool.{Bool, cond, not, _&&_}
 use mathlib.Core.List.{List, [], _∷_, _++_}
@@ -22,6 +23,7 @@ use Rattle.image.specs.Images.{page-at, pages-in, length-ok, image-of, image-by
 use Rattle.image.specs.Sound.{sound}
 use Rattle.image.specs.Instant.{look-up}
 use Rattle.image.specs.Listing.{Run, walk-over, join, run-bytes}
+use Rattle.tight.specs.Tight.{tight, too-small}
 use Rattle.steps.specs.Change.{change, lacks-pages}
 use Rattle.calls.specs.Changes.{Side, withdraws, effect}
 use Rattle.calls.specs.Refusals.{Row, first, scratch-ok, scratch-after}
@@ -199,4 +201,47 @@ module _ (bytes-for : ℕ → ℕ) where
       record {
         status = first (audit-input-rows half img scratch ++ ((21, not (sound half img)) ∷ []));
         scratch = scratch-after bytes-for (audit-input-rows half img scratch) (pages-in half img) scratch;
+      }
+
+-- Rebuild: document 02, (iii)
+
+pub record Rebuilt : Type 0 where
+  pub status : ℕ
+  pub target : List ℕ
+  pub scratch : List ℕ
+
+-- "The full listing is that over [0, END)."
+unfoldable pub full-runs : ℕ → List ℕ → List Run
+full-runs half img = runs-over half 0 END img
+
+-- every byte of the target of an accepted rebuild, by its number of pages: "the runs of the full listing become the leaf entries"; "kind,
+-- window and changes are kept"
+unfoldable pub rebuilt-bytes : ℕ → List ℕ → ℕ → List ℕ
+rebuilt-bytes half source pages =
+    let h = head half source in
+    image-bytes half (tight half pages (h .kind) (h .window) (h .changes) (full-runs half source))
+
+-- "Errors: 16, 17, 21 (not sound) of the source first, then 16 of the target (scratch 0), 24 if n is too small": those behind 16 and 17. Of
+-- the target its length alone is looked at.
+abbrev pub rebuild-state-rows : ℕ → List ℕ → List ℕ → List Row
+rebuild-state-rows half source target =
+    (21, not (sound half source))
+    ∷ (16, not (length-ok half target))
+    ∷ (24, too-small half (pages-in half target) (length (full-runs half source)))
+    ∷ []
+
+module _ (bytes-for : ℕ → ℕ) where
+  -- "16, 17 .. of the source first": the rows before it goes to work are an audit's
+  unfoldable pub rebuild-status : ℕ → List ℕ → List ℕ → List ℕ → ℕ
+  rebuild-status half source target scratch =
+      first (audit-input-rows bytes-for half source scratch ++ rebuild-state-rows half source target)
+
+  unfoldable pub rebuild : ℕ → List ℕ → List ℕ → List ℕ → Rebuilt
+  rebuild half source target scratch =
+      let number = rebuild-status half source target scratch in
+      let done = rebuilt-bytes half source (pages-in half target) in
+      record {
+        status = number;
+        target = cond (eqb number 0) done target;
+        scratch = scratch-after bytes-for (audit-input-rows bytes-for half source scratch) (pages-in half source) scratch;
       }

@@ -4,7 +4,7 @@
 use Prim.Native.Nat.{ℕ, _≤_, _<_}
 use mathlib.Core.Path.{_≡_}
 use mathlib.Core.Logic.{_≢_, _⊎_}
-use mathlib.Core.Bool.{true, not, _&&_}
+use mathlib.Core.Bool.{true, cond, not, _&&_}
 use lib.Dec.{eqb}
 use mathlib.Core.List.{List, [], _∷_, _++_}
 use lib.ListN.{length}
@@ -15,19 +15,21 @@ use Rattle.rule.specs.Pairs.{none}
 use Rattle.rule.specs.Averages.{average}
 use Rattle.fields.specs.Bytes.{Bytes}
 use Rattle.page.specs.Fit.{most-changes}
-use Rattle.image.specs.Images.{capacity-field, half-of, pages-in}
+use Rattle.image.specs.Images.{capacity-field, half-of, pages-in, length-ok, image-bytes}
 use Rattle.image.specs.Sound.{sound}
-use Rattle.calls.specs.Refusals.{first, borrowed, scratch-ok}
+use Rattle.tight.specs.Tight.{tight, too-small}
+use Rattle.calls.specs.Refusals.{Row, first, borrowed, scratch-ok, scratch-after}
 use Rattle.calls.specs.Changes.{Side, entering, withdrawing, withdraws, Change}
-use Rattle.calls.specs.Calls.{head}
-use Rattle.calls.specs.Index.{index-format, index-book, index-instant, index-average, index-listing, index-audit}
+use Rattle.calls.specs.Calls.{Rebuilt, head}
+use Rattle.calls.specs.Index.{index-format, index-book, index-instant, index-average, index-listing, index-audit, index-rebuild}
 use Rattle.calls.specs.Tables.{Turned-back}
 use Rattle.calls.specs.Scratch.{Scratch-left}
-use Rattle.calls.specs.Book.{Book, entered, book-of, book-pair, listing-of}
+use Rattle.calls.specs.Book.{Book, entered, book-of, book-pair, runs-of, listing-of}
 use Rattle.calls.specs.Trace.{Trace, Throughout, change-made, Steps}
 use Rattle.calls.specs.Aggregate.{aggregate, Matched, live-from}
 use Rattle.calls.specs.Accepted.{Every-change}
 use Rattle.calls.specs.Until.{Until-when}
+use Rattle.calls.specs.Rebuild.{Rebuilds}
 
 -- Demand 1. "A caller may hand any public call any image, span, value or output buffer, unchecked; the call returns, and what
 -- document 01 turns back is refused by its number there, with image and output as before." That a call returns is part of every
@@ -49,11 +51,19 @@ pub record Demand-1 : Type 0 where
       (a b : ℕ) (img out : List ℕ)
       → index-listing a b img out .status ≢ 0
       → (index-listing a b img out .output ≡ out) × (index-listing a b img out .runs ≡ 0)
+  -- document 02, (iii): a rebuild that is refused, for its source or its target, has written nothing of the target; the source is only read
+  pub of-rebuild :
+      (source target scratch : List ℕ)
+      → index-rebuild source target scratch .status ≢ 0
+      → index-rebuild source target scratch .target ≡ target
   -- "scratch is untouched at 16 and 17, also at 11 and 13, else its n bytes are 0": by document 02, (vi), those borrowed
   pub of-scratch :
       (side : Side) (v : ℤ) (s e : ℕ) (img scratch : List ℕ)
       → Scratch-left img scratch (index-book side v s e img scratch .status) (index-book side v s e img scratch .scratch)
       × Scratch-left img scratch (index-audit img scratch .status) (index-audit img scratch .scratch)
+  -- a rebuild leaves what an audit of its source would, whatever turns it back behind that: "then 16 of the target (scratch 0)"
+  pub of-rebuild-scratch :
+      (source target scratch : List ℕ) → index-rebuild source target scratch .scratch ≡ index-audit source scratch .scratch
   -- "It reports the tree pages read: the height if answered, or if a page is unfit, the pages up to and including it (0 for the
   -- head and at other refusals)."
   pub of-pages :
@@ -94,6 +104,21 @@ fixed-status pages side v s e scratch B =
     ∷ (23, eqb (length (B .items)) most-changes)
     ∷ [])
 
+-- Document 02, (iii): a rebuild of an image of so many pages, of that half, by its book alone: the runs of the full listing are the book's
+-- over [0, END), and the changes are its items.
+unfoldable pub rebuild-of : ℕ → ℕ → Book → List ℕ → List ℕ → Rebuilt
+rebuild-of half pages B target scratch =
+    let runs = runs-of (book-pair B) 0 END in
+    let short : Row = (17, not (scratch-ok borrowed pages scratch)) in
+    let small : Row = (24, too-small half (pages-in half target) (length runs)) in
+    let number = first (short ∷ (16, not (length-ok half target)) ∷ small ∷ []) in
+    let done = image-bytes half (tight half (pages-in half target) (B .kind) (B .window) (length (B .items)) runs) in
+    record {
+      status = number;
+      target = cond (eqb number 0) done target;
+      scratch = scratch-after borrowed (short ∷ []) pages scratch;
+    }
+
 -- What demand 3 claims of an image, B being the book as it then is: whichever call is made on it, with any arguments, returns what the
 -- book says.
 pub record As-the-book (img : List ℕ) (B : Book) : Type 0 where
@@ -117,6 +142,10 @@ pub record As-the-book (img : List ℕ) (B : Book) : Type 0 where
       → let number = index-book side v s e img scratch .status in
       let fixed = fixed-status (pages-in (half-of img) img) side v s e scratch B in
       (number ≡ fixed) ⊎ ((fixed ≡ 0) × (number ≡ 24))
+  -- and a rebuild of it all that the book says, with every byte of target and scratch
+  pub rebuilds :
+      (target scratch : List ℕ)
+      → index-rebuild img target scratch ≡ rebuild-of (half-of img) (pages-in (half-of img) img) B target scratch
 
 -- Demand 3, the claim about the list. "For every list of calls on one image .. from a freshly formatted one, each instant's pair and
 -- each listing on the way, and after it the full listing, are exactly those of the plain book in document 01, which keeps only the
@@ -162,15 +191,16 @@ pub record Headed (kind window field : ℕ) (img : List ℕ) (cs : List Change) 
   pub kind-is : head (half-of img) img .kind ≡ kind
   pub window-is : head (half-of img) img .window ≡ window
   pub changes-are : head (half-of img) img .changes ≡ length cs
-  -- "a change keeps the field's bytes": a capacity stays as format wrote it, and FF stays FF
+  -- "a change keeps the field's bytes": a capacity stays as format wrote it, and FF stays FF until a rebuild writes the number
   pub field-is : capacity-field img ≡ field
 
--- The demands. The lists are those of Trace.antt, and every call is a step there: lists from a format of any capacity, and lists from document
--- 01's own format, on images that have FF in the field.
+-- The demands. The lists are those of Trace.antt, and every call is a step there: lists from a format of any capacity, lists from document
+-- 01's own format, on images that have FF in the field, and lists that go on in the target of a rebuild.
 pub record The-demands : Type 0 where
   pub demand-1 : Demand-1
   pub demand-1-statuses : Turned-back
   pub until-when : Until-when
+  pub rebuild-leaves : Rebuilds
   pub steps : Steps
   -- "The book is fed .. each call's arguments and, of enter and withdraw, the number returned; never the image."
   pub fed :

@@ -12,8 +12,8 @@ use Rattle.page.specs.Layout.{capacity-ok, capacity-named, no-field}
 use Rattle.image.specs.Images.{capacity-field, half-of}
 use Rattle.calls.specs.Changes.{Side}
 use Rattle.calls.specs.Refusals.{first, borrowed}
-use Rattle.calls.specs.Calls.{Formatted, Booked, Instant, Averaged, Listed, Audited}
-use Rattle.calls.specs.Calls.{format, book, no-instant, instant, average-at, listing, audit}
+use Rattle.calls.specs.Calls.{Formatted, Booked, Instant, Averaged, Listed, Audited, Rebuilt}
+use Rattle.calls.specs.Calls.{format, book, no-instant, instant, average-at, listing, audit, rebuild}
 
 -- the field names a capacity
 unfoldable pub names-capacity : List ℕ → Bool
@@ -63,3 +63,15 @@ index-audit img scratch = judged (λ number. record { status = number; scratch =
 unfoldable pub index-audit-bytewise : List ℕ → List ℕ → Audited
 index-audit-bytewise img scratch =
     judged (λ number. record { status = number; scratch = scratch }) (λ half. audit (λ pages. pages) half img scratch) img
+
+-- "A rebuild keeps K, judges the target's length by it": the source is judged, and of the target only its length is looked at
+unfoldable pub index-rebuild : List ℕ → List ℕ → List ℕ → Rebuilt
+index-rebuild source target scratch =
+    judged (λ number. record { status = number; target = target; scratch = scratch })
+    (λ half. rebuild borrowed half source target scratch) source
+
+-- and one that borrows a byte for each page, as calls did before (vi)
+unfoldable pub index-rebuild-bytewise : List ℕ → List ℕ → List ℕ → Rebuilt
+index-rebuild-bytewise source target scratch =
+    judged (λ number. record { status = number; target = target; scratch = scratch })
+    (λ half. rebuild (λ pages. pages) half source target scratch) source

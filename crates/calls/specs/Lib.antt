@@ -3,6 +3,7 @@ pub mod Refusals
 pub mod Calls
 pub mod Index
 pub mod Until
+pub mod Rebuild
 pub mod Tables
 pub mod Scratch
 pub mod Book
@@ -14,4 +15,5 @@ pub mod Program
 pub mod BookCases
 pub mod AggregateCases
 pub mod ListCases
+pub mod RebuildCases
 pub mod Walks

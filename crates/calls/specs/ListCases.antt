@@ -11,10 +11,10 @@ use Rattle.rule.specs.Pairs.{pair, none}
 use Rattle.fields.specs.Bytes.{patch}
 use Rattle.calls.specs.Changes.{entering, withdrawing, Change}
 use Rattle.calls.specs.Calls.{Booked, no-instant}
-use Rattle.calls.specs.Index.{index-format, format-before, index-book, index-instant, index-average, index-listing, index-audit}
+use Rattle.calls.specs.Index.{index-format, format-before, index-book, index-instant, index-average, index-listing, index-audit, index-rebuild}
 use Rattle.calls.specs.Book.{Book, empty-book, entered, book-of}
 use Rattle.calls.specs.Trace.{Step, Trace, Throughout, change-made}
-use Rattle.calls.specs.Demands.{fixed-status, As-the-book, Booking, couples, Same-changes, The-demands}
+use Rattle.calls.specs.Demands.{fixed-status, rebuild-of, As-the-book, Booking, couples, Same-changes, The-demands}
 use Rattle.calls.specs.BookCases.{one, windowed, listed-30-41}
 use Rattle.calls.specs.AggregateCases.{entry, withdrawal}
 
@@ -42,6 +42,17 @@ after-two = withdraws (pos 6) 10 40 after-one .image
 
 unfoldable pub after-three : List ℕ
 after-three = enters (pos 3) 20 50 after-two .image
+
+-- a rebuild with scratch enough, into so many pages of some other content
+abbrev pub rebuilt-into : ℕ → List ℕ → List ℕ
+rebuilt-into n img = index-rebuild img (replicate (112 * n) 9) (7 ∷ 7 ∷ []) .target
+
+-- What the first booking left, rebuilt into four pages, where 3 on [20, 50) fits; and that rebuilt into five.
+unfoldable pub roomier : List ℕ
+roomier = enters (pos 3) 20 50 (rebuilt-into 4 after-one) .image
+
+unfoldable pub after-season : List ℕ
+after-season = rebuilt-into 5 roomier
 
 -- the first on an image of kind 2
 unfoldable pub greatest-one : List ℕ
@@ -110,6 +121,19 @@ pub record List-cases : Type 0 where
   pub day : Trace 1 0 4 after-three three-changes
   -- A list from document 01's own format, on an image that has FF in the capacity's field.
   pub before-day : Trace 1 0 4294967295 (enters (pos 6) 10 40 before-image .image) (entry (pos 6) 10 40 ∷ [])
+  -- A season: the list of a target goes on where its source's is, with a change before each rebuild; and from FF in the field.
+  pub season : Trace 1 0 4 after-season (entry (pos 6) 10 40 ∷ entry (pos 3) 20 50 ∷ [])
+  pub before-season : Trace 1 0 24 (index-rebuild before-image (replicate 1024 9) (7 ∷ 7 ∷ []) .target) []
+  -- The images before a rebuild are looked at, and the one that it left.
+  pub first-of-season : ¬ Throughout (λ img cs. 0 < length cs) season
+  pub last-of-season : ¬ Throughout (λ img cs. length img < 560) season
+  pub within-season : Throughout (λ img cs. length img < 561) season
+  -- The target's own list has ended: an accepted rebuild is no step there.
+  pub accepted-rebuild : ¬ Step after-one [] (index-rebuild fresh-image after-one (7 ∷ 7 ∷ []) .target)
+  -- What the book fixes of a rebuild: 17 by the source's pages, then 16 of the target.
+  pub book-rebuild :
+      (rebuild-of 2 9 one [] (7 ∷ []) .status ≡ 17)
+      × (rebuild-of 2 8 one [] (7 ∷ []) ≡ record { status = 16; target = []; scratch = 0 ∷ [] })
   -- What is claimed of two images of different capacities.
   pub two-capacities :
       The-demands → {img other : List ℕ} {cs : List Change} → Trace 1 0 4 img cs → Trace 1 0 4294967295 other cs

@@ -1,5 +1,5 @@
 -- Document 02, (vi), "Scratch of one bit per page", told in bits and apart from the bytes by which the calls are defined (`borrowed`,
--- Refusals.antt). "17 now means shorter than that" is row 17 of Tables.antt; the rebuild waits for (iii). Assumes nothing.
+-- Refusals.antt). "17 now means shorter than that" is row 17 of Tables.antt. Assumes nothing.
 use Prim.Native.Nat.{ℕ, _+_, _*_, _/_, _<_, _≤_}
 use mathlib.Core.Path.{_≡_}
 use mathlib.Core.Logic.{_≢_, _⊎_}
@@ -8,8 +8,8 @@ use lib.ListN.{length, getD}
 use lib.IntN.{ℤ}
 use Rattle.image.specs.Images.{half-of, pages-in}
 use Rattle.calls.specs.Changes.{Side}
-use Rattle.calls.specs.Index.{index-book, index-audit, index-book-bytewise, index-audit-bytewise}
-use Rattle.calls.specs.Tables.{Exactly, Bad-field, Fewer-bytes, judge-cases, book-cases, audit-cases}
+use Rattle.calls.specs.Index.{index-book, index-audit, index-rebuild, index-book-bytewise, index-audit-bytewise, index-rebuild-bytewise}
+use Rattle.calls.specs.Tables.{Exactly, Bad-field, Fewer-bytes, judge-cases, book-cases, audit-cases, rebuild-cases}
 
 -- "those bytes are 0 afterwards": each in which a page has its bit, eight pages to a byte. Document 01: "any beyond keep theirs", also
 -- those of a caller who lends a byte for each page.
@@ -23,7 +23,8 @@ pub record Bytes-cleared (pages : ℕ) (scratch left : List ℕ) : Type 0 where
 unfoldable pub Untouched : List ℕ → ℕ → Type 0
 Untouched img r = Bad-field img ⊎ ((r ≡ 16) ⊎ ((r ≡ 17) ⊎ ((r ≡ 11) ⊎ (r ≡ 13))))
 
--- What a call that returned r leaves of its scratch: so it is of every call that borrows one (Demands.antt).
+-- What a call that returned r leaves of its scratch: so it is of a booking and of an audit (Demands.antt). A rebuild leaves what an audit of
+-- its source leaves; its own 16 may be that of the target, where the scratch is 0.
 pub record Scratch-left (img scratch : List ℕ) (r : ℕ) (left : List ℕ) : Type 0 where
   pub untouched : Untouched img r → left ≡ scratch
   pub clears : ¬ Untouched img r → Bytes-cleared (pages-in (half-of img) img) scratch left
@@ -38,7 +39,11 @@ pub record Bit-per-page : Type 0 where
       → Enough (pages-in (half-of img) img) scratch
       → index-book side v s e img scratch .status ≢ 17
   pub enough-audit : (img scratch : List ℕ) → Enough (pages-in (half-of img) img) scratch → index-audit img scratch .status ≢ 17
-  -- The calls of before go by document 01's table, with its row 17.
+  pub enough-rebuild :
+      (source target scratch : List ℕ)
+      → Enough (pages-in (half-of source) source) scratch
+      → index-rebuild source target scratch .status ≢ 17
+  -- The calls of before go by document 01's table, with its row 17; so would a rebuild that borrows as they did.
   pub of-booking-bytewise :
       (side : Side) (v : ℤ) (s e : ℕ) (img scratch : List ℕ)
       → Exactly (judge-cases img (book-cases (half-of img) Fewer-bytes side v s e img scratch))
@@ -46,6 +51,10 @@ pub record Bit-per-page : Type 0 where
   pub of-audit-bytewise :
       (img scratch : List ℕ)
       → Exactly (judge-cases img (audit-cases (half-of img) Fewer-bytes img scratch)) (index-audit-bytewise img scratch .status)
+  pub of-rebuild-bytewise :
+      (source target scratch : List ℕ)
+      → Exactly (judge-cases source (rebuild-cases (half-of source) Fewer-bytes source target scratch))
+      (index-rebuild-bytewise source target scratch .status)
   -- "and give the same answers for every image": where neither the call nor that of before is turned back for its scratch, whatever each
   -- is lent, status and image are the same
   pub same-booking :
@@ -59,6 +68,12 @@ pub record Bit-per-page : Type 0 where
       → index-audit img scratch .status ≢ 17
       → index-audit-bytewise img other .status ≢ 17
       → index-audit img scratch .status ≡ index-audit-bytewise img other .status
+  pub same-rebuild :
+      (source target scratch other : List ℕ)
+      → index-rebuild source target scratch .status ≢ 17
+      → index-rebuild-bytewise source target other .status ≢ 17
+      → (index-rebuild source target scratch .status ≡ index-rebuild-bytewise source target other .status)
+      × (index-rebuild source target scratch .target ≡ index-rebuild-bytewise source target other .target)
   -- so too with one scratch that is long enough for both
   pub same-scratch-booking :
       (side : Side) (v : ℤ) (s e : ℕ) (img scratch : List ℕ)
@@ -69,3 +84,8 @@ pub record Bit-per-page : Type 0 where
       (img scratch : List ℕ)
       → pages-in (half-of img) img ≤ length scratch
       → index-audit img scratch .status ≡ index-audit-bytewise img scratch .status
+  pub same-scratch-rebuild :
+      (source target scratch : List ℕ)
+      → pages-in (half-of source) source ≤ length scratch
+      → (index-rebuild source target scratch .status ≡ index-rebuild-bytewise source target scratch .status)
+      × (index-rebuild source target scratch .target ≡ index-rebuild-bytewise source target scratch .target)

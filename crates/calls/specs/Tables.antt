@@ -1,6 +1,6 @@
--- Document 01, "Turned back by the input" and "Turned back by the state", as propositions: when each row turns a call back, said of
--- what the call is handed and apart from the rows by which the calls are defined; and that every call goes by them. What a sound image and
--- a fit page are, which runs a walk finds and which pages the cuts take are the definitions' own. Assumes nothing.
+-- Document 01, "Turned back by the input" and "Turned back by the state", as propositions: when each row turns a call back, said of what
+-- the call is handed and apart from the rows by which the calls are defined; and that every call goes by them. What a sound image and a fit
+-- page are, which runs a walk finds, which pages the cuts take and how many a tight image has are the definitions' own. Assumes nothing.
 use Prim.Native.Nat.{ℕ, _+_, _*_, _-_, _/_, _%_, _<_, _≤_}
 use mathlib.Core.Path.{_≡_}
 use mathlib.Core.Logic.{_≢_, _⊎_, _↔_}
@@ -17,10 +17,11 @@ use Rattle.image.specs.Images.{Image, half-of, page-at, pages-in, image-of}
 use Rattle.image.specs.Sound.{sound}
 use Rattle.image.specs.Listing.{walk-over, join}
 use Rattle.image.specs.Trail.{Visit, finds-fit, Ends-unfit, instant-trail, listing-trail}
+use Rattle.tight.specs.Tight.{pages-used}
 use Rattle.steps.specs.Supply.{pages-taken}
 use Rattle.steps.specs.Change.{cuts}
 use Rattle.calls.specs.Changes.{Side, withdrawing}
-use Rattle.calls.specs.Index.{index-format, format-before, index-book, index-instant, index-average, index-listing, index-audit}
+use Rattle.calls.specs.Index.{index-format, format-before, index-book, index-instant, index-average, index-listing, index-audit, index-rebuild}
 
 infix 1 _when_
 -- A row as it stands for a call: its status, and when it turns the call back.
@@ -85,6 +86,10 @@ Meets-unfit half img looks =
 unfoldable pub Too-few-pages : ℕ → ℕ → ℕ → Image → Type 0
 Too-few-pages half s e X = X .head .chain + (X .head .pages - X .head .mark) < pages-taken X (cuts half s e X)
 
+-- 24 of a rebuild: "24 if n is too small", for the head and the pages of a tight image with the runs of the source's full listing
+unfoldable pub Too-small : ℕ → List ℕ → List ℕ → Type 0
+Too-small half source target = pages-in half target < 1 + pages-used half (length (join (walk-over half source 0 END .runs)))
+
 -- Document 01's own format: "The order is 16, 17, 11 or 12, 13, 14, .."
 unfoldable pub format-cases-before : ℕ → ℕ → ℕ → List ℕ → List Case
 format-cases-before half kind window img = (16 when ¬ Whole-pages half img) ∷ (14 when No-kind-or-window kind window) ∷ []
@@ -139,6 +144,16 @@ module _ (half : ℕ) where
       ∷ (21 when sound half img ≡ false)
       ∷ []
 
+  -- "Errors: 16, 17, 21 (not sound) of the source first, then 16 of the target (scratch 0), 24 if n is too small"
+  unfoldable pub rebuild-cases : (ℕ → List ℕ → Type 0) → List ℕ → List ℕ → List ℕ → List Case
+  rebuild-cases Short source target scratch =
+      (16 when ¬ Whole-pages half source)
+      ∷ (17 when Short (pages-in half source) scratch)
+      ∷ (21 when sound half source ≡ false)
+      ∷ (16 when ¬ Whole-pages half target)
+      ∷ (24 when Too-small half source target)
+      ∷ []
+
   -- "It reports the tree pages read: the height if answered, or if a page is unfit, the pages up to and including it (0 for the
   -- head and at other refusals)": as many as it looks at. That this is the height if answered is part of Demand-1.
   pub record Pages-told (t : ℕ) (img : List ℕ) (number pages : ℕ) : Type 0 where
@@ -167,3 +182,8 @@ pub record Turned-back : Type 0 where
   pub of-audit :
       (img scratch : List ℕ)
       → Exactly (judge-cases img (audit-cases (half-of img) Fewer-bits img scratch)) (index-audit img scratch .status)
+  -- "A rebuild keeps K, judges the target's length by it"
+  pub of-rebuild :
+      (source target scratch : List ℕ)
+      → Exactly (judge-cases source (rebuild-cases (half-of source) Fewer-bits source target scratch))
+      (index-rebuild source target scratch .status)

@@ -4,6 +4,7 @@ use mathlib.Core.Path.{_≡_, refl, ap, _∙_}
 use mathlib.Core.Logic.{_⊎_, inl, inr}
 use mathlib.Core.Bool.{Bool, true, false, cond, not, _&&_}
 use mathlib.Core.List.{List, [], _∷_}
+use native.Mathlib.Omega.{arith}
 use lib.Dec.{eqb}
 use lib.IntN.{ℤ}
 use lib.ListN.{length}
@@ -13,20 +14,24 @@ use Rattle.rule.specs.Time.{END, span-ok, value-ok, effect-end}
 use Rattle.rule.specs.Pairs.{none}
 use Rattle.rule.specs.Averages.{average}
 use Rattle.page.specs.Fit.{most-changes}
-use Rattle.image.specs.Images.{half-of, pages-in, length-ok, image-of}
+use Rattle.image.specs.Images.{half-of, pages-in, length-ok, image-of, image-bytes}
 use Rattle.image.specs.Sound.{sound}
 use Rattle.image.specs.Instant.{look-up}
+use Rattle.image.specs.Listing.{Run}
+use Rattle.tight.specs.Tight.{tight, too-small}
 use Rattle.steps.specs.Change.{lacks-pages}
 use Rattle.calls.specs.Changes.{Side, withdraws}
-use Rattle.calls.specs.Refusals.{first, borrowed, scratch-ok}
+use Rattle.calls.specs.Refusals.{first, borrowed, scratch-ok, cleared, scratch-after}
 use Rattle.calls.specs.Calls.{head, book-input-rows, book-status, book, instant-status, instant, average-at, audit-input-rows, audit}
-use Rattle.calls.specs.Calls.{Instant, listing}
-use Rattle.calls.specs.Index.{index-book, index-instant, index-average, index-listing, index-audit}
-use Rattle.calls.specs.Book.{Book, book-pair, listing-of}
-use Rattle.calls.specs.Demands.{fixed-status, As-the-book}
+use Rattle.calls.specs.Calls.{Instant, listing, full-runs, rebuilt-bytes, rebuild-status, rebuild}
+use Rattle.calls.specs.Index.{index-book, index-instant, index-average, index-listing, index-audit, index-rebuild}
+use Rattle.calls.specs.Book.{Book, book-pair, runs-of, listing-of}
+use Rattle.calls.specs.Demands.{fixed-status, rebuild-of, As-the-book}
 use Rattle.soundness.proofs.Sound.{sound-whole}
 use Rattle.answers.proofs.Sound.{sound-status, sound-pair, sound-listing}
-use Rattle.answers.proofs.Own.{Own, sound-own, own-book, own-instant, own-average, own-listing, own-audit}
+use Rattle.answers.proofs.Own.{Own, sound-own, own-book, own-instant, own-average, own-listing, own-audit, own-rebuild}
+use Rattle.answers.proofs.Tiles.{runs-of-same}
+use Rattle.answers.proofs.Full.{full-is}
 use Rattle.demands.proofs.Book.Runs.{listing-same}
 use Rattle.demands.proofs.Rows.{first-off, first-on}
 use Rattle.demands.proofs.Invariant.{Trace-invariant}
@@ -56,6 +61,17 @@ numbers b17 b11 b13 c22 c23 b24 e16 e21 e22 e23 = rw (e16, e21, e22, e23) (go b1
     go false false false false true x24 = inl refl
     go false false false false false true = inr (refl, refl)
     go false false false false false false = inl refl
+
+-- ---- a rebuild: neither do they
+
+rebuilding : {b16 b21 : Bool} (b17 c16 b24 : Bool) → b16 ≡ false → b21 ≡ false
+    → first ((16, b16) ∷ (17, b17) ∷ (21, b21) ∷ (16, c16) ∷ (24, b24) ∷ []) ≡ first ((17, b17) ∷ (16, c16) ∷ (24, b24) ∷ [])
+rebuilding {b16} {b21} b17 c16 b24 e16 e21 =
+    first-off 16 ((17, b17) ∷ (21, b21) ∷ (16, c16) ∷ (24, b24) ∷ []) e16 ∙ go b17
+  where
+    go : (x : Bool) → first ((17, x) ∷ (21, b21) ∷ (16, c16) ∷ (24, b24) ∷ []) ≡ first ((17, x) ∷ (16, c16) ∷ (24, b24) ∷ [])
+    go true = unfold first in refl
+    go false = unfold first in first-off 21 ((16, c16) ∷ (24, b24) ∷ []) e21
 
 -- ---- END, and what lies past it
 
@@ -125,6 +141,30 @@ module _ {half : ℕ} {img : List ℕ} {B : Book} (K : Trace-invariant half img 
       sound-listing half img (K .sound) a b out
       ∙ listing-same (λ t. instant half t img .pair) (book-pair B) a b out (λ t l h below. instant-is t below .1)
 
+  -- ---- a rebuild
+
+  runs-are : full-runs half img ≡ runs-of (book-pair B) 0 END
+  runs-are =
+      full-is half img (K .sound)
+      ∙ runs-of-same (λ t. look-up half img t .pair) (book-pair B) 0 END (omega arith) (λ t l g. K .pairs t g)
+
+  rebuild-is : (target scratch : List ℕ) → rebuild borrowed half img target scratch ≡ rebuild-of half (pages-in half img) B target scratch
+  unfolding rebuild rebuild-status rebuilt-bytes rebuild-of audit-input-rows scratch-after
+  rebuild-is target scratch =
+      let n : ℕ = pages-in half target in
+      let short : Bool = not (scratch-ok borrowed (pages-in half img) scratch) in
+      let whole : Bool = not (length-ok half target) in
+      let number =
+      rebuilding short whole (too-small half n (length (full-runs half img))) passes-16 (ap not (K .sound))
+      ∙ ap (λ (rs : List Run). first ((17, short) ∷ (16, whole) ∷ (24, too-small half n (length rs)) ∷ [])) runs-are in
+      let early = first-off 16 ((17, short) ∷ []) passes-16 in
+      λ i.
+      record {
+        status = number i;
+        target = cond (eqb (number i) 0) (image-bytes half (tight half n (K .kind i) (K .window i) (K .changes i) (runs-are i))) target;
+        scratch = cond (eqb (early i) 0) (cleared borrowed (pages-in half img) scratch) scratch;
+      }
+
   -- ---- all of them, by the capacity that the image names
 
   abbrev o : Own half img
@@ -152,6 +192,10 @@ module _ {half : ℕ} {img : List ℕ} {B : Book} (K : Trace-invariant half img 
       → index-audit img scratch .status ≡ first ((17, not (scratch-ok borrowed (pages-in (half-of img) img) scratch)) ∷ [])
   audit-told scratch = rw (own-audit o scratch, o .named .is) (audit-is scratch)
 
+  rebuild-told : (target scratch : List ℕ)
+      → index-rebuild img target scratch ≡ rebuild-of (half-of img) (pages-in (half-of img) img) B target scratch
+  rebuild-told target scratch = rw (o .named .is) (own-rebuild o target scratch ∙ rebuild-is target scratch)
+
   pub as-the-book : As-the-book img B
   as-the-book =
       record {
@@ -162,4 +206,5 @@ module _ {half : ℕ} {img : List ℕ} {B : Book} (K : Trace-invariant half img 
         listings = listing-told;
         audits = audit-told;
         bookings = booking-told;
+        rebuilds = rebuild-told;
       }

@@ -12,7 +12,7 @@ use Rattle.calls.specs.Calls.{Instant, head}
 use Rattle.calls.specs.Index.{index-instant, index-listing}
 use Rattle.calls.specs.Book.{Book, book-of, book-pair}
 use Rattle.calls.specs.Aggregate.{aggregate}
-use Rattle.calls.specs.Trace.{Trace, formatted, formatted-before, extended, Throughout}
+use Rattle.calls.specs.Trace.{Trace, formatted, formatted-before, extended, rebuilt, Throughout}
 use Rattle.calls.specs.Demands.{Demand-2, Demand-3-list, Same-changes, Headed, The-demands}
 use Rattle.calls.proofs.Tables.{turned-back}
 use Rattle.calls.proofs.Steps.{steps}
@@ -24,6 +24,7 @@ use Rattle.demands.proofs.Book.Aggregates.{book-aggregate, aggregate-li
 use Rattle.demands.proofs.Book.Listings.{book-listing, listing-same-changes}
 use Rattle.demands.proofs.Agree.{instant-told, average-told, listing-told, as-the-book}
 use Rattle.demands.proofs.Accepted.{every-change}
+use Rattle.demands.proofs.Rebuilds.{rebuilds}
 use Rattle.demands.proofs.Traces.{Reached, reached, book-kind}
 
 module _ {kind window field : ℕ} where
@@ -66,6 +67,7 @@ unfolding Demand-3-list Throughout
 demand-3-list (formatted before p) = as-the-book (reached (formatted before p) .kept)
 demand-3-list (formatted-before before p) = as-the-book (reached (formatted-before before p) .kept)
 demand-3-list (extended T step) = (demand-3-list T, as-the-book (reached (extended T step) .kept))
+demand-3-list (rebuilt target scratch T p) = (demand-3-list T, as-the-book (reached (rebuilt target scratch T p) .kept))
 
 demand-3-two : {kind window field other-field : ℕ} {img other : List ℕ} {cs ds : List Change} → Reached kind window field img cs
     → Reached kind window other-field other ds → Same-changes cs ds
@@ -81,6 +83,7 @@ the-demands =
       demand-1 = demand-1;
       demand-1-statuses = turned-back;
       until-when = until-when;
+      rebuild-leaves = rebuilds;
       steps = steps;
       fed = book-fed;
       demand-2 = λ T. demand-2 (reached T);

@@ -13,17 +13,18 @@ use Rattle.page.specs.Layout.{capacity-ok, no-field, capacity-named}
 use Rattle.page.specs.Fit.{field-ok}
 use Rattle.page.proofs.Laws.Capacities.{capacity-is, own-field}
 use Rattle.image.specs.Images.{capacity-field}
-use Rattle.calls.specs.Calls.{Formatted, Booked, format}
-use Rattle.calls.specs.Index.{index-format, format-before}
+use Rattle.calls.specs.Calls.{Formatted, Booked, Rebuilt, format}
+use Rattle.calls.specs.Index.{index-format, format-before, index-rebuild}
 use Rattle.calls.specs.Book.{Book, empty-book, entered, entered-all, book-of}
-use Rattle.calls.specs.Trace.{Step, kept, accepted, Trace, formatted, formatted-before, extended}
-use Rattle.answers.proofs.Own.{sound-own, own-book}
+use Rattle.calls.specs.Trace.{Step, kept, accepted, Trace, formatted, formatted-before, extended, rebuilt}
+use Rattle.answers.proofs.Own.{sound-own, own-book, own-rebuild}
 use Rattle.demands.specs.Items.{Spanned, Sided}
 use Rattle.demands.proofs.Book.Books.{entered-all-append, book-is}
 use Rattle.demands.proofs.Book.Accepted.{passed}
 use Rattle.demands.proofs.Booked.{booked}
 use Rattle.demands.proofs.Invariant.{Trace-invariant, kept-accepted}
 use Rattle.demands.proofs.Fresh.{kept-format, field-format}
+use Rattle.demands.proofs.Rebuilt.{target-is, kept-rebuilt, field-rebuilt}
 
 pub record Reached (kind window field : ℕ) (img : List ℕ) (cs : List Change) : Type 0 where
   pub half : ℕ
@@ -91,6 +92,25 @@ module _ {kind window : ℕ} where
         sided = all-append (R .sided) (all-more {x = c} (ap (λ k. withdraws side && not (eqb k 1)) (sym same-kind) ∙ a .sided) all-none);
       }
 
+  -- the target of a rebuild goes on where its source is
+  reached-rebuilt : {field : ℕ} {source img left : List ℕ} {cs : List Change} (target scratch : List ℕ)
+      → Reached kind window field source cs
+      → record { status = 0; target = img; scratch = left } ≡ index-rebuild source target scratch
+      → Reached kind window (capacity-named field) img cs
+  reached-rebuilt {field} {source} {img} {left} {cs} target scratch R p =
+      let half = R .half in
+      let o = sound-own half source (R .kept .sound) in
+      let q = p ∙ own-rebuild o target scratch in
+      let n = sym (ap (λ (b : Rebuilt). b .status) q) in
+      let image = ap (λ (b : Rebuilt). b .target) q ∙ target-is half source target scratch n in
+      record {
+        half = half;
+        kept = subst⁻¹ (λ x. Trace-invariant half x (book-of kind window cs)) image (kept-rebuilt half source target scratch n (R .kept));
+        field-is = ap capacity-field image ∙ field-rebuilt half source target scratch n ∙ ap capacity-named (R .field-is);
+        spanned = R .spanned;
+        sided = R .sided;
+      }
+
   pub reached : {field : ℕ} {img : List ℕ} {cs : List Change} → Trace kind window field img cs → Reached kind window field img cs
   reached (formatted {k} before p) =
       let a = accepted-capacity kind window k before p in
@@ -98,3 +118,4 @@ module _ {kind window : ℕ} where
   reached (formatted-before before p) =
       unfold format-before field-ok capacity-named capacity-ok in reached-format 12 kind window no-field before (omega arith) refl p
   reached (extended T step) = reached-step (reached T) step
+  reached (rebuilt target scratch T p) = reached-rebuilt target scratch (reached T) p
