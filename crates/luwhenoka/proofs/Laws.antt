@@ -6,3 +6,4 @@ pub mod Instants
 pub mod Averages
 pub mod Listings
 pub mod Audits
+pub mod Rebuilds

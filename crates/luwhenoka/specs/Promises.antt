@@ -6,7 +6,7 @@ use mathlib.Core.List.{List}
 use lib.IntN.{ℤ}
 use Rattle.rule.specs.Averages.{average}
 use Rattle.calls.specs.Changes.{Side}
-use Rattle.calls.specs.Index.{index-format, index-book, index-instant, index-average, index-listing, index-audit}
+use Rattle.calls.specs.Index.{index-format, index-book, index-instant, index-average, index-listing, index-audit, index-rebuild}
 use Rattle.luwhenoka.specs.declared.InstantAnswer.{InstantAnswer}
 use Rattle.luwhenoka.specs.declared.AverageAnswer.{AverageAnswer}
 use Rattle.luwhenoka.specs.declared.ListingAnswer.{ListingAnswer}
@@ -39,3 +39,8 @@ Lists a b img out r after = listing-answer r after ≡ index-listing a b img out
 -- audit, with the scratch before and after
 abbrev pub Audits : List ℕ → List ℕ → ℕ → List ℕ → Type 0
 Audits img scratch r after = record { status = r; scratch = after } ≡ index-audit img scratch
+
+-- rebuild of a source, with target and scratch before and after
+abbrev pub Rebuilds : List ℕ → List ℕ → List ℕ → ℕ → List ℕ → List ℕ → Type 0
+Rebuilds source target scratch r after left =
+    record { status = r; target = after; scratch = left } ≡ index-rebuild source target scratch

@@ -17,7 +17,7 @@ ghost use Rattle.luwhenoka.specs.Promises.{Audits};
 
 // 0 exactly for an image that is sound by half the capacity. The order is 16, 17, 21. The pages are counted and not marked, so
 // the scratch is only cleared.
-fn audit(half: usize, img: &[u8], scratch: &mut [u8]) -> u32
+pub(crate) fn audit(half: usize, img: &[u8], scratch: &mut [u8]) -> u32
     requires { ⌜ (2 ≤ half) × (half ≤ 12) ⌝ }
     ensures { λ r. ⌜ record { status = r; scratch = now (scratch .exit) }
         ≡ audit borrowed half (now (img .entry)) (now (scratch .entry)) ⌝ }

@@ -1,6 +1,6 @@
-// The calls of document 01, as C and Rust get them: numbers, byte slices, and small structs of numbers by value. Each takes
-// anything, and its contract says the status returned, the answer, and every byte of what was lent. A call on an image reads
-// the capacity of its pages first (document 02, (xi)), and goes on by half of it.
+// The calls of document 01, and document 02's rebuild, as C and Rust get them: numbers, byte slices, and small structs of numbers by value.
+// Each takes anything, and its contract says the status returned, the answer, and every byte of what was lent. A call on an image reads the
+// capacity of its pages first (document 02, (xi)), and goes on by half of it.
 pub mod audits;
 pub mod averages;
 pub mod bookings;
@@ -8,6 +8,7 @@ pub mod formats;
 pub mod instants;
 mod judge;
 pub mod listings;
+pub mod rebuilds;
 
 // Half the capacity that an image names, or the status that turns a call back before.
 pub(crate) enum Judged {

@@ -8,7 +8,7 @@ use Rattle.fields.specs.Bytes.{Bytes}
 use Rattle.image.specs.Images.{half-of, pages-in}
 use Rattle.calls.specs.Changes.{Side}
 use Rattle.calls.specs.Calls.{Booked, Instant, Averaged, Audited}
-use Rattle.calls.specs.Index.{index-book, index-instant, index-average, index-listing, index-audit}
+use Rattle.calls.specs.Index.{index-book, index-instant, index-average, index-listing, index-audit, index-rebuild}
 use Rattle.calls.specs.Accepted.{Accepted-change}
 use Rattle.calls.specs.Trace.{Step, change-made}
 use Rattle.calls.specs.Book.{book-of}
@@ -21,7 +21,7 @@ use Rattle.luwhenoka.specs.declared.AverageAnswer.{AverageAnswer}
 use Rattle.luwhenoka.specs.declared.ListingAnswer.{ListingAnswer}
 use Rattle.luwhenoka.specs.Answers.{pair-of, average-answer, listing-answer}
 use Rattle.promises.specs.Changes.{Every-change-promised}
-use Rattle.promises.specs.AfterLists.{After-lists, Instant-as, Average-as, Listing-as, Audit-as, Booking-as}
+use Rattle.promises.specs.AfterLists.{After-lists, Instant-as, Average-as, Listing-as, Audit-as, Booking-as, Rebuild-as}
 use Rattle.promises.proofs.Changes.{every-change-promised}
 
 pub instant-as : (t : ℕ) (img : List ℕ) (r : InstantAnswer)
@@ -67,6 +67,12 @@ booking-as side v s e img scratch r after left p kind window field cs T =
     (n ≡ fixed-status (pages-in (half-of img) img) side v s e scratch (book-of kind window cs))
     ⊎ ((fixed-status (pages-in (half-of img) img) side v s e scratch (book-of kind window cs) ≡ 0) × (n ≡ 24)))
     (ap (λ (b : Booked). b .status) p) (as-the-book (reached T .kept) .bookings side v s e scratch)
+
+pub rebuild-as : (source target scratch : List ℕ) (r : ℕ) (after left : List ℕ)
+    → record { status = r; target = after; scratch = left } ≡ index-rebuild source target scratch
+    → After-lists source (Rebuild-as source target scratch r after left)
+unfolding After-lists Rebuild-as
+rebuild-as source target scratch r after left p kind window field cs T = p ∙ as-the-book (reached T .kept) .rebuilds target scratch
 
 -- what a booking does is a step, leaves what every accepted change does, and answers as the book says
 pub booking-promised : (side : Side) (v : ℤ) (s e : ℕ) (img scratch : List ℕ) (r : ℕ) (after left : List ℕ) → Bytes img

@@ -7,7 +7,8 @@ use Rattle.promises.proofs.Changes.{every-change-promised}
 use Rattle.promises.proofs.SameAnswers.{same-answers}
 use Rattle.promises.proofs.Until.{until-promised}
 use Rattle.promises.proofs.Rounding.{rounding-promised}
-use Rattle.promises.proofs.Header.{header-runs, header-scratch}
+use Rattle.promises.proofs.Rebuilt.{rebuild-promised}
+use Rattle.promises.proofs.Header.{header-runs, header-scratch, header-target}
 
 pub demands-met : Demands-met
 demands-met =
@@ -19,6 +20,8 @@ demands-met =
       same-answers = same-answers;
       until-promised = until-promised;
       rounding-promised = rounding-promised;
+      rebuild-promised = rebuild-promised;
       header-runs = header-runs;
       header-scratch = header-scratch;
+      header-target = header-target;
     }

@@ -1,20 +1,23 @@
 -- The header's promises follow from what is proved of every listing and of every scratch. Assumes nothing.
-use Prim.Native.Nat.{ℕ, _*_, _-_, _≤_}
+use Prim.Native.Nat.{ℕ, suc, _+_, _*_, _-_, _/_, _≤_, _<_}
 use mathlib.Core.Path.{sym, ap, _∙_}
 use mathlib.Core.Logic.{_≢_}
 use mathlib.Core.List.{List}
+use native.Mathlib.Nat.{div-add-mod', mod-lt, suc-mul, mul-le-mul-right}
 use native.Mathlib.Omega.{arith}
+use native.Mathlib.Decide.{decLe}
 use lib.ListN.{length}
-use Rattle.page.specs.Layout.{capacity}
+use Rattle.page.specs.Layout.{capacity, page-size}
 use Rattle.image.specs.Images.{half-of, pages-in}
-use Rattle.calls.specs.Calls.{Booked, Listed, Audited, listing}
+use Rattle.calls.specs.Calls.{Booked, Listed, Audited, Rebuilt, listing}
 use Rattle.calls.specs.Index.{index-listing}
 use Rattle.calls.specs.Scratch.{Bit-per-page}
 use Rattle.calls.proofs.Judged.{by-judge, judge-not}
 use Rattle.calls.proofs.Scratch.{bit-per-page}
 use Rattle.answers.proofs.Few.{few-runs}
+use Rattle.demands.proofs.Rebuilds.{rebuilds}
 use Rattle.luwhenoka.specs.Answers.{listing-answer}
-use Rattle.promises.specs.Header.{Header-runs, Header-scratch}
+use Rattle.promises.specs.Header.{Header-runs, Header-scratch, Header-target}
 
 -- as many as fit in the pages of an image
 abbrev most : List ℕ → ℕ
@@ -50,4 +53,27 @@ header-scratch =
       booking = λ side v s e img scratch r after left p enough z.
           bits .enough-booking side v s e img scratch enough (sym (ap (λ (b : Booked). b .status) p) ∙ z);
       audit = λ img scratch r left p enough z. bits .enough-audit img scratch enough (sym (ap (λ (a : Audited). a .status) p) ∙ z);
+      rebuild = λ source target scratch r after left p enough z.
+          bits .enough-rebuild source target scratch enough (sym (ap (λ (b : Rebuilt). b .status) p) ∙ z);
+    }
+
+-- a longer image has no fewer pages
+pages-rise : (size a b : ℕ) → 1 ≤ size → a ≤ b → a / size ≤ b / size
+pages-rise size a b some le = go (decLe (a / size) (b / size))
+  where
+    go : Dec (a / size ≤ b / size) → a / size ≤ b / size
+    go (yes h) = h
+    go (no h) =
+        let more : suc (b / size) * size ≤ a / size * size = mul-le-mul-right size (omega arith) in
+        absurd (omega (arith, more, suc-mul (b / size) size, div-add-mod' a size, div-add-mod' b size, mod-lt b some))
+
+pub header-target : Header-target
+unfolding pages-in
+header-target =
+    record {
+      enough = λ source target scratch r after left p room z.
+          omega (arith, room, rebuilds .as-the-source source target scratch (sym (ap (λ (b : Rebuilt). b .status) p) ∙ z) .0);
+      as-long = λ source target scratch r after left p long z.
+          let k = rebuilds .as-the-source source target scratch (sym (ap (λ (b : Rebuilt). b .status) p) ∙ z) in
+          omega (arith, k .0, k .1, pages-rise (page-size (half-of source)) (length source) (length target) (omega arith) long);
     }

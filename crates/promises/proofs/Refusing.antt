@@ -9,8 +9,8 @@ use Rattle.rule.specs.declared.Pair.{Pair}
 use Rattle.rule.specs.declared.Average.{Average}
 use Rattle.rule.specs.declared.Average.the-variants.{Hundredths, Nothing, Beyond}
 use Rattle.calls.specs.Changes.{entering}
-use Rattle.calls.specs.Calls.{Formatted, Booked, Listed, Audited}
-use Rattle.calls.specs.Index.{index-average}
+use Rattle.calls.specs.Calls.{Formatted, Booked, Listed, Audited, Rebuilt}
+use Rattle.calls.specs.Index.{index-average, index-audit}
 use Rattle.calls.specs.Scratch.{Scratch-left}
 use Rattle.calls.specs.Demands.{Demand-1}
 use Rattle.answers.proofs.Demand.{demand-1}
@@ -86,4 +86,13 @@ refusing =
           λ img scratch r left p.
           subst⁻¹ (λ (a : Audited). Scratch-left img scratch (a .status) (a .scratch)) p
           (d1 .of-scratch entering (pos 0) 0 0 img scratch .1);
+      of-rebuild =
+          λ source target scratch r after left p. (
+            λ d.
+                ap (λ (b : Rebuilt). b .target) p
+                ∙ d1 .of-rebuild source target scratch (λ z. d (ap (λ (b : Rebuilt). b .status) p ∙ z)),
+            subst⁻¹ (Scratch-left source scratch (index-audit source scratch .status))
+                (ap (λ (b : Rebuilt). b .scratch) p ∙ d1 .of-rebuild-scratch source target scratch)
+                (d1 .of-scratch entering (pos 0) 0 0 source scratch .1),
+          );
     }

@@ -1,10 +1,10 @@
 -- The functions for C refuse by the numbers of document 01's tables: they return what the definitions return. Assumes nothing.
 use mathlib.Core.Path.{ap, subst⁻¹}
 use Rattle.image.specs.Images.{half-of}
-use Rattle.calls.specs.Calls.{Formatted, Booked, Listed, Audited}
+use Rattle.calls.specs.Calls.{Formatted, Booked, Listed, Audited, Rebuilt}
 use Rattle.calls.specs.Index.{index-instant}
 use Rattle.calls.specs.Tables.{Exactly, Fewer-bits, format-cases, judge-cases}
-use Rattle.calls.specs.Tables.{book-cases, instant-cases, listing-cases, audit-cases, Pages-told, Turned-back}
+use Rattle.calls.specs.Tables.{book-cases, instant-cases, listing-cases, audit-cases, rebuild-cases, Pages-told, Turned-back}
 use Rattle.calls.proofs.Tables.{turned-back}
 use Rattle.luwhenoka.specs.Answers.{listing-answer}
 use Rattle.promises.specs.Tables.{By-status}
@@ -42,4 +42,8 @@ by-status =
           λ img scratch r left p.
           subst⁻¹ (Exactly (judge-cases img (audit-cases (half-of img) Fewer-bits img scratch))) (ap (λ (a : Audited). a .status) p)
           (rows .of-audit img scratch);
+      of-rebuild =
+          λ source target scratch r after left p.
+          subst⁻¹ (Exactly (judge-cases source (rebuild-cases (half-of source) Fewer-bits source target scratch)))
+          (ap (λ (b : Rebuilt). b .status) p) (rows .of-rebuild source target scratch);
     }

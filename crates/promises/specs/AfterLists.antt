@@ -14,7 +14,7 @@ use Rattle.calls.specs.Refusals.{first, borrowed, scratch-ok}
 use Rattle.calls.specs.Changes.{Side, Change}
 use Rattle.calls.specs.Book.{Book, book-of, book-pair, listing-of}
 use Rattle.calls.specs.Trace.{Trace}
-use Rattle.calls.specs.Demands.{fixed-status}
+use Rattle.calls.specs.Demands.{fixed-status, rebuild-of}
 use Rattle.luwhenoka.specs.declared.InstantAnswer.{InstantAnswer}
 use Rattle.luwhenoka.specs.declared.AverageAnswer.{AverageAnswer}
 use Rattle.luwhenoka.specs.declared.ListingAnswer.{ListingAnswer}
@@ -47,3 +47,8 @@ unfoldable pub Booking-as : Side → ℤ → ℕ → ℕ → List ℕ → List �
 Booking-as side v s e img scratch r B =
     let fixed = fixed-status (pages-in (half-of img) img) side v s e scratch B in
     (r ≡ fixed) ⊎ ((fixed ≡ 0) × (r ≡ 24))
+
+-- a rebuild all that the book says: its status, and every byte of target and scratch
+unfoldable pub Rebuild-as : List ℕ → List ℕ → List ℕ → ℕ → List ℕ → List ℕ → Book → Type 0
+Rebuild-as source target scratch r after left B =
+    record { status = r; target = after; scratch = left } ≡ rebuild-of (half-of source) (pages-in (half-of source) source) B target scratch

@@ -11,7 +11,8 @@ use Rattle.promises.specs.Changes.{Every-change-promised}
 use Rattle.promises.specs.SameAnswers.{Same-answers}
 use Rattle.promises.specs.Until.{Until-promised}
 use Rattle.promises.specs.Rounding.{Rounding-promised}
-use Rattle.promises.specs.Header.{Header-runs, Header-scratch}
+use Rattle.promises.specs.Rebuilt.{Rebuild-promised}
+use Rattle.promises.specs.Header.{Header-runs, Header-scratch, Header-target}
 
 pub record Demands-met : Type 0 where
   pub demands : The-demands
@@ -21,5 +22,7 @@ pub record Demands-met : Type 0 where
   pub same-answers : Same-answers
   pub until-promised : Until-promised
   pub rounding-promised : Rounding-promised
+  pub rebuild-promised : Rebuild-promised
   pub header-runs : Header-runs
   pub header-scratch : Header-scratch
+  pub header-target : Header-target

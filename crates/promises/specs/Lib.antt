@@ -6,4 +6,5 @@ pub mod Header
 pub mod AfterLists
 pub mod Until
 pub mod Rounding
+pub mod Rebuilt
 pub mod Demands

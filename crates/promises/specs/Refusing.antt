@@ -7,11 +7,12 @@ use lib.IntN.{ℤ, pos}
 use Rattle.image.specs.Images.{half-of}
 use Rattle.calls.specs.Changes.{Side}
 use Rattle.calls.specs.Calls.{head}
+use Rattle.calls.specs.Index.{index-audit}
 use Rattle.calls.specs.Scratch.{Scratch-left}
 use Rattle.luwhenoka.specs.declared.InstantAnswer.{InstantAnswer}
 use Rattle.luwhenoka.specs.declared.AverageAnswer.{AverageAnswer}
 use Rattle.luwhenoka.specs.declared.ListingAnswer.{ListingAnswer}
-use Rattle.luwhenoka.specs.Promises.{Formats, Books, Answers, Averages, Lists, Audits}
+use Rattle.luwhenoka.specs.Promises.{Formats, Books, Answers, Averages, Lists, Audits, Rebuilds}
 
 -- "A refusal returns its number and zeros (instant: the pages read too). Image and output keep their bytes; scratch is untouched at 16
 -- and 17, also at 11 and 13, else its n bytes are 0." Document 02, (xi): at a bad capacity too; (vi): its n bytes are those borrowed. That
@@ -34,3 +35,8 @@ pub record Refusing : Type 0 where
       (a b : ℕ) (img out : List ℕ) (r : ListingAnswer) (after : List ℕ) → Lists a b img out r after → r .status ≢ 0
       → (after ≡ out) × (r .runs ≡ 0)
   pub of-audit : (img scratch : List ℕ) (r : ℕ) (left : List ℕ) → Audits img scratch r left → Scratch-left img scratch r left
+  -- document 02, (iii): the target keeps its bytes, and the scratch is left as an audit of the source leaves it, whatever turns the call
+  -- back behind that: "then 16 of the target (scratch 0)"
+  pub of-rebuild :
+      (source target scratch : List ℕ) (r : ℕ) (after left : List ℕ) → Rebuilds source target scratch r after left
+      → (r ≢ 0 → after ≡ target) × Scratch-left source scratch (index-audit source scratch .status) left

@@ -5,11 +5,11 @@ use lib.IntN.{ℤ}
 use Rattle.calls.specs.Changes.{Side}
 use Rattle.image.specs.Images.{half-of}
 use Rattle.calls.specs.Tables.{Exactly, Fewer-bits, format-cases, judge-cases}
-use Rattle.calls.specs.Tables.{book-cases, instant-cases, listing-cases, audit-cases, Pages-told}
+use Rattle.calls.specs.Tables.{book-cases, instant-cases, listing-cases, audit-cases, rebuild-cases, Pages-told}
 use Rattle.luwhenoka.specs.declared.InstantAnswer.{InstantAnswer}
 use Rattle.luwhenoka.specs.declared.AverageAnswer.{AverageAnswer}
 use Rattle.luwhenoka.specs.declared.ListingAnswer.{ListingAnswer}
-use Rattle.luwhenoka.specs.Promises.{Formats, Books, Answers, Averages, Lists, Audits}
+use Rattle.luwhenoka.specs.Promises.{Formats, Books, Answers, Averages, Lists, Audits, Rebuilds}
 
 -- The status that a call returned is r exactly where r's row turns it back and none ahead of it does, 0 exactly where none does; and an
 -- instant tells the pages that it looked at.
@@ -31,3 +31,6 @@ pub record By-status : Type 0 where
   pub of-audit :
       (img scratch : List ℕ) (r : ℕ) (left : List ℕ) → Audits img scratch r left
       → Exactly (judge-cases img (audit-cases (half-of img) Fewer-bits img scratch)) r
+  pub of-rebuild :
+      (source target scratch : List ℕ) (r : ℕ) (after left : List ℕ) → Rebuilds source target scratch r after left
+      → Exactly (judge-cases source (rebuild-cases (half-of source) Fewer-bits source target scratch)) r

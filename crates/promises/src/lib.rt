@@ -13,6 +13,7 @@ use luwhenoka::bookings::luw_withdraw;
 use luwhenoka::formats::luw_format;
 use luwhenoka::instants::luw_instant;
 use luwhenoka::listings::luw_listing;
+use luwhenoka::rebuilds::luw_rebuild;
 ghost use mathlib.Core.Path.{_≡_};
 ghost use mathlib.Core.Logic.{_≢_};
 ghost use mathlib.Core.List.{[]};
@@ -22,8 +23,10 @@ ghost use Rattle.image.specs.Images.{half-of};
 ghost use Rattle.calls.specs.Index as calls;
 ghost use Rattle.calls.specs.Accepted.{Accepted-change};
 ghost use Rattle.calls.specs.Trace.{Step, Trace, change-made};
+ghost use Rattle.calls.specs.Rebuild.{Rebuilt-from};
 ghost use Rattle.luwhenoka.specs.Answers.{average-answer};
-ghost use Rattle.promises.specs.AfterLists.{After-lists, Instant-as, Average-as, Listing-as, Audit-as, Booking-as};
+ghost use Rattle.promises.specs.AfterLists.{After-lists, Instant-as, Average-as, Listing-as, Audit-as, Booking-as, Rebuild-as};
+ghost use Rattle.promises.specs.Rebuilt.{Goes-on};
 
 // A format that returns 0 begins a list, and a refused one keeps the image.
 pub fn format(img: &mut [u8], kind: u32, window: u32, capacity: u32) -> u32
@@ -97,6 +100,20 @@ pub fn average_at(img: &[u8], t: u32) -> AverageAnswer
     ensures { λ r. ⌜ After-lists (now (img .entry)) (Average-as t r) ⌝ }
 {
     luw_average(img, t)
+}
+
+// A rebuild keeps its source. If it returns 0, the target goes on with the source's list; if it is refused, with its own.
+pub fn rebuild(source: &[u8], target: &mut [u8], scratch: &mut [u8]) -> u32
+    ensures { λ r. ⌜ record { status = r; target = now (target .exit); scratch = now (scratch .exit) }
+        ≡ calls.index-rebuild (now (source .entry)) (now (target .entry)) (now (scratch .entry)) ⌝ }
+    ensures { λ r. ⌜ Step (now (source .entry)) [] (now (source .exit)) ⌝ }
+    ensures { λ r. ⌜ (r ≡ 0 → Goes-on (now (source .entry)) (now (target .exit))) ⌝ }
+    ensures { λ r. ⌜ (r ≢ 0 → Step (now (target .entry)) [] (now (target .exit))) ⌝ }
+    ensures { λ r. ⌜ (r ≡ 0 → Rebuilt-from (now (source .entry)) (now (target .entry)) (now (target .exit))) ⌝ }
+    ensures { λ r. ⌜ After-lists (now (source .entry)) (Rebuild-as (now (source .entry)) (now (target .entry)) (now (scratch .entry)) r
+        (now (target .exit)) (now (scratch .exit))) ⌝ }
+{
+    luw_rebuild(source, target, scratch)
 }
 
 // An average without an image is no step of a list.

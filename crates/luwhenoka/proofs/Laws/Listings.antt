@@ -9,9 +9,10 @@ use native.Mathlib.Omega.{arith}
 use borrow.Author.Tests.{lt-ltb, le-ltb, le-leb}
 use Rattle.rule.specs.Time.{END, span-ok}
 use Rattle.image.specs.Images.{length-ok}
-use Rattle.image.specs.Listing.{Run, Walked, walk-over, join}
+use Rattle.image.specs.Listing.{Run, walk-over}
 use Rattle.listing.specs.declared.RunCount.the-variants.{Runs, Unfit}
 use Rattle.listing.specs.Walks.{count}
+use Rattle.listing.proofs.Laws.Counts.{counted-runs, not-counted}
 use Rattle.calls.specs.Refusals.{first}
 use Rattle.calls.specs.Calls.{Listed, head-ok, runs-over, too-short, written, listing-status, listing}
 
@@ -21,26 +22,6 @@ use Rattle.calls.specs.Calls.{Listed, head-ok, runs-over, too-short, written, l
 pub record Counted-as (half : ℕ) (img : List ℕ) (a b n : ℕ) : Type 0 where
   pub fit : walk-over half img a b .fit ≡ true
   pub status : n ≡ length (runs-over half a b img)
-
-counted-runs : (w : Walked) {n : ℕ} → Runs n ≡ count w → (w .fit ≡ true) × (n ≡ length (join (w .runs)))
-unfolding count
-counted-runs w {n} = go (w .fit)
-  where
-    go : (b : Bool) → Runs n ≡ cond b (Runs (length (join (w .runs)))) Unfit → (b ≡ true) × (n ≡ length (join (w .runs)))
-    go true e = (refl, cc)
-    go false e =
-        let z : _≡_ {A = ℕ} 0 1 = cc in
-        absurd (omega arith)
-
-not-counted : (w : Walked) → Unfit ≡ count w → w .fit ≡ false
-unfolding count
-not-counted w = go (w .fit)
-  where
-    go : (b : Bool) → Unfit ≡ cond b (Runs (length (join (w .runs)))) Unfit → b ≡ false
-    go true e =
-        let z : _≡_ {A = ℕ} 0 1 = cc in
-        absurd (omega arith)
-    go false e = refl
 
 module _ (half : ℕ) (img : List ℕ) (a b : ℕ) where
   pub counted : {n : ℕ} → Runs n ≡ count (walk-over half img a b) → Counted-as half img a b n

@@ -1,0 +1,16 @@
+-- `Sizes`: how many pages and levels. `Slots`: a page that is made slot by slot. `Patches`: writes in front of another, and what stands in
+-- front of one. `Pieces`: pieces of one size, written one after the other, forwards and backwards. `Pages`: the pages of a level as such
+-- pieces.
+pub mod Sizes
+pub mod Slots
+pub mod Patches
+pub mod Pieces
+pub mod Pages
+pub mod Leaves
+pub mod Uppers
+pub mod Coded
+pub mod Sized
+pub mod Tree
+pub mod Runs
+pub mod Images
+pub mod Targets

@@ -1,0 +1,84 @@
+-- Things of one size one behind another, and the start that a page shows. Assumes nothing.
+use Prim.Native.Nat.{ℕ, zero, suc, _+_, _-_, _*_, _≤_, _<_}
+use mathlib.Core.Path.{_≡_, sym, ap, _∙_}
+use mathlib.Core.List.{List, [], _++_, append-assoc}
+use native.Mathlib.Nat.{add-zero, add-comm, mul-zero, mul-suc}
+use native.Mathlib.Omega.{arith}
+use lib.ListN.{length, length-append, getD, take, drop}
+use lib.Seq.{length-take-le}
+use Rattle.lists.specs.Lists.{listed, concat-map, All, all-none, all-more}
+use Rattle.lists.proofs.All.{all-append}
+use Rattle.fields.specs.Bytes.{part, patch, unused}
+use Rattle.fields.specs.Numbers.{u32-bytes}
+use Rattle.fields.proofs.Laws.Parts.{part-middle, part-append-right}
+use Rattle.fields.proofs.Laws.Offsets.{u32}
+use Rattle.fields.proofs.Laws.Tests.{length-unused}
+use Rattle.page.specs.declared.Entry.{Entry}
+use Rattle.page.specs.Entries.{at, no-entry}
+use Rattle.page.specs.Layout.{capacity, page-size, start-at, entry-bytes, tree-bytes}
+use Rattle.page.proofs.Laws.Concat.{part-joined}
+use Rattle.page.proofs.Laws.Entries.{start-bytes, length-start-bytes}
+use Rattle.page.proofs.Laws.Trees.{bytes-tree, length-tree}
+
+-- ---- things of one size one behind another (these belong in `lists` and `fields`)
+
+pub all-listed : {A : Type 0} {Q : A → Type 0} (n : ℕ) (g : ℕ → A) → ((i : ℕ) → i < n → Q (g i)) → All Q (listed n g)
+unfolding listed
+all-listed zero g each = all-none
+all-listed (suc n) g each = all-append (all-listed n g (λ i l. each i (omega arith))) (all-more (each n (omega arith)) all-none)
+
+module _ {A : Type 0} (b : A → List ℕ) (k : ℕ) where
+  abbrev pub Sized : A → Type 0
+  Sized x = length (b x) ≡ k
+
+  pub length-sized : {xs : List A} → All Sized xs → length (concat-map b xs) ≡ k * length xs
+  unfolding concat-map
+  length-sized all-none = sym (mul-zero k)
+  length-sized (all-more {x} {xs} q r) =
+      length-append (b x) (concat-map b xs) ∙ (λ j. q j + length-sized r j) ∙ add-comm k (k * length xs) ∙ sym (mul-suc k (length xs))
+
+  part-sized : {xs : List A} (ys : List ℕ) (d : A) (i : ℕ) → All Sized xs → i < length xs
+      → part (concat-map b xs ++ ys) (k * i) k ≡ b (getD xs i d)
+  unfolding concat-map
+  part-sized ys d i all-none h = absurd (omega arith)
+  part-sized ys d zero (all-more {x} {xs} q r) h =
+      ap (λ l. part l (k * 0) k) (append-assoc (b x) (concat-map b xs) ys)
+      ∙ part-middle [] (b x) (concat-map b xs ++ ys) (k * 0) k (sym (mul-zero k)) q
+  part-sized ys d (suc i) (all-more {x} {xs} q r) h =
+      let e : k * suc i ≡ length (b x) + k * i = mul-suc k i ∙ add-comm (k * i) k ∙ ap (λ n. n + k * i) (sym q) in
+      ap (λ l. part l (k * suc i) k) (append-assoc (b x) (concat-map b xs) ys)
+      ∙ ap (λ o. part (b x ++ (concat-map b xs ++ ys)) o k) e
+      ∙ part-append-right (b x) (concat-map b xs ++ ys) (k * i) k
+      ∙ part-sized ys d i r (omega arith)
+
+  -- written from offset k on
+  pub patched-sized : {xs : List A} (s : List ℕ) (d : A) (i : ℕ) → All Sized xs → i < length xs → k ≤ length s
+      → part (patch s k (concat-map b xs)) (k * suc i) k ≡ b (getD xs i d)
+  unfolding patch
+  patched-sized {xs} s d i all h room =
+      let l : length (take k s) ≡ k = length-take-le k s room in
+      let e : k * suc i ≡ length (take k s) + k * i = mul-suc k i ∙ add-comm (k * i) k ∙ ap (λ n. n + k * i) (sym l) in
+      let rest : List ℕ = drop (k + length (concat-map b xs)) s in
+      ap (λ o. part (take k s ++ (concat-map b xs ++ rest)) o k) e
+      ∙ part-append-right (take k s) (concat-map b xs ++ rest) (k * i) k
+      ∙ part-sized rest d i all h
+
+-- ---- the start of a page's first entry
+
+module _ (half level : ℕ) (es : List Entry) where
+  pub first-start : 1 ≤ half → 1 ≤ length es → length es ≤ capacity half
+      → u32-bytes (start-at (tree-bytes half level es) 0) ≡ u32-bytes (at es 0 .start)
+  unfolding start-at tree-bytes
+  first-start some one within =
+      let s : List ℕ = tree-bytes half level es in
+      let top : List ℕ = u32-bytes level ++ (u32-bytes (length es) ++ unused 24) in
+      let past : ℕ = capacity half - length es in
+      let rest : List ℕ = unused (4 * past) ++ (concat-map entry-bytes es ++ unused (16 * past)) in
+      let l : length top ≡ 32 = simp (length-append, u32 .length-bytes, length-unused) in
+      let n : length s ≡ page-size half = length-tree half level es within in
+      let whole : s ≡ top ++ (concat-map start-bytes es ++ rest) = simp append-assoc in
+      u32 .bytes-at s 32 (bytes-tree half level es) (omega arith)
+      ∙ ap (λ t. part t 32 4) whole
+      ∙ ap (λ o. part (top ++ (concat-map start-bytes es ++ rest)) o 4) (sym l ∙ sym (add-zero (length top)))
+      ∙ part-append-right top (concat-map start-bytes es ++ rest) 0 4
+      ∙ part-joined start-bytes 4 length-start-bytes es rest no-entry 0 one

@@ -1,0 +1,97 @@
+-- The ways out where a target is filled: a sound source has a fit head, fit pages and a run. Assumes nothing.
+use Prim.Native.Nat.{ℕ, suc, _-_, _≤_, _<_}
+use mathlib.Core.Path.{_≡_, refl, sym, ap, _∙_}
+use mathlib.Core.Bool.{true, false, cond, not, false≢true}
+use mathlib.Core.List.{List}
+use native.Mathlib.Omega.{arith}
+use lib.ListN.{length}
+use borrow.Author.Tests.{lt-ltb, le-ltb}
+use Rattle.rule.specs.declared.Pair.{Pair}
+use Rattle.rule.specs.Time.{END}
+use Rattle.page.specs.declared.Head.{Head}
+use Rattle.image.specs.Images.{pages-in, length-ok, image-bytes}
+use Rattle.image.specs.Sound.{sound}
+use Rattle.image.specs.Instant.{look-up}
+use Rattle.image.specs.Listing.{walk-over}
+use Rattle.tight.specs.Tight.{pages-used, tight, too-small}
+use Rattle.access.specs.declared.HeadCheck.the-variants.{Unfit}
+use Rattle.access.specs.Access.{Open-image, head-check}
+use Rattle.access.proofs.Laws.{shut}
+use Rattle.listing.specs.declared.RunCount.the-variants as counted
+use Rattle.listing.specs.declared.RunCount.the-variants.{Runs}
+use Rattle.listing.specs.Walks.{count}
+use Rattle.listing.proofs.Laws.Counts.{counted-runs, not-counted}
+use Rattle.calls.specs.Calls.{head, head-ok, runs-over, full-runs, rebuilt-bytes}
+use Rattle.calls.specs.Book.{runs-after, runs-of}
+use Rattle.answers.proofs.Sound.{sound-head, sound-walk}
+use Rattle.answers.proofs.Full.{full-is}
+use Rattle.rebuild.specs.Rebuild.{all-runs, Rebuildable, Fills}
+
+module _ (half : ℕ) (source : List ℕ) (fits : sound half source ≡ true) where
+  -- neither test turns it back
+  pub not-shut : Unfit ≡ head-check half source → ⊥
+  not-shut e = false≢true (sym (shut half source e) ∙ unfold head-ok in sound-head half source fits)
+
+  pub not-unfit : counted.Unfit ≡ count (walk-over half source 0 END) → ⊥
+  not-unfit e = false≢true (sym (not-counted (walk-over half source 0 END) e) ∙ sound-walk half source fits 0 END)
+
+  some-run : 1 ≤ length (full-runs half source)
+  unfolding runs-of
+  some-run =
+      let f : ℕ → Pair = λ t. look-up half source t .pair in
+      let e : length (full-runs half source) ≡ suc (length (runs-after f 0 (END - suc 0))) = ap length (full-is half source fits) in
+      omega (arith, e)
+
+  module _ (m : ℕ) (told : Runs m ≡ count (walk-over half source 0 END)) where
+    pub told-runs : m ≡ length (full-runs half source)
+    unfolding full-runs runs-over
+    told-runs = counted-runs (walk-over half source 0 END) told .1
+
+    pub some-told : 1 ≤ m
+    some-told = omega (arith, told-runs, some-run)
+
+    -- too few pages: nothing is written
+    pub fills-not : (target : List ℕ) → pages-in half target ≤ pages-used half m → Fills half source target false target
+    unfolding too-small
+    fills-not target few =
+        let e : pages-used half m ≡ pages-used half (length (full-runs half source)) = ap (pages-used half) told-runs in
+        record {
+          told =
+              sym (ap not (lt-ltb (pages-in half target) (suc (pages-used half (length (full-runs half source)))) (omega (arith, few, e))));
+          leaves = refl;
+        }
+
+    module _ (target : List ℕ) (room : pages-used half m < pages-in half target) where
+      pub rebuildable : {h : Head} → 2 ≤ half → half ≤ 12 → Open-image half source h → length-ok half target ≡ true
+          → Rebuildable half source h target m
+      unfolding full-runs runs-over too-small
+      rebuildable two twelve o whole =
+          record {
+            half-least = two;
+            half-most = twelve;
+            opened = o;
+            fit = sound-walk half source fits 0 END;
+            counted = told-runs;
+            some = some-told;
+            whole = whole;
+            room = le-ltb (pages-in half target) (suc (pages-used half m)) (omega arith);
+          }
+
+      pub fills : {h : Head} {left : List ℕ} → Open-image half source h
+          → left ≡ image-bytes half (tight half (pages-in half target) (h .kind) (h .window) (h .changes) (all-runs half source))
+          → Fills half source target true left
+      unfolding rebuilt-bytes head full-runs runs-over too-small
+      fills o e =
+          let same : pages-used half m ≡ pages-used half (length (full-runs half source)) = ap (pages-used half) told-runs in
+          record {
+            told =
+                sym
+                (ap not
+                (le-ltb (pages-in half target) (suc (pages-used half (length (full-runs half source)))) (omega (arith, room, same))));
+            leaves =
+                e
+                ∙ ap
+                (λ (h : Head).
+                image-bytes half (tight half (pages-in half target) (h .kind) (h .window) (h .changes) (all-runs half source)))
+                (o .shown);
+          }

@@ -1,0 +1,86 @@
+-- `rebuild::images::write_tight` meets its contract: the runs at the front, the tree, head and unused bytes are the tight image. Assumes
+-- nothing.
+use Prim.Native.Nat.{suc, _*_, _-_, _/_}
+use mathlib.Core.Path.{_≡_, ap, _∙_}
+use native.Mathlib.Omega.{arith}
+use lib.ListN.{length}
+use Rattle.fields.proofs.Laws.Digits.{bytes-of}
+use Rattle.page.specs.Layout.{page-size}
+use Rattle.image.specs.Images.{pages-in}
+use Rattle.tight.specs.Tight.{pages-used}
+use Rattle.rebuild.specs.Levels.{tight-head}
+use Rattle.rebuild.specs.Rebuild.{all-runs}
+use Rattle.rebuild.proofs.Laws.Images.{Enough, enough, tight-written}
+use Rattle.rebuild.proofs.images.write_tight.Statement.{statement}
+use Rattle.rebuild.proofs.images.write_tight.Tie as tie
+
+-- the call's start, as the runs had been written, the tree, the pages counted and the head made
+abbrev from-runs : tie.After-write-runs → tie.Start
+from-runs c = c .before .before .before .before
+
+abbrev from-tree : tie.After-write-tree → tie.After-write-runs
+from-tree c = c .before .before .before .before
+
+abbrev from-count : tie.After-page-count → tie.After-write-tree
+from-count c = c .before .before .before .before
+
+abbrev start : tie.After-page-count → tie.Start
+start c = from-runs (from-tree (from-count c))
+
+target-enough : (c : tie.Start) → Enough (c .args .half) (c .args .runs) (c .args .target .now)
+target-enough c =
+    enough (c .args .half) (c .args .runs) (c .args .target .now) (omega arith) (c .pre .some) (c .pre .whole) (c .pre .room)
+
+write-runs-requires : tie.Need-write-runs-requires
+write-runs-requires c κs =
+    let begun = c .before .before .before in
+    let pre = begun .pre in
+    ((omega arith, pre .half-most, pre .opened), (pre .fit, omega (arith, target-enough begun)))
+
+-- the pages of the target are as many as before
+pages-told : (c : tie.After-page-count) → c .page-count .result ≡ pages-in (start c .args .half) (start c .args .target .now)
+unfolding pages-in
+pages-told c =
+    let args = start c .args in
+    let l : length (from-count c .write-tree .last .1 .0) ≡ length (args .target .now) = omega arith in
+    c .page-count .ensures ∙ ap (λ k. k / page-size (args .half)) l
+
+head-is : (c : tie.After-tight-head)
+    → c .tight-head .result
+    ≡ tight-head (start (c .before .before) .args .half)
+    (pages-in (start (c .before .before) .args .half) (start (c .before .before) .args .target .now))
+    (start (c .before .before) .args .runs) (start (c .before .before) .args .h)
+head-is c =
+    let args = start (c .before .before) .args in
+    c .tight-head .ensures ∙ ap (λ n. tight-head (args .half) n (args .runs) (args .h)) (pages-told (c .before .before))
+
+write-ends-requires : tie.Need-write-ends-requires
+unfolding tight-head
+write-ends-requires c κs =
+    let begun = start (c .before .before) in
+    let args = begun .args in
+    let mark : c .tight-head .result .mark ≡ suc (pages-used (args .half) (args .runs)) = ap (λ h. h .mark) (head-is c) in
+    omega (arith, target-enough begun, ap (λ k. page-size (args .half) * k) mark)
+
+returns : tie.Need-returns
+returns c =
+    let ended = c .before .before in
+    let head = ended .before in
+    let tree = from-count (head .before .before) in
+    let runs = from-tree tree in
+    let begun = from-runs runs in
+    let args = begun .args in
+    let pre = begun .pre in
+    let s = args .target .now in
+    let z = target-enough begun in
+    tight-written (args .half) (pages-in (args .half) s) (args .runs) (all-runs (args .half) (args .source .now)) (args .h)
+    (pre .half-least) (pre .some) (pre .counted) s (z .size) (z .room) (z .runs)
+    (bytes-of (runs .write-runs .last .1 .1 .1 .1 .1 .0) (tree .before .before .slice-known2 .given)) (omega arith) (omega arith)
+    (head-is head) (runs .write-runs .ensures) (tree .write-tree .ensures) (ended .write-ends .ensures)
+
+pub write-tight-spec : {M : Type 1} → statement M
+write-tight-spec =
+    tie.close
+    (tie.spec write-runs-requires (λ c κs. omega (arith, target-enough (from-runs (c .before .before .before)))) (λ c κs. omega arith)
+    (λ c. omega (arith, pages-told c, target-enough (start c))) (λ c κs. omega (arith, target-enough (start (c .before))))
+    write-ends-requires (λ c. omega arith) returns)

@@ -1,0 +1,36 @@
+// The target of a rebuild: whether it has pages enough is known before its first byte is written.
+use crate::images::write_tight;
+use crate::sizes::tree_size;
+use access::HeadCheck;
+use access::heads::open_head;
+use access::lengths::page_count;
+use listing::RunCount;
+use listing::passes::count_runs;
+use rule::limits::END;
+ghost use mathlib.Core.Path.{_≡_};
+ghost use mathlib.Core.Bool.{true};
+ghost use Prim.Native.Nat.{_≤_};
+ghost use Rattle.image.specs.Images.{length-ok};
+ghost use Rattle.image.specs.Sound.{sound};
+ghost use Rattle.rebuild.specs.Rebuild.{Fills};
+
+// Writes the tight image of a sound source over the target, if it has pages enough for it. A sound source has a fit head and fit pages, so
+// that the two tests of them turn nothing back.
+pub fn fill_target(half: usize, source: &[u8], target: &mut [u8]) -> bool
+    requires { ⌜ (2 ≤ half) × (half ≤ 12) ⌝ }
+    requires { ⌜ (sound half (now source) ≡ true) × (length-ok half (now target) ≡ true) ⌝ }
+    ensures { λ r. ⌜ Fills half (now (source .entry)) (now (target .entry)) r (now (target .exit)) ⌝ }
+{
+    let HeadCheck::Fit(h) = open_head(half, source) else {
+        return false;
+    };
+    let RunCount::Runs(runs) = count_runs(half, source, h, 0, END) else {
+        return false;
+    };
+    let size = tree_size(half, runs);
+    if page_count(half, target) <= size.pages as usize {
+        return false;
+    }
+    write_tight(half, source, h, target, runs);
+    true
+}
