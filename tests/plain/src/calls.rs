@@ -11,6 +11,7 @@
 use std::collections::BTreeSet;
 
 use crate::capacity::Capacity;
+use crate::clean::{lay_clean, tree_pages};
 use crate::fit::{child_place, fit_head, fit_page, root_place, Place};
 use crate::page::{
     number_of_pages, read_capacity, read_head, write_head, write_page, Entry, Head, Page, HEAD_BYTES, UNUSED,
@@ -37,13 +38,14 @@ pub const SHORT_OUTPUT: u32 = 15;
 pub const BAD_LENGTH: u32 = 16;
 /// "scratch shorter than n bytes"; by document 02 "17 now means shorter than" [`scratch_bytes`] of n
 pub const SHORT_SCRATCH: u32 = 17;
-/// "instant, listing: a page it meets is unfit; audit, change: image not sound"; by document 02 also "a bad K"
+/// "instant, listing: a page it meets is unfit; audit, change: image not sound"; by document 02 also "a bad K", and of a rebuild "21 (not
+/// sound) of the source"
 pub const UNFIT: u32 = 21;
 /// "withdrawal, kind 2 or 3"
 pub const NO_WITHDRAWAL: u32 = 22;
 /// "changes is 1,000,000,000"
 pub const TOO_MANY_CHANGES: u32 = 23;
-/// "A and B together take more pages than chain and pages from the high mark hold"
+/// "A and B together take more pages than chain and pages from the high mark hold"; of a rebuild "24 if n is too small"
 pub const PAGES_LACK: u32 = 24;
 
 // ---------------------------------------------------------------- format
@@ -87,8 +89,8 @@ pub fn judge(image: &[u8]) -> Result<u32, u32> {
 
 // ---------------------------------------------------------------- the scratch
 
-/// How much of the scratch an audit or a change of n pages borrows. Document 02, (vi): "Audit, changes and the rebuild shall borrow
-/// n/8 bytes, rounded up, and give the same answers for every image; those bytes are 0 afterwards." These are meant from then on
+/// How much of the scratch an audit, a change or a rebuild of n pages borrows. Document 02, (vi): "Audit, changes and the rebuild shall
+/// borrow n/8 bytes, rounded up, and give the same answers for every image; those bytes are 0 afterwards." These are meant from then on
 /// where document 01 says n bytes of the scratch.
 pub fn scratch_bytes(n: u32) -> usize {
     n.div_ceil(8) as usize
@@ -374,4 +376,44 @@ pub fn audit(image: &[u8], scratch: &mut [u8]) -> u32 {
     } else {
         UNFIT
     }
+}
+
+// ---------------------------------------------------------------- rebuild
+
+/// Document 02, (iii): "A call reads one image and writes another of chosen n", the n of the target's length. "Errors: 16, 17, 21 (not
+/// sound) of the source first, then 16 of the target (scratch 0), 24 if n is too small."
+///
+/// By (xi) the source is judged by its K like every image; by (vi) the scratch is as long as the source's n asks. The judging and 17 leave
+/// the scratch untouched.
+pub fn rebuild(source: &[u8], target: &mut [u8], scratch: &mut [u8]) -> u32 {
+    let n = match judge(source) {
+        Ok(n) => n,
+        Err(status) => return status,
+    };
+    if scratch.len() < scratch_bytes(n) {
+        return SHORT_SCRATCH;
+    }
+    scratch[..scratch_bytes(n)].fill(0);
+    if !is_sound(source) {
+        return UNFIT;
+    }
+    rebuild_into(target, source)
+}
+
+/// 16 and 24 of the target, which keeps its bytes then, else the clean image. Of the target nothing is read: by (xi) a rebuild "keeps K,
+/// judges the target's length by it". The head takes a page besides those of the tree.
+fn rebuild_into(target: &mut [u8], sound_source: &[u8]) -> u32 {
+    let head = read_head(sound_source);
+    let Some(n) = number_of_pages(target.len(), head.capacity()) else { return BAD_LENGTH };
+    let pages = tree_pages(&full_listing(sound_source), head.capacity());
+    if 1 + pages.len() > n as usize {
+        return PAGES_LACK;
+    }
+    lay_clean(target, n, &head, &pages);
+    ACCEPTED
+}
+
+/// "The full listing is that over [0, END)."
+fn full_listing(sound: &[u8]) -> Vec<Run> {
+    runs_over(sound, Span { start: 0, end: END }).expect("every page of a sound image is fit")
 }

@@ -4,7 +4,7 @@ use crate::loads::{require_all, Load, Times};
 use crate::support::*;
 use plain::capacity::Capacity;
 use plain::making::{fresh_without_field, one_way, tree, Choice, Wanted};
-use plain::{audit, average, enter, format, instant, listing, withdraw, Pair, END};
+use plain::{audit, average, enter, format, instant, listing, rebuild, withdraw, Pair, END};
 
 /// Each sort of number that is no K.
 fn bad_capacities() -> Vec<u32> {
@@ -61,6 +61,11 @@ fn refused_by_all(image: &[u8], status: u32) {
         assert_eq!(audit(image, &mut lent), status);
         assert_eq!(enter(&mut copy, &mut lent, v, s, e), status);
         assert_eq!(withdraw(&mut copy, &mut lent, v, s, e), status);
+        for target in [0, 40, image.len(), 1_024] {
+            let mut target = vec![0x77; target];
+            assert_eq!(rebuild(image, &mut target, &mut lent), status);
+            assert!(target.iter().all(|&byte| byte == 0x77));
+        }
         assert!(lent.iter().all(|&byte| byte == 0x77) && copy == image);
     }
     assert!(!audit_both_ways(image));
@@ -80,6 +85,7 @@ fn images_under_40_bytes() {
                 assert_eq!(audit(&image, &mut lent), 16);
                 assert_eq!(enter(&mut image.clone(), &mut lent, 1, t, END), 16);
                 assert_eq!(withdraw(&mut image.clone(), &mut lent, 1, t, END), 16);
+                assert_eq!(rebuild(&image, &mut image.clone(), &mut lent), 16);
                 assert!(lent.iter().all(|&byte| byte == 9));
             }
         }

@@ -108,6 +108,16 @@ impl Load {
         self.rack.check_listing(a, b);
     }
 
+    /// So many changes, without a look at what they leave but the rack's own.
+    pub fn changes(&mut self, changes: usize) {
+        for _ in 0..changes {
+            if self.random.one_in(25) {
+                self.growing = !self.growing;
+            }
+            self.change();
+        }
+    }
+
     pub fn run(mut self, changes: usize) -> Tally {
         for _ in 0..changes {
             if self.random.one_in(25) {

@@ -16,6 +16,7 @@ mod marks;
 mod orders;
 mod paper;
 mod program;
+mod rebuild;
 mod refusals;
 mod scratch;
 mod search;

@@ -6,7 +6,7 @@
 
 use crate::support::*;
 use plain::making::fresh_without_field;
-use plain::{audit, enter, scratch_bytes, withdraw, END};
+use plain::{audit, enter, rebuild, scratch_bytes, withdraw, END};
 
 /// The calls that borrow a scratch.
 #[derive(Clone, Copy, Debug)]
@@ -14,15 +14,25 @@ enum Call {
     Audit,
     Enter(i64, u32, u32),
     Withdraw(i64, u32, u32),
+    /// Into as many pages as the image has, by the bytes of its K.
+    Rebuild,
 }
 
-const CALLS: [Call; 3] = [Call::Audit, Call::Enter(1, 7, 9), Call::Withdraw(1, 7, 9)];
+const CALLS: [Call; 4] = [Call::Audit, Call::Enter(1, 7, 9), Call::Withdraw(1, 7, 9), Call::Rebuild];
+
+/// Those that may write the image.
+const CHANGES_OF_IMAGE: [Call; 2] = [CALLS[1], CALLS[2]];
+
+fn changes(call: Call) -> bool {
+    matches!(call, Call::Enter(..) | Call::Withdraw(..))
+}
 
 fn ask(call: Call, image: &mut [u8], scratch: &mut [u8]) -> u32 {
     match call {
         Call::Audit => audit(image, scratch),
         Call::Enter(v, s, e) => enter(image, scratch, v, s, e),
         Call::Withdraw(v, s, e) => withdraw(image, scratch, v, s, e),
+        Call::Rebuild => rebuild(image, &mut vec![0x6B; image.len()], scratch),
     }
 }
 
@@ -47,7 +57,7 @@ fn clears(image: &[u8], call: Call, borrowed: usize, status: u32) {
         let (mut copy, mut scratch) = (image.to_vec(), lent(length));
         assert_eq!(ask(call, &mut copy, &mut scratch), status, "{call:?} with a scratch of {length}");
         assert!(is_cleared(&scratch, &lent(length), borrowed), "{call:?} leaves {scratch:?} for {n} pages");
-        assert!((copy != image) == (status == 0 && !matches!(call, Call::Audit)));
+        assert!((copy != image) == (status == 0 && changes(call)));
         assert!(left.is_none_or(|left| left == copy));
         left = Some(copy);
     }
@@ -122,10 +132,11 @@ fn statuses_that_clear() {
                 clears(&image, call, borrowed, 21);
             }
         }
-        for call in &CALLS[1..] {
-            clears(&full_of_changes, *call, borrowed, 23);
-            clears(&filled(k, n, 1), *call, borrowed, 24);
+        for call in CHANGES_OF_IMAGE {
+            clears(&full_of_changes, call, borrowed, 23);
+            clears(&filled(k, n, 1), call, borrowed, 24);
         }
+        clears(&full_of_changes, Call::Rebuild, borrowed, 0);
         for kind in [2, 3] {
             clears(&fresh_of(k, n, kind, 0), CALLS[2], borrowed, 22);
             clears(&filled(k, n, kind), CALLS[1], borrowed, 24);
@@ -225,7 +236,7 @@ fn the_same_answers() {
         }
         if judged(&image) == 0 {
             let s = random.below(120) as u32;
-            for call in [Call::Audit, Call::Enter(3, s, s + 9), Call::Withdraw(3, s, s + 9)] {
+            for call in [Call::Audit, Call::Enter(3, s, s + 9), Call::Withdraw(3, s, s + 9), Call::Rebuild] {
                 by_status[the_same_answer(&image, call, &mut random) as usize] += 1;
             }
         }
