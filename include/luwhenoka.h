@@ -12,15 +12,17 @@
  * Pages. The capacity K, the number of entries that a page has room for, is an even number from 4 to 24, and a page has
  * 32 + 20 x K bytes: 112 at K = 4, 512 at K = 24. It is set at format and stands in the image from then on, as a uint32_t in
  * bytes 36 to 39. Every other call reads it there. An older image, made before there was such a field, has FF in these four
- * bytes and is read as K = 24. A change keeps them as they are.
+ * bytes and is read as K = 24. A change keeps them as they are; a rebuild writes the number.
  *
  * Buffers. A buffer is a pointer and its length in bytes; no pointer need be aligned, and null is fine with length 0.
  * Buffers of one call must not overlap: nothing is promised where they do. Nor is it where somebody else writes one of them
  * during the call.
  *
  *   image     (32 + 20 x K) x n bytes for an n from 2 to 1,024 at every K, the pages of docs/FORMAT.md.
- *             Only luw_format, luw_enter and luw_withdraw write it.
- *   scratch   at least LUW_SCRATCH_BYTES(n), that is n / 8 bytes, rounded up, of any content: 128 are always enough.
+ *             Only luw_format, luw_enter and luw_withdraw write it. luw_rebuild has two: it reads its source and writes
+ *             its target, which may hold anything and has as many pages as the caller chooses.
+ *   scratch   at least LUW_SCRATCH_BYTES(n), that is n / 8 bytes, rounded up, of any content: 128 are always enough. For
+ *             luw_rebuild n is the source's.
  *   output    16 bytes for each run that a listing writes; any length.
  *
  * The status that a call returns. 0 is accepted; every other one is a refusal. Where several would apply, the first of this
@@ -31,6 +33,8 @@
  *   any other call    16 if the image is under 40 bytes long; then 21 if bytes 36 to 39 are neither all FF nor an even
  *   with an image     number from 4 to 24, with the scratch untouched and no page read; then 16, by the capacity that they
  *                     name, and on in the order above
+ *   luw_rebuild       all of that for the source, with 17 and 21; only then 16 of the target, by the source's capacity, and
+ *                     24
  *
  *   turned back by the input
  *     11  LUW_SPAN_EMPTY      span with s >= e, or a >= b                          enter, withdraw, listing
@@ -39,17 +43,19 @@
  *     14  LUW_FORMAT_RANGE    capacity, kind or window outside its range           format
  *     15  LUW_OUTPUT_SHORT    output shorter than the runs                         listing
  *     16  LUW_IMAGE_LENGTH    image length not (32 + 20 x K) x n for an n in range all but luw_average_of
- *     17  LUW_SCRATCH_SHORT   scratch shorter than LUW_SCRATCH_BYTES(n)            audit, enter, withdraw
+ *     17  LUW_SCRATCH_SHORT   scratch shorter than LUW_SCRATCH_BYTES(n)            audit, enter, withdraw, rebuild
  *   turned back by the state
  *     21  LUW_UNSOUND         the image's field for its capacity names none; else
  *                             instant, average, listing: a page met is unfit;
- *                             audit, enter, withdraw: the image is not sound
+ *                             audit, enter, withdraw: the image is not sound;
+ *                             rebuild: the source is not sound
  *     22  LUW_WITHDRAWAL_KIND the kind is 2 or 3                                   withdraw
  *     23  LUW_CHANGES_FULL    the index has had 1,000,000,000 changes              enter, withdraw
  *     24  LUW_PAGES_LACKING   the change takes more pages than are left            enter, withdraw
+ *                             the target has fewer pages than the runs take        rebuild
  *
- * A refusal returns its status with zeros for every answer (luw_instant: the pages read too), and image and output keep
- * their bytes. What becomes of the scratch is said at luw_audit and luw_enter.
+ * A refusal returns its status with zeros for every answer (luw_instant: the pages read too), and image, target and output
+ * keep their bytes. What becomes of the scratch is said at luw_audit, luw_enter and luw_rebuild.
  */
 #ifndef LUWHENOKA_H
 #define LUWHENOKA_H
@@ -226,6 +232,34 @@ uint32_t luw_enter(uint8_t *image, size_t image_length, uint8_t *scratch, size_t
  */
 uint32_t luw_withdraw(uint8_t *image, size_t image_length, uint8_t *scratch, size_t scratch_length,
                       int64_t v, uint32_t s, uint32_t e);
+
+/*
+ * Writes the index of the source into the target, as tight as it can be. Entries that no listing shows, pages that are half
+ * full and free ones pile up over many changes; none of them comes along. The target may have fewer pages than the source,
+ * as many or more.
+ *
+ * The target lists what the source lists, its instants have the source's sums and counts, and further changes do to its
+ * listing what they would have done to the source's. Kind, window, capacity and the number of changes are the source's. Its
+ * leaf entries are the runs of the full listing, so luw_instant's start and end are at first those of the run. Every byte
+ * of the target is written, whatever it held:
+ *
+ *   head     no free pages; the high mark behind the last page used; the capacity as a number, also if the source has FF
+ *   leaves   from page 1 on in the order of time, in the fewest pages that have room for the runs; all of them have as many
+ *            entries, or the first ones one more than the others
+ *   inner    behind the leaves each level in the same way, with pairs (0, 0); the root is the last page used
+ *   rest     FF
+ *
+ * So for m runs a target needs a page for its head, a page for each K runs, a page for each K of those, and so on up to a
+ * single one, each time rounded up. 24 tells that it has fewer. As many pages as the source has are always enough.
+ *
+ * Refusals: 16, 17, 21 of the source, and 21 for its capacity ahead of them; then 16 if the target isn't 2 to 1,024 pages
+ * of the source's capacity; then 24. There is no 23, since a rebuild is no change. The source always keeps its bytes, the
+ * target at every refusal. With n for the source's pages, the first LUW_SCRATCH_BYTES(n) bytes of the scratch are 0 after 0,
+ * after 21 where the capacity is good, after 16 of the target and after 24; any beyond keep theirs. At 16 and 17 of the
+ * source and at 21 for its capacity the scratch is untouched.
+ */
+uint32_t luw_rebuild(const uint8_t *source, size_t source_length, uint8_t *target, size_t target_length,
+                     uint8_t *scratch, size_t scratch_length);
 
 #ifdef __cplusplus
 }

@@ -2,10 +2,10 @@
 //!
 //! The index lives in an *image* of 2 to 1,024 pages that the caller lends. Any bytes may stand there: what is not a fit page
 //! is refused, and nothing is changed. A page has room for as many entries as its *capacity* says, an even number from 4 to
-//! 24, which is chosen at format and stands in the image from then on; [`page_bytes`] tells how long the pages are. Audits and
-//! changes borrow a *scratch* too, a bit for each page; [`scratch_bytes`] tells how many bytes that is. These are safe
-//! functions over the static library `libluwhenoka.a`, which is written and proved in Rattle; `include/luwhenoka.h` tells
-//! each call in full.
+//! 24, which is chosen at format and stands in the image from then on; [`page_bytes`] tells how long the pages are. Audits,
+//! changes and rebuilds borrow a *scratch* too, a bit for each page; [`scratch_bytes`] tells how many bytes that is. These are
+//! safe functions over the static library `libluwhenoka.a`, which is written and proved in Rattle; `include/luwhenoka.h`
+//! tells each call in full.
 //!
 //! ```
 //! use luwhenoka::{enter, format, instant, listing, page_bytes, runs, scratch_bytes, Kind, END};
@@ -51,8 +51,8 @@ pub const fn page_bytes(capacity: u32) -> usize {
     32 + 20 * capacity as usize
 }
 
-/// Bytes of scratch that [`audit`], [`enter`] and [`withdraw`] borrow for an image of so many pages: an eighth of their
-/// number, rounded up.
+/// Bytes of scratch that [`audit`], [`enter`] and [`withdraw`] borrow for an image of so many pages, and [`rebuild`] for a
+/// source of so many: an eighth of their number, rounded up.
 ///
 /// ```
 /// use luwhenoka::scratch_bytes;
@@ -327,4 +327,41 @@ pub fn enter(image: &mut [u8], scratch: &mut [u8], v: i64, s: u32, e: u32) -> Re
 /// ```
 pub fn withdraw(image: &mut [u8], scratch: &mut [u8], v: i64, s: u32, e: u32) -> Result<(), Refusal> {
     Refusal::result(raw::withdraw(image, scratch, v, s, e))
+}
+
+/// Writes the index of the source into the target, in the fewest pages that have room for its runs. The target may have fewer
+/// pages than the source, as many or more, and may hold anything: every byte of it is written. It lists what the source lists
+/// and takes further changes as the source would have; kind, window, capacity and the number of changes are the source's.
+/// Borrows the first [`scratch_bytes(n)`](scratch_bytes) bytes of the scratch, for a source of n pages; they are 0 afterwards,
+/// and any beyond keep theirs.
+///
+/// Refusals: of the source [`Unsound`](Refusal::Unsound) for a bad capacity, [`ImageLength`](Refusal::ImageLength),
+/// [`ScratchShort`](Refusal::ScratchShort), all three with the scratch untouched, and [`Unsound`](Refusal::Unsound) if it is
+/// not sound; then [`ImageLength`](Refusal::ImageLength) for a target that isn't 2 to 1,024 pages of the source's capacity, and
+/// [`PagesLacking`](Refusal::PagesLacking) for one that has too few. The target then keeps every byte. As many pages as the
+/// source has are always enough.
+///
+/// The capacity is written as a number: the target of an older source, with FF there, has 24.
+///
+/// ```
+/// use luwhenoka::{enter, format, instant, page_bytes, rebuild, scratch_bytes, withdraw, Kind, Refusal};
+///
+/// const PAGES: usize = 9;
+/// let (mut image, mut scratch) = ([0; PAGES * page_bytes(4)], [0; scratch_bytes(PAGES)]);
+/// format(&mut image, Kind::Totals, 0, 4)?;
+/// for s in [10, 20, 30, 40] {
+///     enter(&mut image, &mut scratch, 1, s, s + 5)?;
+/// }
+///
+/// // Nine runs are three leaves of three entries and a root over them; with the head that is five pages.
+/// let mut tight = [0; 5 * page_bytes(4)];
+/// assert_eq!(rebuild(&image, &mut tight[..4 * page_bytes(4)], &mut scratch), Err(Refusal::PagesLacking));
+/// rebuild(&image, &mut tight, &mut scratch)?;
+/// assert_eq!(instant(&tight, 42)?.sum, 1);
+/// withdraw(&mut tight, &mut scratch, 1, 40, 45)?; // it goes on where the source was
+/// assert_eq!(instant(&tight, 42)?.sum, 0);
+/// # Ok::<(), Refusal>(())
+/// ```
+pub fn rebuild(source: &[u8], target: &mut [u8], scratch: &mut [u8]) -> Result<(), Refusal> {
+    Refusal::result(raw::rebuild(source, target, scratch))
 }

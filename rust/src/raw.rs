@@ -39,6 +39,14 @@ pub mod ffi {
             s: u32,
             e: u32,
         ) -> u32;
+        pub fn luw_rebuild(
+            source: *const u8,
+            source_length: usize,
+            target: *mut u8,
+            target_length: usize,
+            scratch: *mut u8,
+            scratch_length: usize,
+        ) -> u32;
     }
 }
 
@@ -101,4 +109,10 @@ pub fn enter(image: &mut [u8], scratch: &mut [u8], v: i64, s: u32, e: u32) -> u3
 
 pub fn withdraw(image: &mut [u8], scratch: &mut [u8], v: i64, s: u32, e: u32) -> u32 {
     unsafe { ffi::luw_withdraw(image.as_mut_ptr(), image.len(), scratch.as_mut_ptr(), scratch.len(), v, s, e) }
+}
+
+pub fn rebuild(source: &[u8], target: &mut [u8], scratch: &mut [u8]) -> u32 {
+    let (source, source_length) = (source.as_ptr(), source.len());
+    let (target, target_length) = (target.as_mut_ptr(), target.len());
+    unsafe { ffi::luw_rebuild(source, source_length, target, target_length, scratch.as_mut_ptr(), scratch.len()) }
 }

@@ -3,11 +3,12 @@
 use std::error::Error;
 use std::fmt;
 
-/// Why a call was turned back. Image and output are as before.
+/// Why a call was turned back. Image and output are as before, and so is the target of a rebuild.
 ///
 /// Where several refusals apply, a call tells the first of 16, 17, 11 or 12, 13, 14, 21, 22, 23, 24, 15. Only the capacity is
 /// judged ahead of these, since the length is judged by it. A format tells 14 for its capacity first. Any other call tells 16
-/// for an image under 40 bytes, then 21 for an image that names no capacity, with the scratch untouched and no page read.
+/// for an image under 40 bytes, then 21 for an image that names no capacity, with the scratch untouched and no page read. A
+/// rebuild tells all of its source ahead of 16 for its target and 24.
 #[derive(Clone, Copy, PartialEq, Eq, Hash, Debug)]
 pub enum Refusal {
     /// 11: a span whose start is not below its end
@@ -22,18 +23,18 @@ pub enum Refusal {
     /// 15: an output shorter than the runs, 16 bytes each
     OutputShort,
     /// 16: an image length that isn't (32 + 20 × K) × n for an n from 2 to 1,024, where K is the capacity that format is
-    /// given and that any other call finds in the image
+    /// given and that any other call finds in the image; for the target of a rebuild K is the source's
     ImageLength,
-    /// 17: a scratch shorter than [`scratch_bytes(n)`](crate::scratch_bytes), for an image of n pages
+    /// 17: a scratch shorter than [`scratch_bytes(n)`](crate::scratch_bytes), for an image or a source of n pages
     ScratchShort,
     /// 21: the image names no capacity, neither by an even number from 4 to 24 nor by the FF of an older image; or a page
-    /// that was met is unfit; of an audit or a change, the image is not sound
+    /// that was met is unfit; of an audit or a change, the image is not sound, of a rebuild the source
     Unsound,
     /// 22: a withdrawal from an index of kind 2 or 3
     WithdrawalKind,
     /// 23: the index has had 1,000,000,000 changes
     ChangesFull,
-    /// 24: the change needs more pages than the image has left
+    /// 24: the change needs more pages than the image has left, or the rebuild more than the target has
     PagesLacking,
 }
 
@@ -107,7 +108,7 @@ impl fmt::Display for Refusal {
             Refusal::Unsound => "the image names no capacity, a page of it is unfit, or it is not sound",
             Refusal::WithdrawalKind => "an index of the greatest or least takes no withdrawal",
             Refusal::ChangesFull => "the index has had 1000000000 changes",
-            Refusal::PagesLacking => "the image lacks pages for the change",
+            Refusal::PagesLacking => "the image lacks pages for the change, or the target for the rebuild",
         })?;
         write!(f, " (refusal {})", self.status())
     }

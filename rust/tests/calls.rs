@@ -5,8 +5,8 @@ use std::collections::HashSet;
 use std::error::Error;
 
 use luwhenoka::{
-    audit, average, average_of, enter, format, instant, listing, page_bytes, raw, runs, scratch_bytes, withdraw,
-    Average, Instant, Kind, Refusal, Refused, Run, END, LEAST_CAPACITY, MOST_CAPACITY,
+    audit, average, average_of, enter, format, instant, listing, page_bytes, raw, rebuild, runs, scratch_bytes,
+    withdraw, Average, Instant, Kind, Refusal, Refused, Run, END, LEAST_CAPACITY, MOST_CAPACITY,
 };
 
 /// Where the capacity stands in the head.
@@ -159,8 +159,11 @@ fn the_capacity_is_judged_first() {
             assert_eq!(audit(image, &mut []), Err(Refusal::Unsound));
             assert_eq!(enter(image, &mut scratch, 1_000_001, 7, 7), Err(Refusal::Unsound));
             assert_eq!(withdraw(image, &mut scratch, 1, 7, 8), Err(Refusal::Unsound));
+            assert_eq!(rebuild(image, &mut output, &mut []), Err(Refusal::Unsound));
+            assert_eq!(rebuild(image, &mut output, &mut scratch), Err(Refusal::Unsound));
         }
         assert_eq!(audit(&image[..39], &mut scratch), Err(Refusal::ImageLength));
+        assert_eq!(rebuild(&image[..39], &mut output, &mut scratch), Err(Refusal::ImageLength));
         assert_eq!((image.clone(), scratch, output), (before, [5; 4], [5; 64]));
     }
     for capacity in capacities().filter(|capacity| *capacity != 24) {
@@ -344,6 +347,7 @@ fn audits_and_their_scratch() {
 /// these bytes are cleared.
 #[test]
 fn scratches_of_every_number_of_pages() {
+    let mut target = [0; 2 * page_bytes(LEAST_CAPACITY)];
     for pages in 2..=1_024 {
         let mut image = fresh_of(LEAST_CAPACITY, pages, Kind::Totals);
         let (before, borrowed) = (image.clone(), scratch_bytes(pages));
@@ -351,14 +355,146 @@ fn scratches_of_every_number_of_pages() {
         assert_eq!(audit(&image, &mut short), Err(Refusal::ScratchShort));
         assert_eq!(enter(&mut image, &mut short, 6, 10, 40), Err(Refusal::ScratchShort));
         assert_eq!(withdraw(&mut image, &mut short, 6, 10, 40), Err(Refusal::ScratchShort));
+        assert_eq!(rebuild(&image, &mut target, &mut short), Err(Refusal::ScratchShort));
         assert_eq!((image.clone(), short), (before, vec![5; borrowed - 1]));
         for length in [borrowed, borrowed + 1, pages] {
-            let (mut one, mut other, mut third) = (vec![5; length], vec![5; length], vec![5; length]);
-            assert_eq!(enter(&mut image, &mut one, 6, 10, 40), Ok(()));
-            assert_eq!(withdraw(&mut image, &mut other, 6, 10, 40), Ok(()));
-            assert_eq!(audit(&image, &mut third), Ok(()));
+            let mut lent = [(); 4].map(|_| vec![5; length]);
+            assert_eq!(enter(&mut image, &mut lent[0], 6, 10, 40), Ok(()));
+            assert_eq!(withdraw(&mut image, &mut lent[1], 6, 10, 40), Ok(()));
+            assert_eq!(audit(&image, &mut lent[2]), Ok(()));
+            assert_eq!(rebuild(&image, &mut target, &mut lent[3]), Ok(()));
             let cleared = [vec![0; borrowed], vec![5; length - borrowed]].concat();
-            assert_eq!([one, other, third], [cleared.clone(), cleared.clone(), cleared]);
+            assert!(lent.iter().all(|scratch| *scratch == cleared));
         }
     }
+}
+
+// ---------------------------------------------------------------- rebuild
+
+/// A number of the head, by its place there.
+fn head(image: &[u8], field: usize) -> u32 {
+    u32::from_le_bytes(image[4 * field..][..4].try_into().expect("4 bytes"))
+}
+
+fn full_listing(image: &[u8]) -> Vec<Run> {
+    let mut output = vec![0; 16 * 24 * 64];
+    let count = listing(image, 0, END, &mut output).expect("a sound image");
+    runs(&output, count).collect()
+}
+
+/// How many pages m runs take, with the head: level after level up to a single page.
+fn pages_for(m: usize, capacity: u32) -> usize {
+    let (mut entries, mut pages) = (m, 1);
+    loop {
+        entries = entries.div_ceil(capacity as usize);
+        pages += entries;
+        if entries == 1 {
+            return pages;
+        }
+    }
+}
+
+/// At every capacity and several heights: just enough pages are, one fewer aren't, and what comes out lists the same, is sound, and is
+/// the same bytes when it is rebuilt. The source keeps its bytes, and so does a target that is refused.
+#[test]
+fn rebuilds_list_what_their_source_lists() {
+    for (capacity, height) in capacities().flat_map(|capacity| (1..=3).map(move |height| (capacity, height))) {
+        let mut image = booked_up_to(capacity, height);
+        let mut scratch = [9; scratch_bytes(64)];
+        for i in (2..20).step_by(3) {
+            assert_eq!(withdraw(&mut image, &mut scratch, 1, 10 * i, 10 * i + 5), Ok(()));
+        }
+        let (before, listed) = (image.clone(), full_listing(&image));
+        let pages = pages_for(listed.len(), capacity);
+        let mut target = vec![0xA5; page_bytes(capacity) * (pages - 1)];
+        let refusal = if pages == 2 { Refusal::ImageLength } else { Refusal::PagesLacking };
+        assert_eq!(rebuild(&image, &mut target, &mut scratch), Err(refusal));
+        assert!(target.iter().all(|byte| *byte == 0xA5));
+
+        target.resize(page_bytes(capacity) * pages, 0xA5);
+        assert_eq!(rebuild(&image, &mut target, &mut scratch), Ok(()));
+        assert_eq!(image, before);
+        assert_eq!(full_listing(&target), listed);
+        assert_eq!(audit(&target, &mut scratch), Ok(()));
+        // n, the chain, the high mark; kind, window, changes and capacity are the source's.
+        assert_eq!([0, 3, 4, 5].map(|field| head(&target, field)), [pages as u32, 0, 0, pages as u32]);
+        assert_eq!(target[24..40], image[24..40]);
+
+        let mut again = vec![0x5A; target.len()];
+        assert_eq!(rebuild(&target, &mut again, &mut scratch), Ok(()));
+        assert_eq!(again, target);
+    }
+}
+
+/// Of an image with one run it is what a format leaves, but for the count of changes.
+#[test]
+fn one_run_is_rebuilt_as_formatted() {
+    for (capacity, kind) in capacities().zip([Kind::Totals, Kind::Greatest, Kind::Least].into_iter().cycle()) {
+        let mut image = fresh_of(capacity, 5, kind);
+        image[32] = 7;
+        for pages in [2, 5, 9] {
+            let mut target = vec![0xA5; page_bytes(capacity) * pages];
+            assert_eq!(rebuild(&image, &mut target, &mut [9; scratch_bytes(5)]), Ok(()));
+            let mut expected = fresh_of(capacity, pages, kind);
+            expected[32] = 7;
+            assert_eq!(target, expected);
+        }
+    }
+}
+
+/// The same changes on source and target give the same listings, also where the target was the smaller one.
+#[test]
+fn a_target_goes_on_as_its_source() {
+    let (mut image, mut scratch) = (booked_up_to(4, 4), [9; scratch_bytes(64)]);
+    let mut target = vec![0; page_bytes(4) * 40];
+    assert_eq!(rebuild(&image, &mut target, &mut scratch), Ok(()));
+    for i in 1..40 {
+        let (s, e) = (i * 37 % 150, i * 37 % 150 + 1 + i % 7);
+        for index in [&mut image[..], &mut target[..]] {
+            let done = if i % 3 == 0 { withdraw } else { enter };
+            assert_eq!(done(index, &mut scratch, i64::from(i % 5), s, e), Ok(()));
+        }
+        assert_eq!(full_listing(&image), full_listing(&target));
+    }
+    assert_eq!(audit(&target, &mut scratch), Ok(()));
+}
+
+/// The source's refusals come ahead of the target's, and the scratch is untouched up to the source's 17; a target of a wrong length
+/// clears it.
+#[test]
+fn rebuild_and_its_refusals() {
+    let image = booked_up_to(24, 2);
+    let mut worn = image.clone();
+    put(&mut worn, 1, 4, &[25]);
+    let (mut target, borrowed) = (vec![0xA5; 64 * 512], scratch_bytes(64));
+    let mut tried = |source: &[u8], target_length: usize, scratch_length: usize| {
+        let mut scratch = vec![5; scratch_length];
+        let refusal = rebuild(source, &mut target[..target_length], &mut scratch).err();
+        assert!(target.iter().all(|byte| *byte == 0xA5), "no byte of the target is written");
+        let cleared = scratch[..borrowed.min(scratch_length)].iter().all(|byte| *byte == 0);
+        assert!(scratch.iter().skip(borrowed).all(|byte| *byte == 5));
+        assert!(cleared || scratch.iter().all(|byte| *byte == 5));
+        (refusal, cleared)
+    };
+    assert_eq!(tried(&image[..39], 511, borrowed), (Some(Refusal::ImageLength), false));
+    assert_eq!(tried(&worn[..1_023], 511, borrowed), (Some(Refusal::ImageLength), false));
+    assert_eq!(tried(&worn, 511, borrowed - 1), (Some(Refusal::ScratchShort), false));
+    assert_eq!(tried(&worn, 511, borrowed + 2), (Some(Refusal::Unsound), true));
+    for length in [0, 511, 512, 1_023, 1_025, 448 * 2] {
+        assert_eq!(tried(&image, length, borrowed + 2), (Some(Refusal::ImageLength), true));
+    }
+    assert_eq!(tried(&image, 3 * 512, borrowed + 2), (Some(Refusal::PagesLacking), true));
+}
+
+/// No change is made, so that 1,000,000,000 of them are no reason to refuse it; and an older source has a target with 24.
+#[test]
+fn rebuilds_of_full_and_of_older_images() {
+    let mut image = leaf_of(&[(0, 0, 0), (10, 6, 1), (20, 6, 1), (40, 0, 0)]);
+    put(&mut image, 0, 32, &1_000_000_000u32.to_le_bytes());
+    put(&mut image, 0, CAPACITY_AT, &[0xFF; 4]);
+    let mut target = [0; 3 * 512];
+    assert_eq!(rebuild(&image, &mut target, &mut [9]), Ok(()));
+    assert_eq!((head(&target, 8), head(&target, 9)), (1_000_000_000, 24));
+    assert_eq!(instant(&target, 15), Ok(Instant { sum: 6, count: 1, pages: 1, start: 10, end: 40 }));
+    assert_eq!(enter(&mut target, &mut [9], 1, 10, 20), Err(Refusal::ChangesFull));
 }

@@ -319,6 +319,95 @@ static void polling(void) {
     printf("%" PRIu32 " seconds: %" PRIu32 " calls, %" PRIu32 " saved\n", seconds, calls, seconds - calls);
 }
 
+/* ---------------------------------------------------------------- after a season */
+
+#define SEASON_CAPACITY 8
+#define SEASON_PAGES 256
+#define FEWER_PAGES 12
+#define SEASON_PAGE LUW_PAGE_BYTES(SEASON_CAPACITY)
+
+/* How many bookings the season has, and how many of them are still live at its end. */
+#define SEASON_BOOKINGS 400
+#define SEASON_LIVE 20
+
+static uint8_t season[SEASON_PAGE * SEASON_PAGES], tight[SEASON_PAGE * FEWER_PAGES], season_scratch[LUW_SCRATCH_BYTES(SEASON_PAGES)];
+
+typedef uint32_t change(uint8_t *, size_t, uint8_t *, size_t, int64_t, uint32_t, uint32_t);
+
+/* Enters or withdraws the bookings from one number up to another; they come in no order of time. */
+static void season_changes(change *make, uint8_t *index, size_t bytes, uint32_t from, uint32_t to) {
+    for (uint32_t i = from; i < to; i++) {
+        uint32_t s = 10 + i * 7919 % 10007;
+        CHECK(make(index, bytes, season_scratch, sizeof season_scratch, 1 + i % 9, s, s + 8) == LUW_ACCEPTED);
+    }
+}
+
+/* The runs of the full listing in one of two outputs, and their number. */
+static uint8_t runs_of_season[LUW_RUN_BYTES * 64], runs_of_tight[LUW_RUN_BYTES * 64];
+
+static uint32_t list_all(const uint8_t *index, size_t bytes, uint8_t *runs) {
+    struct luw_listing_answer answer = luw_listing(index, bytes, 0, LUW_END, runs, sizeof runs_of_season);
+    CHECK(answer.status == LUW_ACCEPTED);
+    return answer.runs;
+}
+
+/* The pages in use are those below the high mark, without the free ones. */
+static void tell_pages(const char *name, const uint8_t *index, uint32_t runs) {
+    printf("%s: %" PRIu64 " of %" PRIu64 " pages used, height %" PRIu64 ", runs %" PRIu32 "\n", name,
+           get(index + 20, 4) - get(index + 16, 4), get(index, 4), get(index + 4, 4), runs);
+}
+
+/*
+ * Many bookings, most of them withdrawn again: what they leave behind takes pages. The rebuild has the same listing in a
+ * smaller image, which goes on in the first one's place.
+ */
+static void after_a_season(void) {
+    CHECK(luw_format(season, sizeof season, LUW_TOTALS, 0, SEASON_CAPACITY) == LUW_ACCEPTED);
+    season_changes(luw_enter, season, sizeof season, 0, SEASON_BOOKINGS);
+    season_changes(luw_withdraw, season, sizeof season, 0, SEASON_BOOKINGS - SEASON_LIVE);
+    uint32_t runs = list_all(season, sizeof season, runs_of_season);
+    tell_pages("after the season", season, runs);
+
+    memset(tight, 7, sizeof tight);
+    printf("into 4 pages: refused with %" PRIu32 "\n",
+           luw_rebuild(season, sizeof season, tight, 4 * SEASON_PAGE, season_scratch, sizeof season_scratch));
+    CHECK(all(tight, sizeof tight, 7));
+    CHECK(luw_rebuild(season, sizeof season, tight, sizeof tight, season_scratch, sizeof season_scratch) == LUW_ACCEPTED);
+    CHECK(list_all(tight, sizeof tight, runs_of_tight) == runs);
+    CHECK(memcmp(runs_of_season, runs_of_tight, LUW_RUN_BYTES * runs) == 0);
+    CHECK(luw_audit(tight, sizeof tight, season_scratch, sizeof season_scratch) == LUW_ACCEPTED);
+    tell_pages("rebuilt", tight, runs);
+
+    season_changes(luw_withdraw, tight, sizeof tight, SEASON_BOOKINGS - SEASON_LIVE, SEASON_BOOKINGS);
+    tell_pages("all withdrawn", tight, list_all(tight, sizeof tight, runs_of_tight));
+}
+
+/* What becomes of target and scratch at each refusal: the source's come first, and 16 of the target clears the scratch. */
+static void refused_rebuilds(void) {
+    static uint8_t target[sizeof image];
+    bookings_by_hand();
+    memset(scratch, 9, sizeof scratch);
+    memset(target, 7, sizeof target);
+    CHECK(luw_rebuild(image, 39, target, length, scratch, BORROWED) == LUW_IMAGE_LENGTH);
+    CHECK(luw_rebuild(image, length - 1, target, length, scratch, BORROWED) == LUW_IMAGE_LENGTH);
+    CHECK(luw_rebuild(image, length, target, length - 1, scratch, BORROWED - 1) == LUW_SCRATCH_SHORT);
+    CHECK(luw_rebuild(NULL, 0, NULL, 0, NULL, 0) == LUW_IMAGE_LENGTH);
+    CHECK(all(scratch, sizeof scratch, 9));
+    CHECK(luw_rebuild(image, length, target, length - 1, scratch, sizeof scratch) == LUW_IMAGE_LENGTH);
+    CHECK(all(scratch, BORROWED, 0) && all(scratch + BORROWED, 2, 9));
+    CHECK(luw_rebuild(image, length, NULL, 0, scratch, sizeof scratch) == LUW_IMAGE_LENGTH);
+    CHECK(luw_rebuild(image, length, target, 3 * page_bytes, scratch, sizeof scratch) == LUW_PAGES_LACKING);
+    put(2, 4, capacity + 1, 4);
+    CHECK(luw_rebuild(image, length, target, length - 1, scratch, sizeof scratch) == LUW_UNSOUND);
+    CHECK(all(target, sizeof target, 7));
+    /* 25 runs and 24 places in a page: leaves of 13 and 12 entries, where the bookings had left 12 and 13, and the root. */
+    bookings_by_hand();
+    CHECK(luw_rebuild(image, length, target, length, scratch, sizeof scratch) == LUW_ACCEPTED);
+    CHECK(get(target + page_bytes + 4, 4) == 13 && get(target + 2 * page_bytes + 4, 4) == 12);
+    CHECK(get(target + 3 * page_bytes, 4) == 1 && memcmp(target, image, page_bytes) == 0);
+    CHECK(holds(luw_instant(target, length, 62), 1, 1, 2, 60, 65));
+}
+
 /* ---------------------------------------------------------------- the scratch */
 
 /* A fresh image of any number of pages of 112 bytes, and a byte to lend for each. */
@@ -336,6 +425,7 @@ static void taken_with(size_t lent_length, size_t pages) {
     CHECK(luw_enter(fresh, fresh_length, lent, lent_length, 6, 10, 40) == LUW_ACCEPTED && cleared(borrowed));
     CHECK(luw_withdraw(fresh, fresh_length, lent, lent_length, 6, 10, 40) == LUW_ACCEPTED && cleared(borrowed));
     CHECK(luw_audit(fresh, fresh_length, lent, lent_length) == LUW_ACCEPTED && cleared(borrowed));
+    CHECK(luw_rebuild(fresh, fresh_length, image, 3 * 112, lent, lent_length) == LUW_ACCEPTED && cleared(borrowed));
 }
 
 /* A bit for each page is taken, and a byte less is turned back; of a byte for each page the rest keep what they held. */
@@ -347,6 +437,7 @@ static void scratches(void) {
         CHECK(luw_enter(fresh, fresh_length, lent, borrowed - 1, 6, 10, 40) == LUW_SCRATCH_SHORT);
         CHECK(luw_withdraw(fresh, fresh_length, lent, borrowed - 1, 6, 10, 40) == LUW_SCRATCH_SHORT);
         CHECK(luw_audit(fresh, fresh_length, lent, borrowed - 1) == LUW_SCRATCH_SHORT);
+        CHECK(luw_rebuild(fresh, fresh_length, image, 3 * 112, lent, borrowed - 1) == LUW_SCRATCH_SHORT);
         CHECK(all(lent, sizeof lent, 9));
         taken_with(borrowed, pages);
         taken_with(pages, pages);
@@ -376,7 +467,7 @@ static void other_capacities(void) {
     use_capacity(24);
 }
 
-/* An image from before the capacity was stored has FF in its place: it is one of 24, and a change keeps FF. */
+/* An image from before the capacity was stored has FF in its place: it is one of 24, a change keeps FF, a rebuild writes 24. */
 static void older_image(void) {
     bookings_by_hand();
     put(0, CAPACITY_AT, UINT32_MAX, 4);
@@ -387,7 +478,9 @@ static void older_image(void) {
     CHECK(holds(luw_instant(image, length, 121), 6, 2, 2, 120, 122));
     CHECK(luw_audit(image, length, scratch, BORROWED) == LUW_ACCEPTED);
     CHECK(get(image + 32, 4) == 13 && all(image + CAPACITY_AT, 4, 0xFF));
-    printf("FF for a capacity: read as 24, and kept by a change\n");
+    CHECK(luw_rebuild(image, length, fresh, length, scratch, BORROWED) == LUW_ACCEPTED);
+    CHECK(get(fresh + 32, 4) == 13 && get(fresh + CAPACITY_AT, 4) == 24);
+    printf("FF for a capacity: read as 24, kept by a change, and written as 24 by a rebuild\n");
 }
 
 /* Every call but format is turned back by the capacity or the length, whatever other faults there are. */
@@ -399,6 +492,8 @@ static void refused_by_capacity(uint32_t status, size_t image_length) {
     CHECK(luw_audit(image, image_length, scratch, BORROWED) == status);
     CHECK(luw_enter(image, image_length, scratch, BORROWED, LUW_MOST_VALUE + 1, 5, 5) == status);
     CHECK(luw_withdraw(image, image_length, scratch, BORROWED, 1, 5, 6) == status);
+    CHECK(luw_rebuild(image, image_length, fresh, length - 1, scratch, BORROWED - 1) == status);
+    CHECK(luw_rebuild(image, image_length, fresh, length, scratch, BORROWED) == status);
 }
 
 static void refused_capacities(void) {
@@ -432,6 +527,8 @@ int main(void) {
     changes();
     refused_changes();
     polling();
+    after_a_season();
+    refused_rebuilds();
     scratches();
     other_capacities();
     older_image();

@@ -25,9 +25,10 @@
 #define STACK (1 << 20)
 #define MARK 0xA5
 
-enum call { NOTHING, FORMAT, ENTER, INSTANT, AVERAGE, LISTING, AUDIT, WITHDRAW };
+enum call { NOTHING, FORMAT, ENTER, INSTANT, AVERAGE, LISTING, AUDIT, REBUILD, WITHDRAW };
 
-static const char *const names[] = {"nothing", "format", "enter", "instant", "average", "listing", "audit", "withdraw"};
+static const char *const names[] = {"nothing", "format", "enter",   "instant", "average",
+                                    "listing", "audit",  "rebuild", "withdraw"};
 
 /*
  * An image with value 1 on [10, 15), [20, 25) and so on. These bookings are entered one after the other, or stand in an image
@@ -45,7 +46,7 @@ static const struct load loads[] = {{24, 2000, 4, 0, 4096}, {4, 500, 9, 0, 8192}
 
 static const struct load *load;
 static unsigned char image[PAGES * LUW_PAGE_BYTES(LUW_MOST_CAPACITY)], scratch[LUW_SCRATCH_BYTES(PAGES)];
-static unsigned char output[(2 * MOST_BOOKINGS + 1) * LUW_RUN_BYTES];
+static unsigned char output[(2 * MOST_BOOKINGS + 1) * LUW_RUN_BYTES], target[sizeof image / 2];
 static size_t image_length;
 static int wrong;
 
@@ -143,6 +144,9 @@ static void *make(void *call) {
         break;
     case AUDIT:
         wrong |= luw_audit(image, image_length, scratch, sizeof scratch) != 0;
+        break;
+    case REBUILD:
+        wrong |= luw_rebuild(image, image_length, target, image_length / 2, scratch, sizeof scratch) != 0;
         break;
     case WITHDRAW:
         withdraw();
