@@ -2,7 +2,7 @@
 
 use crate::calls::{Answer, Call};
 use crate::comparer::Comparer;
-use crate::images::{capacity, instant_of, scratch_bytes};
+use crate::images::{capacity, instant_of, page_bytes, scratch_bytes};
 
 impl Comparer {
     /// With the K of the image at hand.
@@ -60,6 +60,20 @@ impl Comparer {
             2 => n + 1,
             _ => scratch_bytes(n),
         }
+    }
+
+    /// Of the image at hand into so many pages, which hold anything; the status.
+    pub fn rebuild(&mut self, pages: usize) -> u32 {
+        let scratch = self.enough_scratch();
+        let target = pages * page_bytes(self.image());
+        self.ask(Call::Rebuild, scratch, target).status
+    }
+
+    /// The same, and it goes on with the target, which has to be accepted.
+    pub fn rebuild_and_go_on(&mut self, pages: usize) {
+        assert_eq!(self.rebuild(pages), 0, "so many pages are enough");
+        let target = self.output().to_vec();
+        self.lend(&target);
     }
 
     // ------------------------------------------------------------ changes

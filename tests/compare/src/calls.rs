@@ -5,14 +5,39 @@ use plain::{Average, RecordedChange};
 
 #[derive(Clone, Copy, PartialEq, Eq, Debug)]
 pub enum Call {
-    Format { kind: u32, window: u32, capacity: u32 },
-    Instant { t: u32 },
-    Average { t: u32 },
-    AverageOf { kind: u32, sum: i64, count: i32 },
-    Listing { a: u32, b: u32 },
+    Format {
+        kind: u32,
+        window: u32,
+        capacity: u32,
+    },
+    Instant {
+        t: u32,
+    },
+    Average {
+        t: u32,
+    },
+    AverageOf {
+        kind: u32,
+        sum: i64,
+        count: i32,
+    },
+    Listing {
+        a: u32,
+        b: u32,
+    },
     Audit,
-    Enter { v: i64, s: u32, e: u32 },
-    Withdraw { v: i64, s: u32, e: u32 },
+    Enter {
+        v: i64,
+        s: u32,
+        e: u32,
+    },
+    Withdraw {
+        v: i64,
+        s: u32,
+        e: u32,
+    },
+    /// The image is the source, the output the target.
+    Rebuild,
 }
 
 /// Each call's name and each status that it can return: every one has to occur.
@@ -25,6 +50,7 @@ pub const NAMES: &[(&str, &[u32])] = &[
     ("audit", &[0, 16, 17, 21]),
     ("enter", &[0, 11, 13, 16, 17, 21, 23, 24]),
     ("withdraw", &[0, 11, 13, 16, 17, 21, 22, 23, 24]),
+    ("rebuild", &[0, 16, 17, 21, 24]),
 ];
 
 impl Call {
@@ -39,15 +65,13 @@ impl Call {
             Call::Audit => 5,
             Call::Enter { .. } => 6,
             Call::Withdraw { .. } => 7,
+            Call::Rebuild => 8,
         }
     }
 
     /// Whether it may write the image.
     pub fn writes(self) -> bool {
-        !matches!(
-            self,
-            Call::Instant { .. } | Call::Average { .. } | Call::AverageOf { .. } | Call::Listing { .. } | Call::Audit
-        )
+        matches!(self, Call::Format { .. } | Call::Enter { .. } | Call::Withdraw { .. })
     }
 }
 
@@ -122,6 +146,7 @@ fn without_steps(call: Call, lent: Lent) -> Answer {
             Answer { status, runs, ..Answer::default() }
         }
         Call::Audit => Answer::status(plain::audit(image, scratch)),
+        Call::Rebuild => Answer::status(plain::rebuild(image, output, scratch)),
         Call::Enter { .. } | Call::Withdraw { .. } => unreachable!("a change has steps"),
     }
 }
@@ -164,6 +189,9 @@ pub fn by_library(call: Call, lent: Lent, null: bool) -> Answer {
             }
             Call::Withdraw { v, s, e } => {
                 Answer::status(ffi::luw_withdraw(image, image_length, scratch, scratch_length, v, s, e))
+            }
+            Call::Rebuild => {
+                Answer::status(ffi::luw_rebuild(image, image_length, output, output_length, scratch, scratch_length))
             }
         }
     }

@@ -5,7 +5,7 @@ use crate::images::{head, CAPACITIES, CAPACITY};
 use crate::steps::{Change, WHAT};
 
 /// What is counted of calls at each K, behind [`WHAT`]: each has to occur.
-const OF_CALLS: [&str; 10] = [
+const OF_CALLS: [&str; 13] = [
     "formats",
     "changes accepted",
     "changes refused with 24",
@@ -16,6 +16,9 @@ const OF_CALLS: [&str; 10] = [
     "listings refused with 21",
     "audits of sound images",
     "audits refused with 21",
+    "rebuilds accepted",
+    "rebuilds refused with 24",
+    "rebuilds refused with 21",
 ];
 
 const ROWS: usize = WHAT.len() + OF_CALLS.len();
@@ -64,6 +67,9 @@ impl Capacities {
             (Call::Listing { .. }, 21) => 7,
             (Call::Audit, 0) => 8,
             (Call::Audit, 21) => 9,
+            (Call::Rebuild, 0) => 10,
+            (Call::Rebuild, 24) => 11,
+            (Call::Rebuild, 21) => 12,
             _ => return,
         };
         self.counts[column][WHAT.len() + row] += 1;

@@ -1,6 +1,7 @@
 //! One image, lent to the plain version and to the library alike; every call is done by both and compared: the status and
 //! the answer, and every byte of image, scratch and output, with the bytes around them. Of a change also the pages that it
-//! wrote, against those that its steps name; of an instant the pair, start and end, against the image and at other instants of its entry.
+//! wrote, against those that its steps name; of an instant the pair, start and end, against the image and at other instants of its
+//! entry; of a rebuild the target, against its source.
 
 use std::cell::Cell;
 use std::sync::Mutex;
@@ -11,6 +12,7 @@ use crate::calls::{by_library, by_plain, Answer, Call, Lent};
 use crate::guarded::Guarded;
 use crate::images::{leaf_entry_at, pages_of, pair_on_way};
 use crate::random::Random;
+use crate::rebuilds::{scratch_behind, Rebuild};
 use crate::steps::Change;
 use crate::tally::Tally;
 
@@ -35,6 +37,8 @@ pub struct Comparer {
     lent: Guarded,
     /// The image ahead of a call that writes it.
     before: Vec<u8>,
+    /// Scratch and target ahead of a rebuild.
+    before_rebuild: [Vec<u8>; 2],
     scratch: Vec<u8>,
     lent_scratch: Guarded,
     output: Vec<u8>,
@@ -56,6 +60,7 @@ impl Comparer {
             image: Vec::new(),
             lent: Guarded::new(),
             before: Vec::new(),
+            before_rebuild: [Vec::new(), Vec::new()],
             scratch: Vec::new(),
             lent_scratch: Guarded::new(),
             output: Vec::new(),
@@ -81,6 +86,11 @@ impl Comparer {
         &self.image
     }
 
+    /// What the last call left in its output; of a rebuild that is its target.
+    pub fn output(&self) -> &[u8] {
+        &self.output
+    }
+
     /// The pages of the image, by the K that it names.
     pub fn pages(&self) -> usize {
         pages_of(&self.image)
@@ -102,6 +112,22 @@ impl Comparer {
     /// Does a call both ways with a scratch and an output of these lengths and any content; the image goes on as the call
     /// left it. Ends the program at a difference.
     pub fn ask(&mut self, call: Call, scratch: usize, output: usize) -> Answer {
+        fill(&mut self.scratch, &mut self.lent_scratch, &self.noise, scratch, &mut self.random);
+        fill(&mut self.output, &mut self.lent_output, &self.noise, output, &mut self.random);
+        self.ask_filled(call)
+    }
+
+    /// The same with an output that holds these bytes.
+    pub fn ask_onto(&mut self, call: Call, scratch: usize, held: &[u8]) -> Answer {
+        fill(&mut self.scratch, &mut self.lent_scratch, &self.noise, scratch, &mut self.random);
+        self.output.clear();
+        self.output.extend_from_slice(held);
+        self.lent_output.fill(held, self.random.below(16));
+        self.ask_filled(call)
+    }
+
+    /// With the scratch and the output that are at hand.
+    fn ask_filled(&mut self, call: Call) -> Answer {
         self.position.call_number += 1;
         self.position.call = Some(call);
         POSITION.set(self.position);
@@ -109,8 +135,9 @@ impl Comparer {
             self.before.clear();
             self.before.extend_from_slice(&self.image);
         }
-        fill(&mut self.scratch, &mut self.lent_scratch, &self.noise, scratch, &mut self.random);
-        fill(&mut self.output, &mut self.lent_output, &self.noise, output, &mut self.random);
+        if call == Call::Rebuild {
+            self.before_rebuild = [self.scratch.clone(), self.output.clone()];
+        }
 
         let Comparer { image, scratch, output, .. } = self;
         let (expected, recorded) = by_plain(call, Lent { image, scratch, output });
@@ -119,6 +146,7 @@ impl Comparer {
         let difference = self
             .difference(expected, answer)
             .or_else(|| self.wrong_instant(call, answer))
+            .or_else(|| self.wrong_target(call, answer))
             .or_else(|| self.wrong_writes(call, answer, recorded));
         if let Some(difference) = difference {
             self.end(&difference);
@@ -172,6 +200,27 @@ impl Comparer {
             }
         }
         None
+    }
+
+    /// What is wrong with the target and the scratch of a rebuild, by the source and by what they held.
+    fn wrong_target(&mut self, call: Call, answer: Answer) -> Option<String> {
+        if call != Call::Rebuild {
+            return None;
+        }
+        let (source, target, status) = (&self.image[..], self.lent_output.held(), answer.status);
+        self.tally.rebuilds.add(source, target.len(), status);
+        let [scratch_before, target_before] = &self.before_rebuild;
+        if status != 0 && target != target_before {
+            return Some("target: written by a refused rebuild".to_string());
+        }
+        if self.lent_scratch.held() != scratch_behind(source, status, scratch_before) {
+            return Some("scratch: not as a rebuild leaves it".to_string());
+        }
+        if status == 0 {
+            Rebuild { source, target }.difference()
+        } else {
+            None
+        }
     }
 
     /// What a call wrote to the image that it may not write, by the image ahead of it.

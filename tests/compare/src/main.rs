@@ -15,6 +15,7 @@ mod halves;
 mod images;
 mod places;
 mod random;
+mod rebuilds;
 mod scratches;
 mod spans;
 mod steps;

@@ -7,7 +7,7 @@ use crate::images::{is_turned_back, pages_of, scratch_bytes};
 const LENGTHS: [&str; 6] = ["shorter", "a byte short", "just enough", "under n", "n", "above n"];
 
 /// The calls that borrow one, by their place in [`NAMES`].
-const BORROWERS: [usize; 3] = [5, 6, 7];
+const BORROWERS: [usize; 4] = [5, 6, 7, 8];
 
 #[derive(Clone, Default)]
 pub struct Scratches {

@@ -4,6 +4,7 @@ use crate::calls::{Answer, Call, NAMES};
 use crate::capacities::Capacities;
 use crate::halves::Halves;
 use crate::places::Places;
+use crate::rebuilds::Rebuilds;
 use crate::scratches::Scratches;
 use crate::spans::Spans;
 use crate::steps::Steps;
@@ -28,6 +29,7 @@ pub struct Tally {
     halves: Halves,
     pub capacities: Capacities,
     places: Places,
+    pub rebuilds: Rebuilds,
     pub scratches: Scratches,
     /// Of the instants that were answered.
     pub spans: Spans,
@@ -45,6 +47,7 @@ impl Default for Tally {
             halves: Halves::default(),
             capacities: Capacities::default(),
             places: Places::default(),
+            rebuilds: Rebuilds::default(),
             scratches: Scratches::default(),
             spans: Spans::default(),
             steps: Steps::default(),
@@ -83,6 +86,7 @@ impl Tally {
         self.halves.add_all(&other.halves);
         self.capacities.add_all(&other.capacities);
         self.places.add_all(&other.places);
+        self.rebuilds.add_all(&other.rebuilds);
         self.scratches.add_all(&other.scratches);
         self.spans.add_all(&other.spans);
         self.steps.add_all(&other.steps);
@@ -114,6 +118,7 @@ impl Tally {
         self.scratches.print();
         self.steps.print();
         self.capacities.print();
+        self.rebuilds.print();
     }
 
     /// What should have occurred and didn't.
@@ -139,6 +144,7 @@ impl Tally {
         lacking.extend(self.capacities.lacking());
         lacking.extend(self.scratches.lacking());
         lacking.extend(self.places.lacking());
+        lacking.extend(self.rebuilds.lacking());
         lacking.extend(self.spans.lacking());
         if self.calls() < FEWEST_CALLS || self.steps.changes() < FEWEST_CHANGES {
             lacking.push(format!("{FEWEST_CALLS} calls and {FEWEST_CHANGES} accepted changes"));

@@ -42,6 +42,10 @@ fn images(comparer: &mut Comparer, k: usize) {
             comparer.ask(Call::Listing { a, b }, 0, 16);
         }
         changes_and_audits(comparer);
+        for target in [0, 39, 2 * page - 1, 2 * page, length.min(1_025 * page)] {
+            comparer.ask(Call::Rebuild, 0, target);
+            comparer.ask(Call::Rebuild, 128, target);
+        }
         comparer.format_of(k, 1, 0);
         comparer.format_of(k, 0, 0);
     }
@@ -69,6 +73,8 @@ fn scratches(comparer: &mut Comparer, pool: &Pool) {
             comparer.ask(Call::Audit, scratch, 0);
             comparer.ask(Call::Enter { v: 2, s: 7, e: END }, scratch, 0);
             comparer.ask(Call::Withdraw { v: 2, s: 7, e: END }, scratch, 0);
+            comparer.ask(Call::Rebuild, scratch, image.len());
+            comparer.ask(Call::Rebuild, scratch, image.len() / 2);
         }
     }
 }
@@ -126,6 +132,12 @@ fn above_32_bits() {
     assert_eq!(raw::average(vast.lent(), 0).status, 16);
     assert_eq!(raw::listing(vast.lent(), 0, END, &mut [0; 16]).status, 16);
     assert_eq!(raw::audit(vast.lent(), &mut [0]), 16);
+    // As a source; and as a target, where the scratch is cleared.
+    let (mut target, mut scratch) = ([7; 1_024], [7; 2]);
+    assert_eq!(raw::rebuild(vast.lent(), &mut target, &mut scratch), 16);
+    assert_eq!((target, scratch), ([7; 1_024], [7; 2]));
+    assert_eq!(raw::rebuild(&image, vast.lent(), &mut scratch), 16);
+    assert_eq!(scratch, [0, 7]);
     assert_eq!(raw::format(vast.lent(), 2, 0, 24), 16);
     assert_eq!(raw::format(vast.lent(), 2, 0, 4), 16);
     assert_eq!(raw::format(vast.lent(), 2, 0, 5), 14);
@@ -144,4 +156,7 @@ fn above_32_bits() {
     let mut image = image.clone();
     assert_eq!(raw::enter(&mut image, vast.lent(), 6, 10, 40), 0);
     assert_eq!(raw::withdraw(&mut image, vast.lent(), 6, 10, 40), 0);
+    vast.lent()[..4].fill(7);
+    assert_eq!(raw::rebuild(&image, &mut [0; 1_024], vast.lent()), 0);
+    assert_eq!(vast.lent()[..4], [0, 0, 0, 7]);
 }

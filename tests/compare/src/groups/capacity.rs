@@ -42,6 +42,9 @@ fn all_refused(comparer: &mut Comparer, status: u32) {
         comparer.expect(Call::Enter { v, s, e }, scratch, 0, Answer::status(status));
         comparer.expect(Call::Withdraw { v, s, e }, scratch, 0, Answer::status(status));
     }
+    for (scratch, target) in [(n + 2, 1_024), (borrowed, 224), (borrowed, 39), (0, 0)] {
+        comparer.expect(Call::Rebuild, scratch, target, Answer::status(status));
+    }
 }
 
 // ---------------------------------------------------------------- bad capacities and short images
@@ -63,6 +66,7 @@ pub fn bad_capacities(comparer: &mut Comparer, pool: &Pool, _: usize) {
             comparer.expect(Call::Instant { t: 30 }, 0, 0, Answer::status(21));
             comparer.expect(Call::Audit, 16, 0, Answer::status(21));
             comparer.expect(Call::Enter { v: 1, s: 30, e: 35 }, 16, 0, Answer::status(21));
+            comparer.expect(Call::Rebuild, 16, whole.len(), Answer::status(21));
         }
     }
     // A good one in an image of 40 bytes: no page has so few.
@@ -154,6 +158,11 @@ fn judged(comparer: &mut Comparer, image: &[u8]) {
         comparer.expect(Call::Enter { v, s: 5, e }, scratch, 0, Answer::status(status));
         comparer.expect(Call::Withdraw { v, s: 5, e }, scratch, 0, Answer::status(status));
     }
+    // A target's length is judged only behind them, by the source's K.
+    for target in [0, 39, 2 * page_bytes(image)] {
+        comparer.expect(Call::Rebuild, borrowed - 1, target, Answer::status(17));
+        comparer.expect(Call::Rebuild, borrowed, target, Answer::status(21));
+    }
     assert_eq!(comparer.instant(0).status, 21);
 }
 
@@ -177,6 +186,7 @@ pub fn entry_counts(comparer: &mut Comparer, pool: &Pool, _: usize) {
                 let borrowed = scratch_bytes(pages_of(whole));
                 comparer.expect(Call::Audit, borrowed, 0, Answer::status(21));
                 comparer.expect(Call::Enter { v: 1, s: t, e: END }, borrowed, 0, Answer::status(21));
+                comparer.expect(Call::Rebuild, borrowed, whole.len(), Answer::status(21));
             }
         }
         full_pages(comparer, whole);

@@ -134,7 +134,7 @@ pub fn moved_pages(comparer: &mut Comparer, pool: &Pool, _: usize) {
     }
 }
 
-fn change_links(image: &mut [u8], random: &mut Random) {
+pub fn change_links(image: &mut [u8], random: &mut Random) {
     let (n, k, length) = (pages_of(image).max(1), capacity(image), page_bytes(image));
     let (page, other) = (random.below(n), random.below(n));
     match random.below(8) {

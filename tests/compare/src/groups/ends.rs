@@ -140,7 +140,7 @@ fn tree_pages(image: &[u8]) -> u32 {
 }
 
 /// Every pair (0, 0).
-fn alike(image: &mut [u8]) {
+pub fn alike(image: &mut [u8]) {
     let k = capacity(image);
     for page in (1..pages_of(image)).filter(|page| level(image, *page) < 10).collect::<Vec<_>>() {
         for i in 0..u32_at(image, page, ENTRY_COUNT_AT) as usize {

@@ -41,7 +41,7 @@ pub fn every_capacity(comparer: &mut Comparer, _: &Pool, part: usize) {
     }
 }
 
-fn fresh(k: usize, n: usize, kind: u32, window: u32) -> Vec<u8> {
+pub fn fresh(k: usize, n: usize, kind: u32, window: u32) -> Vec<u8> {
     if k == 0 {
         fresh_without_field(n as u32, kind, window)
     } else {

@@ -15,6 +15,7 @@ mod made;
 mod pair_bounds;
 mod random_bookings;
 mod random_bytes;
+mod rebuild;
 mod refusals;
 mod scratch;
 mod search;
@@ -75,6 +76,34 @@ pub const GROUPS: &[Group] = &[
         parts: 2 * IMAGES,
         random: true,
         run: heights::heights,
+    },
+    Group {
+        name: "rebuild_sources",
+        what: "rebuilds of sources of heights 1 to 10, into just enough pages, too few and more",
+        parts: rebuild::SOURCES,
+        random: true,
+        run: rebuild::rebuild_sources,
+    },
+    Group {
+        name: "rebuild_seasons",
+        what: "rebuilds after seasons of changes, which go on with the target",
+        parts: rebuild::SEASONS,
+        random: true,
+        run: rebuild::rebuild_seasons,
+    },
+    Group {
+        name: "rebuild_damaged",
+        what: "rebuilds of damaged sources, refused as by an audit",
+        parts: rebuild::DAMAGED,
+        random: true,
+        run: rebuild::rebuild_damaged,
+    },
+    Group {
+        name: "rebuild_targets",
+        what: "rebuilds into targets of every length, with any content, and every scratch",
+        parts: every_capacity::EACH.len(),
+        random: false,
+        run: rebuild::rebuild_targets,
     },
     Group {
         name: "random_bookings",

@@ -29,16 +29,33 @@ pub fn random_bookings(comparer: &mut Comparer, _: &Pool, part: usize) {
     load(comparer, &fresh(n, kind, window), if n > 64 { 250 } else { 500 });
 }
 
+/// A list of changes: how its spans are drawn, what is live, and whether it grows.
+pub struct Season {
+    times: Times,
+    live: Vec<(i64, u32, u32)>,
+    growing: bool,
+}
+
+impl Season {
+    pub fn drawn(comparer: &mut Comparer) -> Season {
+        Season { times: comparer.random.pick(&TIMES), live: Vec::new(), growing: true }
+    }
+
+    /// The next change, of the image at hand; its span.
+    pub fn change(&mut self, comparer: &mut Comparer, kind: u32) -> (u32, u32) {
+        self.growing = self.growing != comparer.random.one_in(25);
+        change(comparer, kind, self.times, self.growing, &mut self.live)
+    }
+}
+
 /// On a fresh image of any K, so many changes.
 pub fn load(comparer: &mut Comparer, image: &[u8], changes: usize) {
     let (kind, window) = (head(image, KIND), head(image, WINDOW));
-    let times = comparer.random.pick(&TIMES);
+    let mut season = Season::drawn(comparer);
+    let times = season.times;
     comparer.lend(image);
-    let mut live = Vec::new();
-    let mut growing = true;
     for _ in 0..changes {
-        growing = growing != comparer.random.one_in(25);
-        let (s, e) = change(comparer, kind, times, growing, &mut live);
+        let (s, e) = season.change(comparer, kind);
         for t in [s.wrapping_sub(1), s, e - 1, e, e.wrapping_add(window), e.wrapping_add(window).wrapping_sub(1)] {
             comparer.instant(t);
         }

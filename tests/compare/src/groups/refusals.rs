@@ -11,6 +11,7 @@ use crate::images::{
     capacity, enter_in_order, fresh, fresh_of, head, leaf_entry_at, page_bytes, pages_of, scratch_bytes, Pool,
     CAPACITY, CHANGES, KIND,
 };
+use crate::rebuilds::{fewest_pages, runs_of};
 
 const ORDER: [u32; 12] = [16, 17, 11, 12, 13, 14, 21, 22, 23, 24, 15, 0];
 
@@ -29,21 +30,39 @@ pub fn refusals(comparer: &mut Comparer, _: &Pool, _: usize) {
     let others =
         [fresh_of(4, 2, 1, 0), filled(4, 1), filled(4, 3), filled(18, 2), fresh_of(4, 9, 2, 0), fresh(17, 1, 0)];
     for image in [fresh(2, 1, 0), filled(24, 1), filled(24, 2), filled(24, 3)].into_iter().chain(others) {
-        let page = page_bytes(&image);
-        for cut in [1, page - 1, page * (pages_of(&image) - 1), image.len() - 40, image.len() - 39, image.len()] {
+        for cut in cuts(&image) {
             formats(comparer, &image, cut);
             instants(comparer, &image, cut);
             listings(comparer, &image, cut);
             audits(comparer, &image, cut);
             changes(comparer, &image, cut);
+            rebuilds(comparer, &image, cut);
         }
     }
+    for image in [two_levels(4, 1), two_levels(10, 3), two_levels(24, 2)] {
+        for cut in cuts(&image) {
+            rebuilds(comparer, &image, cut);
+        }
+    }
+}
+
+/// How many bytes may be cut off an image.
+fn cuts(image: &[u8]) -> [usize; 6] {
+    let page = page_bytes(image);
+    [1, page - 1, page * (pages_of(image) - 1), image.len() - 40, image.len() - 39, image.len()]
 }
 
 /// A leaf of K − 1 entries in three pages: the next cuts lack pages.
 fn filled(k: usize, kind: u32) -> Vec<u8> {
     let mut image = fresh_of(k, 3, kind, 0);
     enter_in_order(&mut image, k as u32 / 2 - 1);
+    image
+}
+
+/// More runs than a page has room for, in as many pages as they need and some more.
+fn two_levels(k: usize, kind: u32) -> Vec<u8> {
+    let mut image = fresh_of(k, 9, kind, 0);
+    enter_in_order(&mut image, k as u32 / 2 + 1);
     image
 }
 
@@ -130,6 +149,34 @@ fn audits(comparer: &mut Comparer, image: &[u8], cut: usize) {
         let status = judged(by_judging, &[(17, little), (21, bad_head | bad_page)]);
         let borrowed = scratch_bytes(pages_of(image));
         comparer.expect(Call::Audit, if little { borrowed - 1 } else { borrowed }, 0, Answer::status(status));
+    }
+}
+
+/// Document 02, (iii): all that is wrong with the source and the scratch ahead of the target's 16, and 24 last. A billion changes are
+/// none of it.
+fn rebuilds(comparer: &mut Comparer, image: &[u8], cut: usize) {
+    let (page, borrowed) = (page_bytes(image), scratch_bytes(pages_of(image)));
+    let fewest = fewest_pages(runs_of(image).len(), capacity(image));
+    for [short, bad, little, bad_head, bad_page, odd, few, changes] in choices() {
+        let wrong = Wrong { cut: short.then_some(cut), capacity: bad, head: bad_head, page: bad_page };
+        let by_judging = lend(comparer, image, wrong);
+        if changes && !short {
+            comparer.set(4 * CHANGES, &1_000_000_000u32.to_le_bytes());
+        }
+        let pages = if few { fewest - 1 } else { fewest };
+        let by_target = match () {
+            _ if odd || pages < 2 => 16,
+            _ if few => 24,
+            _ => 0,
+        };
+        let status = match () {
+            _ if by_judging != 0 => by_judging,
+            _ if little => 17,
+            _ if bad_head || bad_page => 21,
+            _ => by_target,
+        };
+        let (scratch, target) = (if little { borrowed - 1 } else { borrowed }, page * pages - usize::from(odd));
+        comparer.expect(Call::Rebuild, scratch, target, Answer::status(status));
     }
 }
 

@@ -2,7 +2,7 @@
 //! those bytes are 0 afterwards. 17 now means shorter than that."
 //!
 //! Each call is made on the same image with scratches of several lengths and any content: one that is long enough decides neither the
-//! status nor a byte of the image that is left.
+//! status nor a byte of the image that is left, nor of a rebuild's target.
 
 use crate::asking::change;
 use crate::calls::{Answer, Call};
@@ -42,6 +42,7 @@ fn rounds(comparer: &mut Comparer, whole: &[u8]) {
             image[damage.at..][..damage.bytes.len()].copy_from_slice(&damage.bytes);
         }
         alike(comparer, &image, Call::Audit);
+        alike(comparer, &image, Call::Rebuild);
         for withdrawal in [false, true] {
             let call = any_change(comparer, whole, withdrawal);
             alike(comparer, &image, call);
@@ -72,13 +73,23 @@ fn alike(comparer: &mut Comparer, image: &[u8], call: Call) {
     comparer.lend(image);
     let short = if is_turned_back(image) { status } else { 17 };
     for length in [0, borrowed.saturating_sub(1)] {
-        comparer.expect(call, length, 0, Answer::status(short));
+        comparer.expect(call, length, target_of(image, call), Answer::status(short));
     }
 }
 
-/// The status, and the image that is left.
+/// The status, and the image that is left; of an accepted rebuild the target that is, of a refused one its source.
 fn done(comparer: &mut Comparer, image: &[u8], call: Call, length: usize) -> (u32, Vec<u8>) {
     comparer.lend(image);
-    let status = comparer.ask(call, length, 0).status;
-    (status, comparer.image().to_vec())
+    let status = comparer.ask(call, length, target_of(image, call)).status;
+    let left = if call == Call::Rebuild && status == 0 { comparer.output() } else { comparer.image() };
+    (status, left.to_vec())
+}
+
+/// The length of the target: as many pages as the source has.
+fn target_of(image: &[u8], call: Call) -> usize {
+    if call == Call::Rebuild {
+        image.len()
+    } else {
+        0
+    }
 }
