@@ -33,9 +33,9 @@ pub record Valid-cursor (img : List ℕ) (q : SpanQuery) (on : Cursor) : Type 0 
   pub path : Path (q .head) depth (on .at)
   pub above : Above (q .head) (on .at) (on .above)
 
--- Where runs are written, the page has been found fit.
+-- Where the pages are known to be fit, this one is.
 pub record Known-fit (img : List ℕ) (q : SpanQuery) (on : Cursor) : Type 0 where
-  pub known : q .writing ≡ true → page-fit (q .half) (q .head) (on .at) (bytes-at (q .half) img on) ≡ true
+  pub known : q .known ≡ true → page-fit (q .half) (q .head) (on .at) (bytes-at (q .half) img on) ≡ true
 
 -- The page is fit, and the i-th is one of its entries and overlaps the span.
 pub record Valid-entry (img : List ℕ) (q : SpanQuery) (on : Cursor) (i : ℕ) : Type 0 where

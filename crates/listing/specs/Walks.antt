@@ -41,10 +41,12 @@ pub record Does (writing : Bool) (run : Run) (w : image.Walked) (out : List ℕ)
   pub answers : r ≡ answer run w
   pub writes : left ≡ output writing run w out
 
--- What it may count on: the runs can be counted, and where they are written, all pages are fit and the output has room.
-pub record Room (writing : Bool) (run : Run) (w : image.Walked) (out : List ℕ) : Type 0 where
+-- What it may count on: the runs can be counted; where the pages are known, all are fit; and where runs are written, the pages are known
+-- and the output has room.
+pub record Room (known writing : Bool) (run : Run) (w : image.Walked) (out : List ℕ) : Type 0 where
   pub few : run .written + length (w .runs) ≤ 4294967295
-  pub fit : writing ≡ true → w .fit ≡ true
+  pub fit : known ≡ true → w .fit ≡ true
+  pub checked : writing ≡ true → known ≡ true
   pub room : writing ≡ true → 16 * stepped-all run (w .runs) .written ≤ length out
 
 -- the number of runs

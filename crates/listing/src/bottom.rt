@@ -54,7 +54,7 @@ pub(crate) fn walk_leaves(
     requires { ⌜ Valid-cursor (now img) q on ⌝ }
     requires { ⌜ Entries n ≡ page-check (now img) q on ⌝ }
     requires { ⌜ on .at .level < 2 ⌝ }
-    requires { ⌜ Room (q .writing) run (page-walk (now img) q on) (now out) ⌝ }
+    requires { ⌜ Room (q .known) (q .writing) run (page-walk (now img) q on) (now out) ⌝ }
     ensures { λ r. ⌜ Does (q .writing) run (page-walk (now (img .entry)) q on) (now (out .entry)) r (now (out .exit)) ⌝ }
 {
     let met = leaf_range(img, q, on, n);

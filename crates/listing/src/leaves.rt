@@ -22,7 +22,7 @@ fn count_entry(img: &[u8], q: SpanQuery, on: Cursor, i: usize, run: Run) -> Run
     requires { ⌜ Valid-cursor (now img) q on ⌝ }
     requires { ⌜ Valid-entry (now img) q on i ⌝ }
     requires { ⌜ on .at .level ≡ 0 ⌝ }
-    requires { ⌜ Room false run (entry-walk (now img) q on i) [] ⌝ }
+    requires { ⌜ Room false false run (entry-walk (now img) q on i) [] ⌝ }
     ensures { λ r. ⌜ Does false run (entry-walk (now (img .entry)) q on i) [] (Fit r) [] ⌝ }
 {
     collect(run, run_start(img, q, on, i), total_at(img, q, on, i))
@@ -30,7 +30,7 @@ fn count_entry(img: &[u8], q: SpanQuery, on: Cursor, i: usize, run: Run) -> Run
 
 // One run more: it is written if it begins here, and the open run is updated.
 fn write_run(out: &mut [u8], run: Run, start: u32, pair: Pair) -> Run
-    requires { ⌜ Room true run (one-run start pair) (now out) ⌝ }
+    requires { ⌜ Room true true run (one-run start pair) (now out) ⌝ }
     ensures { λ r. ⌜ Does true run (one-run start pair) (now (out .entry)) (Fit r) (now (out .exit)) ⌝ }
 {
     emit(out, run, start, pair);
@@ -42,7 +42,7 @@ fn write_entry(img: &[u8], out: &mut [u8], q: SpanQuery, on: Cursor, i: usize, r
     requires { ⌜ Valid-cursor (now img) q on ⌝ }
     requires { ⌜ Valid-entry (now img) q on i ⌝ }
     requires { ⌜ on .at .level ≡ 0 ⌝ }
-    requires { ⌜ Room true run (entry-walk (now img) q on i) (now out) ⌝ }
+    requires { ⌜ Room true true run (entry-walk (now img) q on i) (now out) ⌝ }
     ensures { λ r. ⌜ Does true run (entry-walk (now (img .entry)) q on i) (now (out .entry)) (Fit r) (now (out .exit)) ⌝ }
 {
     write_run(out, run, run_start(img, q, on, i), total_at(img, q, on, i))
@@ -53,7 +53,7 @@ fn count_leaf(img: &[u8], q: SpanQuery, on: Cursor, n: usize, run: Run) -> Run
     requires { ⌜ Valid-cursor (now img) q on ⌝ }
     requires { ⌜ Entries n ≡ page-check (now img) q on ⌝ }
     requires { ⌜ on .at .level ≡ 0 ⌝ }
-    requires { ⌜ Room false run (page-walk (now img) q on) [] ⌝ }
+    requires { ⌜ Room false false run (page-walk (now img) q on) [] ⌝ }
     ensures { λ r. ⌜ Does false run (page-walk (now (img .entry)) q on) [] (Fit r) [] ⌝ }
 {
     let met = entries_met(img, q, on, n);
@@ -71,7 +71,7 @@ fn write_leaf(img: &[u8], out: &mut [u8], q: SpanQuery, on: Cursor, n: usize, ru
     requires { ⌜ Valid-cursor (now img) q on ⌝ }
     requires { ⌜ Entries n ≡ page-check (now img) q on ⌝ }
     requires { ⌜ on .at .level ≡ 0 ⌝ }
-    requires { ⌜ Room true run (page-walk (now img) q on) (now out) ⌝ }
+    requires { ⌜ Room true true run (page-walk (now img) q on) (now out) ⌝ }
     ensures { λ r. ⌜ Does true run (page-walk (now (img .entry)) q on) (now (out .entry)) (Fit r) (now (out .exit)) ⌝ }
 {
     let met = entries_met(img, q, on, n);
@@ -96,7 +96,7 @@ pub(crate) fn leaf_page(
     requires { ⌜ Valid-cursor (now img) q on ⌝ }
     requires { ⌜ Entries n ≡ page-check (now img) q on ⌝ }
     requires { ⌜ on .at .level ≡ 0 ⌝ }
-    requires { ⌜ Room (q .writing) run (page-walk (now img) q on) (now out) ⌝ }
+    requires { ⌜ Room (q .known) (q .writing) run (page-walk (now img) q on) (now out) ⌝ }
     ensures { λ r. ⌜ Does (q .writing) run (page-walk (now (img .entry)) q on) (now (out .entry)) (Fit r) (now (out .exit)) ⌝ }
 {
     if q.writing {

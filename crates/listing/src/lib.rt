@@ -12,13 +12,14 @@ pub mod pages;
 pub mod passes;
 pub mod walks;
 
-// What is listed: the span [a, b) of an image of pages of this capacity, half of it here, with this head; and whether runs are written
-// or only counted.
+// What is listed: the span [a, b) of an image of pages of this capacity, half of it here, with this head; whether every page met is known
+// to be fit; and whether runs are written or only counted.
 pub struct SpanQuery {
     pub half: usize,
     pub head: Head,
     pub a: u32,
     pub b: u32,
+    pub known: bool,
     pub writing: bool,
 }
 

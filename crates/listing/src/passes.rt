@@ -24,7 +24,7 @@ ghost use Rattle.listing.specs.Walks.{count, Room, Does};
 // The walk from the root, before any run.
 fn walk_root(img: &[u8], out: &mut [u8], q: SpanQuery) -> WalkAnswer
     requires { ⌜ (1 ≤ q .half) × (q .half ≤ 12) × Open-image (q .half) (now img) (q .head) ⌝ }
-    requires { ⌜ Room (q .writing) no-run (walk-over (q .half) (now img) (q .a) (q .b)) (now out) ⌝ }
+    requires { ⌜ Room (q .known) (q .writing) no-run (walk-over (q .half) (now img) (q .a) (q .b)) (now out) ⌝ }
     ensures { λ r. ⌜ Does (q .writing) no-run (walk-over (q .half) (now (img .entry)) (q .a) (q .b)) (now (out .entry)) r
         (now (out .exit)) ⌝ }
 {
@@ -45,9 +45,10 @@ fn walk_root(img: &[u8], out: &mut [u8], q: SpanQuery) -> WalkAnswer
     walk_page(img, out, q, root, n, first)
 }
 
-// The first pass: the number of runs over [a, b), unless a page that the walk meets is unfit.
-pub fn count_runs(half: usize, img: &[u8], h: Head, a: u32, b: u32) -> RunCount
+// The walk that counts: the number of runs over [a, b), unless a page that it meets is unfit.
+fn count_walk(half: usize, img: &[u8], h: Head, a: u32, b: u32, known: bool) -> RunCount
     requires { ⌜ (1 ≤ half) × (half ≤ 12) × Open-image half (now img) h ⌝ }
+    requires { ⌜ (known ≡ true → walk-over half (now img) a b .fit ≡ true) ⌝ }
     ensures { λ r. ⌜ r ≡ count (walk-over half (now (img .entry)) a b) ⌝ }
 {
     let mut unwritten = [0u8; 1];
@@ -56,12 +57,33 @@ pub fn count_runs(half: usize, img: &[u8], h: Head, a: u32, b: u32) -> RunCount
         head: h,
         a: a,
         b: b,
+        known,
         writing: false,
     };
     let WalkAnswer::Fit(last) = walk_root(img, &mut unwritten, q) else {
         return RunCount::Unfit;
     };
     RunCount::Runs(last.written)
+}
+
+// The first pass: every page met is checked.
+pub fn count_runs(half: usize, img: &[u8], h: Head, a: u32, b: u32) -> RunCount
+    requires { ⌜ (1 ≤ half) × (half ≤ 12) × Open-image half (now img) h ⌝ }
+    ensures { λ r. ⌜ r ≡ count (walk-over half (now (img .entry)) a b) ⌝ }
+{
+    count_walk(half, img, h, a, b, false)
+}
+
+// The same where every page met is known to be fit: none is checked, and there is a number.
+pub fn count_known_runs(half: usize, img: &[u8], h: Head, a: u32, b: u32) -> u32
+    requires { ⌜ (1 ≤ half) × (half ≤ 12) × Open-image half (now img) h ⌝ }
+    requires { ⌜ walk-over half (now img) a b .fit ≡ true ⌝ }
+    ensures { λ r. ⌜ r ≡ length (join (walk-over half (now (img .entry)) a b .runs)) ⌝ }
+{
+    let RunCount::Runs(runs) = count_walk(half, img, h, a, b, true) else {
+        return 0;
+    };
+    runs
 }
 
 // The second pass: the runs over [a, b) are written from the output's first byte on.
@@ -77,6 +99,7 @@ pub fn write_runs(half: usize, img: &[u8], h: Head, a: u32, b: u32, out: &mut [u
         head: h,
         a: a,
         b: b,
+        known: true,
         writing: true,
     };
     walk_root(img, out, q);

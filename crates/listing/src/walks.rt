@@ -27,7 +27,7 @@ pub(crate) fn walk_page(
 ) -> WalkAnswer
     requires { ⌜ Valid-cursor (now img) q on ⌝ }
     requires { ⌜ Entries n ≡ page-check (now img) q on ⌝ }
-    requires { ⌜ Room (q .writing) run (page-walk (now img) q on) (now out) ⌝ }
+    requires { ⌜ Room (q .known) (q .writing) run (page-walk (now img) q on) (now out) ⌝ }
     ensures { λ r. ⌜ Does (q .writing) run (page-walk (now (img .entry)) q on) (now (out .entry)) r (now (out .exit)) ⌝ }
 {
     if on.at.level < 2 {
@@ -58,7 +58,7 @@ fn walk_entry(
     requires { ⌜ Valid-cursor (now img) q on ⌝ }
     requires { ⌜ Valid-entry (now img) q on i ⌝ }
     requires { ⌜ 1 ≤ on .at .level ⌝ }
-    requires { ⌜ Room (q .writing) run (entry-walk (now img) q on i) (now out) ⌝ }
+    requires { ⌜ Room (q .known) (q .writing) run (entry-walk (now img) q on i) (now out) ⌝ }
     ensures { λ r. ⌜ Does (q .writing) run (entry-walk (now (img .entry)) q on i) (now (out .entry)) r (now (out .exit)) ⌝ }
 {
     let below = cursor_below(img, q, on, i);

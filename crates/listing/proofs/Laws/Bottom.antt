@@ -84,7 +84,7 @@ leaf-at {img} {q} {on} {leaf} {i} sits low here d = go (eqb (on .at .level) 0) r
 
 module _ {img : List ℕ} {q : SpanQuery} {on leaf : Cursor} {i : ℕ} {writing : Bool} {run : Run} {out : List ℕ}
     (here : Leaf img q on i leaf) where
-  pub leaf-room : Room writing run (leaf-walk img q on i) out → Room writing run (page-walk img q leaf) out
+  pub leaf-room : {known : Bool} → Room known writing run (leaf-walk img q on i) out → Room known writing run (page-walk img q leaf) out
   leaf-room h = rw (here .gives) at h
 
   pub leaf-does : {r : WalkAnswer} {left : List ℕ} → Does writing run (page-walk img q leaf) out r left

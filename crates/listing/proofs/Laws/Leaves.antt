@@ -11,19 +11,20 @@ use Rattle.runs.proofs.Laws.Entries.{room-for-new}
 use Rattle.listing.specs.declared.WalkAnswer.{WalkAnswer}
 use Rattle.listing.specs.declared.WalkAnswer.the-variants.{Fit}
 use Rattle.listing.specs.Walks.{one-run, answer, output, Room, Does}
+use Rattle.listing.proofs.Laws.Turns.{room-unwritten}
 
 -- ---- a walk that writes, and one that counts, which looks at no output
 
 module _ {writing : Bool} {run : Run} {w : image.Walked} {out : List ℕ} (writes : writing ≡ true) where
-  pub room-written : Room writing run w out → Room true run w out
-  room-written h = rw writes at h
+  pub room-written : {known : Bool} → Room known writing run w out → Room true true run w out
+  room-written h = rw (writes, h .checked writes) at h
 
   pub does-written : {r : WalkAnswer} {left : List ℕ} → Does true run w out r left → Does writing run w out r left
   does-written d = rw writes d
 
 module _ {writing : Bool} {run : Run} {w : image.Walked} {out : List ℕ} (counts : writing ≡ false) where
-  pub room-counted : Room writing run w out → Room false run w []
-  room-counted h = record { few = h .few; fit = λ e. absurd (false≢true e); room = λ e. absurd (false≢true e) }
+  pub room-counted : {known : Bool} → Room known writing run w out → Room false false run w []
+  room-counted h = room-unwritten (h .few) (λ e. absurd (false≢true e))
 
   pub does-counted : {r : WalkAnswer} → Does false run w [] r [] → Does writing run w out r out
   unfolding output
@@ -33,7 +34,7 @@ module _ {writing : Bool} {run : Run} {w : image.Walked} {out : List ℕ} (count
 
 module _ {run : Run} {x : image.Run} {out : List ℕ} where
   -- a run that begins has room
-  pub room-new : Room true run (one-run (x .start) (x .pair)) out → goes-on run x ≡ false → 16 * run .written + 16 ≤ length out
+  pub room-new : Room true true run (one-run (x .start) (x .pair)) out → goes-on run x ≡ false → 16 * run .written + 16 ≤ length out
   room-new h new = room-for-new run x [] out (h .room refl) new
 
   pub counted-one : {r : Run} → r ≡ stepped run x → Does false run (one-run (x .start) (x .pair)) out (Fit r) out

@@ -34,7 +34,7 @@ does-stopped writing run out = record { answers = refl; writes = sym (output-non
 
 module _ {img : List ℕ} {q : SpanQuery} {on below : Cursor} {i : ℕ} {writing : Bool} {run : Run} {out : List ℕ}
     (here : Valid-entry img q on i) (inner : 1 ≤ on .at .level) (down : below ≡ cursor-below q (bytes-at (q .half) img on) on i) where
-  pub room-below : Room writing run (entry-walk img q on i) out → Room writing run (page-walk img q below) out
+  pub room-below : {known : Bool} → Room known writing run (entry-walk img q on i) out → Room known writing run (page-walk img q below) out
   room-below h = rw (entry-inner img q on i (here .met) inner down) at h
 
   pub does-below : {r : WalkAnswer} {left : List ℕ} → Does writing run (page-walk img q below) out r left
@@ -44,8 +44,8 @@ module _ {img : List ℕ} {q : SpanQuery} {on below : Cursor} {i : ℕ} {writing
 -- ---- a page, and its entries in turn
 
 module _ (img : List ℕ) (q : SpanQuery) (on : Cursor) where
-  -- where there is room to write, the page is fit
-  pub room-known : {run : Run} {out : List ℕ} → Room (q .writing) run (page-walk img q on) out → Known-fit img q on
+  -- where the pages are known, this one is fit
+  pub room-known : {run : Run} {out : List ℕ} → Room (q .known) (q .writing) run (page-walk img q on) out → Known-fit img q on
   unfolding stopped
   room-known room = record { known = λ w. go (page-fit (q .half) (q .head) (on .at) (bytes-at (q .half) img on)) refl (room .fit w) }
     where

@@ -21,17 +21,18 @@ pub record Ranged (w : Walked) (f : ℕ → Walked) (n : ℕ) (r : EntryRange) :
   pub before : (k : ℕ) → k < r .from → f k ≡ nothing
   pub behind : (k : ℕ) → r .to ≤ k → k < n → f k ≡ nothing
 
--- The loop after the walks before i, from run and out on: last and left are the open run and the output. It writes, or only counts.
-pub record Turning (w : Walked) (f : ℕ → Walked) (writing : Bool) (run : Run) (out : List ℕ) (n : ℕ) (r : EntryRange) (i : ℕ) (last : Run)
-    (left : List ℕ) : Type 0 where
+-- The loop after the walks before i, from run and out on: last and left are the open run and the output. Its pages are known to
+-- be fit, or not; it writes, or only counts.
+pub record Turning (w : Walked) (f : ℕ → Walked) (known writing : Bool) (run : Run) (out : List ℕ) (n : ℕ) (r : EntryRange) (i : ℕ)
+    (last : Run) (left : List ℕ) : Type 0 where
   pub ranged : Ranged w f n r
   pub after : r .from ≤ i
-  pub room : Room writing run (in-turn n f) out
+  pub room : Room known writing run (in-turn n f) out
   pub so-far : Walking f writing run out n i last left
 
-pub turning-none : {w : Walked} {f : ℕ → Walked} {writing : Bool} {run : Run} {out : List ℕ} {n : ℕ} {r : EntryRange}
-    → Ranged w f n r → Room writing run w out → Turning w f writing run out n r (r .from) run out
-turning-none {f = f} {writing} {run} {out} {n} {r} g room =
+pub turning-none : {w : Walked} {f : ℕ → Walked} {known writing : Bool} {run : Run} {out : List ℕ} {n : ℕ} {r : EntryRange}
+    → Ranged w f n r → Room known writing run w out → Turning w f known writing run out n r (r .from) run out
+turning-none {f = f} {writing = writing} {run} {out} {n} {r} g room =
     record {
       ranged = g;
       after = omega arith;
@@ -41,16 +42,16 @@ turning-none {f = f} {writing} {run} {out} {n} {r} g room =
           (λ k _ l. g .before k l);
     }
 
-module _ {w : Walked} {f : ℕ → Walked} {writing : Bool} {run : Run} {out : List ℕ} {n : ℕ} {r : EntryRange} {i : ℕ} {last : Run}
-    {left : List ℕ} (t : Turning w f writing run out n r i last left) where
+module _ {w : Walked} {f : ℕ → Walked} {known writing : Bool} {run : Run} {out : List ℕ} {n : ℕ} {r : EntryRange} {i : ℕ} {last : Run}
+    {left : List ℕ} (t : Turning w f known writing run out n r i last left) where
   inside : i < r .to → i < n
   inside l = omega (arith, t .ranged .to-most)
 
-  pub turning-room : i < r .to → Room writing last (f i) left
+  pub turning-room : i < r .to → Room known writing last (f i) left
   turning-room l = walking-room f writing run out (t .so-far) (t .room) (inside l)
 
   pub turning-more : i < r .to → {next : Run} {left′ : List ℕ} → Does writing last (f i) left (Fit next) left′ → length left′ ≡ length left
-      → Turning w f writing run out n r (i + 1) next left′
+      → Turning w f known writing run out n r (i + 1) next left′
   turning-more l d k =
       record {
         ranged = t .ranged;

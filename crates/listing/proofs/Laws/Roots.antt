@@ -1,6 +1,6 @@
 -- The walk from the root: what it is, and that its runs can be counted. Assumes nothing.
 use mathlib.Core.Path.{_≡_, refl, ap, _∙_}
-use mathlib.Core.Bool.{Bool, true, false, cond, false≢true}
+use mathlib.Core.Bool.{Bool, true, false, cond}
 use mathlib.Core.List.{List}
 use Prim.Native.Nat.{ℕ, _*_, _-_, _≤_}
 use native.Mathlib.Nat.{mul-le-mul-left}
@@ -24,7 +24,7 @@ use Rattle.listing.specs.declared.SpanQuery.{SpanQuery}
 use Rattle.listing.specs.declared.WalkAnswer.the-variants.{Fit, Unfit}
 use Rattle.listing.specs.declared.RunCount.the-variants as counted
 use Rattle.listing.specs.Walks.{page-walk, root-cursor, answer, output, count, Room}
-use Rattle.listing.proofs.Laws.Turns.{of-answer, of-unfit}
+use Rattle.listing.proofs.Laws.Turns.{room-unwritten, of-answer, of-unfit}
 use Rattle.listing.proofs.Laws.Pages.{under-none}
 
 -- ---- from the root is from the root's cursor, with no pair above
@@ -46,16 +46,17 @@ over-few {half} {img} a b most o =
 -- ---- the two passes
 
 module _ {half : ℕ} {img : List ℕ} {h : Head} (a b : ℕ) (out : List ℕ) (most : half ≤ 12) (headed : Open-image half img h) where
-  pub room-counting : Room false no-run (walk-over half img a b) out
-  room-counting =
-      record { few = omega (arith, over-few a b most headed); fit = λ e. absurd (false≢true e); room = λ e. absurd (false≢true e) }
+  pub room-counting : {known : Bool} → (known ≡ true → walk-over half img a b .fit ≡ true)
+      → Room known false no-run (walk-over half img a b) out
+  room-counting fit = room-unwritten (omega (arith, over-few a b most headed)) fit
 
   pub room-writing : walk-over half img a b .fit ≡ true → 16 * length (join (walk-over half img a b .runs)) ≤ length out
-      → Room true no-run (walk-over half img a b) out
+      → Room true true no-run (walk-over half img a b) out
   room-writing fit room =
       record {
         few = omega (arith, over-few a b most headed);
         fit = λ _. fit;
+        checked = λ e. e;
         room = λ _. omega (arith, written-join (walk-over half img a b .runs));
       }
 

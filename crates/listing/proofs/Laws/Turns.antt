@@ -1,6 +1,6 @@
 -- One walk and then another, from the open run on: what is answered, written and left to count on. Assumes nothing.
 use mathlib.Core.Path.{_≡_, refl, sym, ap, _∙_, subst⁻¹}
-use mathlib.Core.Bool.{Bool, true, false, cond, _&&_, and-true, and-false, true≢false}
+use mathlib.Core.Bool.{Bool, true, false, cond, _&&_, and-true, and-false, true≢false, false≢true}
 use mathlib.Core.List.{List, [], append-nil}
 use Prim.Native.Nat.{ℕ, zero, suc, _+_, _*_, _≤_, _<_}
 use native.Mathlib.Decide.{decLt}
@@ -56,7 +56,7 @@ unfolding output then
 output-then true run v w out = output-after-all-append run (v .runs) (w .runs) out
 output-then false run v w out = refl
 
-pub length-left : (writing : Bool) (run : Run) (w : image.Walked) (out : List ℕ) → Room writing run w out
+pub length-left : {known : Bool} (writing : Bool) (run : Run) (w : image.Walked) (out : List ℕ) → Room known writing run w out
     → length (output writing run w out) ≡ length out
 unfolding output
 length-left true run w out h = length-output run (w .runs) out (h .room refl)
@@ -64,8 +64,14 @@ length-left false run w out h = refl
 
 -- ---- what there is room for
 
-module _ (writing : Bool) (run : Run) (v w : image.Walked) (out : List ℕ) (h : Room writing run (then v w) out) where
-  fit-both : writing ≡ true → (v .fit ≡ true) × (w .fit ≡ true)
+-- a walk that only counts has no output to find room in
+pub room-unwritten : {known : Bool} {run : Run} {w : image.Walked} {out : List ℕ} → run .written + length (w .runs) ≤ 4294967295
+    → (known ≡ true → w .fit ≡ true)
+    → Room known false run w out
+room-unwritten few fit = record { few = few; fit = fit; checked = λ e. absurd (false≢true e); room = λ e. absurd (false≢true e) }
+
+module _ {known : Bool} (writing : Bool) (run : Run) (v w : image.Walked) (out : List ℕ) (h : Room known writing run (then v w) out) where
+  fit-both : known ≡ true → (v .fit ≡ true) × (w .fit ≡ true)
   unfolding then
   fit-both e = both (v .fit) (w .fit) (λ f. f, λ f. f) (λ f. f, λ f. f) .0 (h .fit e)
 
@@ -77,19 +83,21 @@ module _ (writing : Bool) (run : Run) (v w : image.Walked) (out : List ℕ) (h :
   unfolding then
   written e = omega (arith, h .room e, ap (λ (r : Run). r .written) (stepped-all-append run (v .runs) (w .runs)))
 
-  pub room-first : Room writing run v out
+  pub room-first : Room known writing run v out
   room-first =
       record {
         few = omega (arith, counted);
         fit = λ e. fit-both e .0;
+        checked = h .checked;
         room = λ e. omega (arith, written e, written-grows (stepped-all run (v .runs)) (w .runs));
       }
 
-  pub room-then : Room writing (stepped-all run (v .runs)) w (output writing run v out)
+  pub room-then : Room known writing (stepped-all run (v .runs)) w (output writing run v out)
   room-then =
       record {
         few = omega (arith, counted, written-few run (v .runs));
         fit = λ e. fit-both e .1;
+        checked = h .checked;
         room = λ e. omega (arith, written e, length-left writing run v out room-first);
       }
 
@@ -128,14 +136,14 @@ module _ (f : ℕ → image.Walked) where
 
   module _ (writing : Bool) (run : Run) (out : List ℕ) where
     -- where there is room for all, there is for each entry behind those before it
-    pub room-turn : (n : ℕ) → Room writing run (in-turn n f) out → (i : ℕ) → i < n
-        → Room writing (stepped-all run (in-turn i f .runs)) (f i) (output writing run (in-turn i f) out)
+    pub room-turn : {known : Bool} (n : ℕ) → Room known writing run (in-turn n f) out → (i : ℕ) → i < n
+        → Room known writing (stepped-all run (in-turn i f .runs)) (f i) (output writing run (in-turn i f) out)
     unfolding in-turn
     room-turn zero h i l = absurd (omega arith)
-    room-turn (suc n) h i l = go (decLt i n) (λ m. room-turn n (room-first writing run (in-turn n f) (f n) out h) i m)
+    room-turn {known} (suc n) h i l = go (decLt i n) (λ m. room-turn n (room-first writing run (in-turn n f) (f n) out h) i m)
       where
         Goal : ℕ → Type 0
-        Goal k = Room writing (stepped-all run (in-turn k f .runs)) (f k) (output writing run (in-turn k f) out)
+        Goal k = Room known writing (stepped-all run (in-turn k f .runs)) (f k) (output writing run (in-turn k f) out)
 
         go : Dec (i < n) → (i < n → Goal i) → Goal i
         go (yes m) rest = rest m
@@ -169,7 +177,7 @@ module _ (f : ℕ → image.Walked) where
             same = h .same;
           }
 
-      pub walking-room : Room writing run (in-turn n f) out → i < n → Room writing r (f i) left
+      pub walking-room : {known : Bool} → Room known writing run (in-turn n f) out → i < n → Room known writing r (f i) left
       walking-room m l = rw (h .runs, h .writes) (room-turn n m i l)
 
       pub walking-more : i < n → {next : Run} {left′ : List ℕ} → Does writing r (f i) left (Fit next) left′ → length left′ ≡ length left
@@ -186,7 +194,8 @@ module _ (f : ℕ → image.Walked) where
           }
 
       -- the walk stops at an unfit page: a walk that writes meets none
-      pub walking-unfit : Room writing run (in-turn n f) out → i < n → {left′ : List ℕ} → Does writing r (f i) left Unfit left′
+      pub walking-unfit : {known : Bool} → Room known writing run (in-turn n f) out → i < n → {left′ : List ℕ}
+          → Does writing r (f i) left Unfit left′
           → Does writing run (in-turn n f) out Unfit left′
       unfolding output
       walking-unfit m l {left′} d =
@@ -194,7 +203,7 @@ module _ (f : ℕ → image.Walked) where
           record { answers = answer-unfit run (in-turn n f) u; writes = kept u writing refl }
         where
           kept : in-turn n f .fit ≡ false → (b : Bool) → writing ≡ b → left′ ≡ output writing run (in-turn n f) out
-          kept u true e = absurd (true≢false (sym (m .fit e) ∙ u))
+          kept u true e = absurd (true≢false (sym (m .fit (m .checked e)) ∙ u))
           kept u false e = d .writes ∙ rw e (h .writes ∙ rw e)
 
       pub walking-all : n ≤ i → Does writing run (in-turn n f) out (Fit r) left

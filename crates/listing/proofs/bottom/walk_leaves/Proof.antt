@@ -12,7 +12,7 @@ use Rattle.listing.proofs.bottom.walk_leaves.Tie as tie
 
 abbrev Inv-loop : tie.InvT-loop
 Inv-loop img out₀ q on n met last₀ i₀ out last i =
-    Turning (page-walk img q on) (leaf-walk img q on) (q .writing) last₀ out₀ (leaf-count on n) met i last out
+    Turning (page-walk img q on) (leaf-walk img q on) (q .known) (q .writing) last₀ out₀ (leaf-count on n) met i last out
 
 abbrev μ-loop : tie.MeasureT-loop
 μ-loop img out₀ q on n met last₀ i₀ out last i = leaf-count on n - i

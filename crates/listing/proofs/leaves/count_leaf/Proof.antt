@@ -12,7 +12,7 @@ use Rattle.listing.proofs.leaves.count_leaf.Statement.{statement}
 use Rattle.listing.proofs.leaves.count_leaf.Tie as tie
 
 abbrev Inv-loop : tie.InvT-loop
-Inv-loop img q on n met last₀ i₀ last i = Turning (page-walk img q on) (entry-walk img q on) false last₀ [] n met i last []
+Inv-loop img q on n met last₀ i₀ last i = Turning (page-walk img q on) (entry-walk img q on) false false last₀ [] n met i last []
 
 abbrev μ-loop : tie.MeasureT-loop
 μ-loop img q on n met last₀ i₀ last i = n - i

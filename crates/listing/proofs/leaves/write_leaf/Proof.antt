@@ -10,7 +10,7 @@ use Rattle.listing.proofs.leaves.write_leaf.Statement.{statement}
 use Rattle.listing.proofs.leaves.write_leaf.Tie as tie
 
 abbrev Inv-loop : tie.InvT-loop
-Inv-loop img out₀ q on n met last₀ i₀ out last i = Turning (page-walk img q on) (entry-walk img q on) true last₀ out₀ n met i last out
+Inv-loop img out₀ q on n met last₀ i₀ out last i = Turning (page-walk img q on) (entry-walk img q on) true true last₀ out₀ n met i last out
 
 abbrev μ-loop : tie.MeasureT-loop
 μ-loop img out₀ q on n met last₀ i₀ out last i = n - i

@@ -1,24 +1,11 @@
--- `listing::passes::count_runs` meets its contract: a law for each way out. Assumes nothing.
-use mathlib.Core.Path.{sym, _∙_}
+-- `listing::passes::count_runs` meets its contract: no page is taken to be known. Assumes nothing.
+use mathlib.Core.Bool.{false≢true}
 use borrow.Author.Needs.{needs}
-use Rattle.listing.proofs.Laws.Roots.{room-counting, count-unfit, count-fit}
 use Rattle.listing.proofs.passes.count_runs.Statement.{statement}
 use Rattle.listing.proofs.passes.count_runs.Tie as tie
 
-walk-root-requires : tie.Need-walk-root-requires
-walk-root-requires c κs =
-    let start = c .before .before in
-    (start .pre, room-counting (start .args .a) (start .args .b) _ (start .pre .1) (start .pre .2))
-
-returns : tie.Need-returns
-returns c = count-unfit _ (sym (c .enum-told .given .1) ∙ c .before .before .before .walk-root .ensures .answers)
-
-returns-2 : tie.Need-returns-2
-returns-2 c =
-    let told = c .before in
-    count-fit _ (sym (told .last .given .1) ∙ told .before .before .before .walk-root .ensures .answers)
+count-walk-requires : tie.Need-count-walk-requires
+count-walk-requires c κs = (c .before .pre, λ e. absurd (false≢true e))
 
 pub count-runs-spec : {M : Type 1} → statement M
-count-runs-spec =
-    tie.close
-    (tie.spec (λ c. search needs) walk-root-requires (λ c. search needs) (λ c. search needs) returns returns-2)
+count-runs-spec = tie.close (tie.spec count-walk-requires (λ c. search needs))

@@ -34,7 +34,8 @@ whole : (c : tie.After-root-context)
 whole c = ap (page-walk _ _) (is-root c) ∙ root-walk (start c .args .q) (start c .pre .0 .2)
 
 room : (c : tie.After-root-context)
-    → Room (start c .args .q .writing) no-run (page-walk (start c .args .img .now) (start c .args .q) (on c)) (start c .args .out .now)
+    → let args = start c .args in
+    Room (args .q .known) (args .q .writing) no-run (page-walk (args .img .now) (args .q) (on c)) (args .out .now)
 room c = rw (whole c) (start c .pre .1)
 
 returns : tie.Need-returns

@@ -42,7 +42,7 @@ walk-page-below t = and 2 walk-page-kinds.ps (falls 2 walk-page-kinds.ps _<_ μ-
 
 abbrev walk-page-Inv-loop : walk-page-lts.InvT-loop
 walk-page-Inv-loop img out₀ q on n met last₀ i₀ out last i =
-    Turning (page-walk img q on) (entry-walk img q on) (q .writing) last₀ out₀ n met i last out
+    Turning (page-walk img q on) (entry-walk img q on) (q .known) (q .writing) last₀ out₀ n met i last out
 
 abbrev walk-page-μ-loop : walk-page-lts.MeasureT-loop
 walk-page-μ-loop img out₀ q on n met last₀ i₀ out last i = n - i
