@@ -4,8 +4,7 @@ use crate::sizes::tree_size;
 use access::HeadCheck;
 use access::heads::open_head;
 use access::lengths::page_count;
-use listing::RunCount;
-use listing::passes::count_runs;
+use listing::passes::count_known_runs;
 use rule::limits::END;
 ghost use mathlib.Core.Path.{_≡_};
 ghost use mathlib.Core.Bool.{true};
@@ -14,8 +13,8 @@ ghost use Rattle.image.specs.Images.{length-ok};
 ghost use Rattle.image.specs.Sound.{sound};
 ghost use Rattle.rebuild.specs.Rebuild.{Fills};
 
-// Writes the tight image of a sound source over the target, if it has pages enough for it. A sound source has a fit head and fit pages, so
-// that the two tests of them turn nothing back.
+// Writes the tight image of a sound source over the target, if it has pages enough for it. A sound source has a fit head, so that the test
+// of it turns nothing back. No page is checked here: the audit has found every one fit, and a second check was a sixth of a rebuild's time.
 pub fn fill_target(half: usize, source: &[u8], target: &mut [u8]) -> bool
     requires { ⌜ (2 ≤ half) × (half ≤ 12) ⌝ }
     requires { ⌜ (sound half (now source) ≡ true) × (length-ok half (now target) ≡ true) ⌝ }
@@ -24,9 +23,7 @@ pub fn fill_target(half: usize, source: &[u8], target: &mut [u8]) -> bool
     let HeadCheck::Fit(h) = open_head(half, source) else {
         return false;
     };
-    let RunCount::Runs(runs) = count_runs(half, source, h, 0, END) else {
-        return false;
-    };
+    let runs = count_known_runs(half, source, h, 0, END);
     let size = tree_size(half, runs);
     if page_count(half, target) <= size.pages as usize {
         return false;

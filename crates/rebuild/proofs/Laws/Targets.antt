@@ -12,15 +12,10 @@ use Rattle.page.specs.declared.Head.{Head}
 use Rattle.image.specs.Images.{pages-in, length-ok, image-bytes}
 use Rattle.image.specs.Sound.{sound}
 use Rattle.image.specs.Instant.{look-up}
-use Rattle.image.specs.Listing.{walk-over}
 use Rattle.tight.specs.Tight.{pages-used, tight, too-small}
 use Rattle.access.specs.declared.HeadCheck.the-variants.{Unfit}
 use Rattle.access.specs.Access.{Open-image, head-check}
 use Rattle.access.proofs.Laws.{shut}
-use Rattle.listing.specs.declared.RunCount.the-variants as counted
-use Rattle.listing.specs.declared.RunCount.the-variants.{Runs}
-use Rattle.listing.specs.Walks.{count}
-use Rattle.listing.proofs.Laws.Counts.{counted-runs, not-counted}
 use Rattle.calls.specs.Calls.{head, head-ok, runs-over, full-runs, rebuilt-bytes}
 use Rattle.calls.specs.Book.{runs-after, runs-of}
 use Rattle.answers.proofs.Sound.{sound-head, sound-walk}
@@ -28,12 +23,9 @@ use Rattle.answers.proofs.Full.{full-is}
 use Rattle.rebuild.specs.Rebuild.{all-runs, Rebuildable, Fills}
 
 module _ (half : ℕ) (source : List ℕ) (fits : sound half source ≡ true) where
-  -- neither test turns it back
+  -- the test of the head doesn't turn it back
   pub not-shut : Unfit ≡ head-check half source → ⊥
   not-shut e = false≢true (sym (shut half source e) ∙ unfold head-ok in sound-head half source fits)
-
-  pub not-unfit : counted.Unfit ≡ count (walk-over half source 0 END) → ⊥
-  not-unfit e = false≢true (sym (not-counted (walk-over half source 0 END) e) ∙ sound-walk half source fits 0 END)
 
   some-run : 1 ≤ length (full-runs half source)
   unfolding runs-of
@@ -42,10 +34,10 @@ module _ (half : ℕ) (source : List ℕ) (fits : sound half source ≡ true) wh
       let e : length (full-runs half source) ≡ suc (length (runs-after f 0 (END - suc 0))) = ap length (full-is half source fits) in
       omega (arith, e)
 
-  module _ (m : ℕ) (told : Runs m ≡ count (walk-over half source 0 END)) where
-    pub told-runs : m ≡ length (full-runs half source)
+  module _ (m : ℕ) (told : m ≡ length (all-runs half source)) where
+    told-runs : m ≡ length (full-runs half source)
     unfolding full-runs runs-over
-    told-runs = counted-runs (walk-over half source 0 END) told .1
+    told-runs = told
 
     pub some-told : 1 ≤ m
     some-told = omega (arith, told-runs, some-run)
@@ -64,14 +56,14 @@ module _ (half : ℕ) (source : List ℕ) (fits : sound half source ≡ true) wh
     module _ (target : List ℕ) (room : pages-used half m < pages-in half target) where
       pub rebuildable : {h : Head} → 2 ≤ half → half ≤ 12 → Open-image half source h → length-ok half target ≡ true
           → Rebuildable half source h target m
-      unfolding full-runs runs-over too-small
+      unfolding too-small
       rebuildable two twelve o whole =
           record {
             half-least = two;
             half-most = twelve;
             opened = o;
             fit = sound-walk half source fits 0 END;
-            counted = told-runs;
+            counted = told;
             some = some-told;
             whole = whole;
             room = le-ltb (pages-in half target) (suc (pages-used half m)) (omega arith);

@@ -4,31 +4,25 @@ use mathlib.Core.Path.{_≡_, sym, ap, _∙_}
 use mathlib.Core.Bool.{true}
 use native.Mathlib.Omega.{arith}
 use borrow.Author.Needs.{needs}
-use Rattle.rule.specs.Time.{END}
 use Rattle.image.specs.Images.{pages-in, length-ok}
 use Rattle.image.specs.Sound.{sound}
-use Rattle.image.specs.Listing.{walk-over}
 use Rattle.soundness.proofs.Sound.{sound-whole}
 use Rattle.tight.specs.Tight.{pages-used}
 use Rattle.access.specs.Access.{Open-image}
 use Rattle.access.proofs.Laws.{opened}
-use Rattle.listing.specs.Walks.{count}
-use Rattle.listing.specs.declared.RunCount.the-variants.{Runs}
+use Rattle.answers.proofs.Sound.{sound-walk}
 use Rattle.rebuild.specs.Levels.{tree-size}
 use Rattle.rebuild.specs.declared.TreeSize.{TreeSize}
-use Rattle.rebuild.proofs.Laws.Targets.{not-shut, not-unfit, some-told, fills-not, rebuildable, fills}
+use Rattle.rebuild.proofs.Laws.Targets.{not-shut, some-told, fills-not, rebuildable, fills}
 use Rattle.rebuild.proofs.targets.fill_target.Statement.{statement}
 use Rattle.rebuild.proofs.targets.fill_target.Tie as tie
 
--- the call's own start, from where the head had been read and the runs counted
+-- the call's own start, from where the head had been read
 abbrev began : tie.After-open-head → tie.Start
 began c = c .before .before .before
 
 abbrev read : tie.After-known-told → tie.After-open-head
 read c = c .before .before .before
-
-abbrev told : tie.After-known-told2 → tie.After-known-told
-told c = c .before .before .before .before
 
 fits : (c : tie.After-open-head) → sound (began c .args .half) (began c .args .source .now) ≡ true
 fits c = began c .pre .1 .0
@@ -39,52 +33,55 @@ headed c =
     let args = began (read c) .args in
     opened (args .half) (args .source .now) (sound-whole _ _ (fits (read c))) (sym (c .before .h .given .1) ∙ read c .open-head .ensures)
 
-counted : (c : tie.After-known-told2)
-    → let args = began (read (told c)) .args in
-    Runs (c .before .runs .given .0 .0) ≡ count (walk-over (args .half) (args .source .now) 0 END)
-counted c = sym (c .before .runs .given .1) ∙ c .before .before .before .count-runs .ensures
-
 returns : tie.Need-returns
 returns c = absurd (not-shut _ _ (fits (c .before .before)) (sym (c .enum-told .given .1) ∙ c .before .before .open-head .ensures))
 
-returns-2 : tie.Need-returns-2
-returns-2 c =
-    let pass = c .before .before in
-    absurd (not-unfit _ _ (fits (read (pass .before))) (sym (c .enum-told2 .given .1) ∙ pass .count-runs .ensures))
+-- the audit has found every page fit
+count-known-runs-requires : tie.Need-count-known-runs-requires
+count-known-runs-requires c κs =
+    let pre = began (read c) .pre in
+    ((omega (arith, pre .0), pre .0 .1, headed c), sound-walk _ _ (fits (read c)) _ _)
 
--- where the pages had been counted, and those that the tree takes
-abbrev sized : tie.After-struct-known → tie.After-known-told2
-sized c = c .before .before .before .before
+tree-size-requires : tie.Need-tree-size-requires
+tree-size-requires c κs =
+    let at = read (c .before) in
+    let pre = began at .pre in
+    (pre .0 .0, pre .0 .1, some-told _ _ (fits at) _ (c .count-known-runs .ensures))
+
+-- where the runs had been counted, and the pages that the tree takes
+abbrev counted : tie.After-struct-known → tie.After-count-known-runs
+counted c = c .before .before .before .before
 
 used : (c : tie.After-struct-known)
     → c .before .before .before .tree-size .result .pages
-    ≡ pages-used (began (read (told (sized c))) .args .half) (sized c .before .runs .given .0 .0)
+    ≡ pages-used (began (read (counted c .before)) .args .half) (counted c .count-known-runs .result)
 unfolding tree-size
 used c = ap (λ (t : TreeSize). t .pages) (c .before .before .before .tree-size .ensures)
 
-returns-3 : tie.Need-returns-3
-returns-3 c =
+returns-2 : tie.Need-returns-2
+returns-2 c =
     let at = c .before in
-    fills-not _ _ (fits (read (told (sized at)))) _ (counted (sized at)) _
+    fills-not _ _ (fits (read (counted at .before))) _ (counted at .count-known-runs .ensures) _
     (omega (arith, c .if1 .taken, used at, at .before .page-count .ensures))
 
 room : (c : tie.Else1)
-    → let args = began (read (told (sized (c .before)))) .args in
-    pages-used (args .half) (sized (c .before) .before .runs .given .0 .0) < pages-in (args .half) (args .target .now)
+    → let args = began (read (counted (c .before) .before)) .args in
+    pages-used (args .half) (counted (c .before) .count-known-runs .result) < pages-in (args .half) (args .target .now)
 room c = omega (arith, c .if1 .left, used (c .before), c .before .before .page-count .ensures)
 
 write-tight-requires : tie.Need-write-tight-requires
 write-tight-requires c κs =
-    let at = sized (c .before .before) in
-    let pre = began (read (told at)) .pre in
-    rebuildable _ _ (fits (read (told at))) _ (counted at) _ (room (c .before)) (pre .0 .0) (pre .0 .1) (headed (told at)) (pre .1 .1)
+    let at = counted (c .before .before) in
+    let pre = began (read (at .before)) .pre in
+    rebuildable _ _ (fits (read (at .before))) _ (at .count-known-runs .ensures) _ (room (c .before)) (pre .0 .0) (pre .0 .1)
+    (headed (at .before)) (pre .1 .1)
 
-returns-4 : tie.Need-returns-4
-returns-4 c =
+returns-3 : tie.Need-returns-3
+returns-3 c =
     let wrote = c .before .before in
     let test = wrote .before .before in
-    let at = sized (test .before) in
-    fills _ _ (fits (read (told at))) _ (counted at) _ (room test) (headed (told at)) (wrote .write-tight .ensures)
+    let at = counted (test .before) in
+    fills _ _ (fits (read (at .before))) _ (at .count-known-runs .ensures) _ (room test) (headed (at .before)) (wrote .write-tight .ensures)
 
 pub fill-target-spec : {M : Type 1} → statement M
 fill-target-spec =
@@ -92,7 +89,5 @@ fill-target-spec =
     (tie.spec
     (λ c κs. let pre = c .before .before .pre in (pre .0 .0, pre .0 .1, sound-whole _ _ (pre .1 .0)))
     (λ c. search needs) (λ c. search needs) returns
-    (λ c κs. let pre = began (read c) .pre in (omega (arith, pre .0), pre .0 .1, headed c))
-    (λ c. search needs) (λ c. search needs) returns-2
-    (λ c κs. let pre = began (read (told c)) .pre in (pre .0 .0, pre .0 .1, some-told _ _ (fits (read (told c))) _ (counted c)))
-    (λ c κs. search needs) (λ c. search needs) (λ c. search needs) returns-3 write-tight-requires (λ c. search needs) returns-4)
+    count-known-runs-requires tree-size-requires
+    (λ c κs. search needs) (λ c. search needs) (λ c. search needs) returns-2 write-tight-requires (λ c. search needs) returns-3)
