@@ -234,14 +234,14 @@ uint32_t luw_withdraw(uint8_t *image, size_t image_length, uint8_t *scratch, siz
                       int64_t v, uint32_t s, uint32_t e);
 
 /*
- * Writes the index of the source into the target, as tight as it can be. Entries that no listing shows, pages that are half
- * full and free ones pile up over many changes; none of them comes along. The target may have fewer pages than the source,
- * as many or more.
+ * Writes the index of the source into the target, as tight as it can be. Entries that no listing shows, pages with few
+ * entries and free ones pile up over many changes; the target has the fewest pages that its runs can have. It may have fewer
+ * pages than the source, as many or more.
  *
- * The target lists what the source lists, its instants have the source's sums and counts, and further changes do to its
- * listing what they would have done to the source's. Kind, window, capacity and the number of changes are the source's. Its
- * leaf entries are the runs of the full listing, so luw_instant's start and end are at first those of the run. Every byte
- * of the target is written, whatever it held:
+ * The target lists what the source lists, its instants have the source's sums and counts, and further changes, where they
+ * are accepted, do to its listing what they would have done to the source's. Kind, window, capacity and the number of changes
+ * are the source's. Its leaf entries are the runs of the full listing. Every byte of the target is written, whatever it held,
+ * some of them more than once, since the target is all the memory that the call works in:
  *
  *   head     no free pages; the high mark behind the last page used; the capacity as a number, also if the source has FF
  *   leaves   from page 1 on in the order of time, in the fewest pages that have room for the runs; all of them have as many

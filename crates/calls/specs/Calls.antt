@@ -1,7 +1,7 @@
 -- Every call of document 01, and document 02's rebuild, as a function of its inputs: the status returned (document 01's number), the
--- answer, and every byte of image, target, output and scratch afterwards, on every image and argument. What a call only reads stands for
--- nothing that it leaves. Over half the capacity of a page; where a call has that from is Index.antt. Calls that take a scratch are over
--- how many bytes of it they borrow for n pages. Assumes nothing.
+-- answer, and every byte of image, target, output and scratch afterwards, on every image and argument. What a call only reads has no field
+-- in what it leaves. Over half the capacity of a page; where a call has that from is Index.antt. Calls that take a scratch are over how
+-- many bytes of it they borrow for n pages. Assumes nothing.
 use Prim.Native.Nat.{ℕ, _*_}
 use mathlib.Core.Bool.{Bool, cond, not, _&&_}
 use mathlib.Core.List.{List, [], _∷_, _++_}

@@ -39,11 +39,12 @@ pub record Answers-kept (source img : List ℕ) : Type 0 where
   pub averages : (t : ℕ) → index-average t img ≡ index-average t source
 
 -- "m runs in the fewest pages .. and so at each level up": a sound image of that capacity with the same full listing, as is one that has
--- these runs as its leaf entries, has as many pages on each level at the least, and so as many levels and as many pages used.
+-- these runs as its leaf entries, has as many pages on each level at the least, and so as many levels and as many pages used, those of its
+-- chain left out.
 pub record No-fewer (source img other : List ℕ) : Type 0 where
   pub on-levels : (l : ℕ) → pages-on (half-of source) img l ≤ pages-on (half-of source) other l
   pub levels : head (half-of source) img .height ≤ head (half-of source) other .height
-  pub pages : head (half-of source) img .mark ≤ head (half-of source) other .mark
+  pub pages : head (half-of source) img .mark + head (half-of source) other .chain ≤ head (half-of source) other .mark
 
 -- all of it, of the image that an accepted rebuild of the source left in the target's place
 pub record Rebuilt-from (source target img : List ℕ) : Type 0 where

@@ -22,7 +22,7 @@ use Rattle.tight.specs.Counts.{leaf-entries}
 use Rattle.tight.specs.Layout.{Laid-out}
 use Rattle.soundness.proofs.Sound.{sound-facts}
 use Rattle.soundness.proofs.Counting.{sound-counted}
-use Rattle.fewest.proofs.Fewest.{fewest-used, listing-few, no-more-on, no-more-used, no-higher}
+use Rattle.fewest.proofs.Fewest.{fewest-used, listing-few, no-more-on, no-higher}
 use Rattle.calls.specs.Refusals.{borrowed}
 use Rattle.calls.specs.Calls.{Instant, Rebuilt, head, instant, average-at, listing, runs-over, full-runs, rebuilt-bytes, rebuild}
 use Rattle.calls.specs.Index.{judge, index-instant, index-average, index-listing, index-rebuild}
@@ -97,6 +97,16 @@ module _ (half : ℕ) (source img : List ℕ) (fits : sound half source ≡ true
         averages = λ t. own-average o′ t ∙ same-average t ∙ sym (own-average o t);
       }
 
+-- ---- the pages that a sound image uses, by its runs
+
+used-by : (half : ℕ) (other : List ℕ) (runs : List Run) → sound half other ≡ true → full-runs half other ≡ runs
+    → pages-used half (length runs) + head half other .chain < head half other .mark
+unfolding head full-runs runs-over
+used-by half other runs fits same =
+    let c = sound-counted (sound-facts half other fits) in
+    let few : length runs ≤ leaf-entries half other = omega (arith, listing-few half other, ap length same) in
+    omega (arith, fewest-used half other fits (length runs) few, c .count, c .fit .head .mark-least)
+
 -- ---- an accepted rebuild
 
 module _ (source target scratch : List ℕ) (n : rebuild borrowed (half-of source) source target scratch .status ≡ 0) where
@@ -169,7 +179,7 @@ module _ (source target scratch : List ℕ) (n : rebuild borrowed (half-of sourc
       record {
         on-levels = no-more-on half img other fits fits′ m here there chain mark;
         levels = no-higher half img other fits fits′ m here there chain mark;
-        pages = no-more-used half img other fits fits′ m here there chain mark;
+        pages = omega (arith, mark-left, used-by half other (full-runs half source) fits′ same);
       }
     where
       entries : (x : List ℕ) → length (full-runs half x) ≤ leaf-entries half x
@@ -209,14 +219,6 @@ left-by source target scratch n =
     }
 
 -- ---- 24: the source's own tree has no fewer pages
-
-used-by : (half : ℕ) (other : List ℕ) (runs : List Run) → sound half other ≡ true → full-runs half other ≡ runs
-    → pages-used half (length runs) + head half other .chain < head half other .mark
-unfolding head full-runs runs-over
-used-by half other runs fits same =
-    let c = sound-counted (sound-facts half other fits) in
-    let few : length runs ≤ leaf-entries half other = omega (arith, listing-few half other, ap length same) in
-    omega (arith, fewest-used half other fits (length runs) few, c .count, c .fit .head .mark-least)
 
 told-24 : (half : ℕ) (source target scratch : List ℕ)
     → Returned (judge-cases source (rebuild-cases half Fewer-bits source target scratch)) 24

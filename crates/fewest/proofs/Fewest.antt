@@ -123,12 +123,6 @@ module _ (half : ℕ) (img other : List ℕ) (fits : sound half img ≡ true) (f
   pub no-more-on : (l : ℕ) → pages-on half img l ≤ pages-on half other l
   no-more-on l = omega (arith, exact-on half img fits m entries chain mark l, fewest-on half other fits′ m entries′ l)
 
-  -- no more pages below the high mark
-  pub no-more-used : the-head half img .mark ≤ the-head half other .mark
-  no-more-used =
-      let c = sound-counted (sound-facts half other fits′) in
-      omega (arith, fewest-used half other fits′ m entries′, c .count, c .fit .head .mark-least)
-
   -- and no more levels
   pub no-higher : the-head half img .height ≤ the-head half other .height
   no-higher = go (decLt (top half other) (top half img))

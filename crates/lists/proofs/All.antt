@@ -1,10 +1,10 @@
 -- What holds of each element of a list: of the one in a place, of an append and the parts, and with others in the place of some.
 -- Assumes nothing.
 use Prim.Native.Nat.{ℕ, zero, suc, _<_}
-use mathlib.Core.List.{List, _∷_, _++_, map}
+use mathlib.Core.List.{List, [], _∷_, _++_, map}
 use native.Mathlib.Omega.{arith}
 use lib.ListN.{length, take, drop, getD}
-use Rattle.lists.specs.Lists.{splice, All, all-none, all-more}
+use Rattle.lists.specs.Lists.{listed, splice, All, all-none, all-more}
 
 module _ {A : Type 0} {Q : A → Type 0} where
   pub all-at : {es : List A} (i : ℕ) (d : A) → All Q es → i < length es → Q (getD es i d)
@@ -51,3 +51,9 @@ all-map f h (all-more {x} q r) = all-more (h x q) (all-map f h r)
 pub all-weaken : {A : Type 0} {Q R : A → Type 0} {es : List A} → ((x : A) → Q x → R x) → All Q es → All R es
 all-weaken h all-none = all-none
 all-weaken h (all-more {x} q r) = all-more (h x q) (all-weaken h r)
+
+-- of a list by index
+pub all-listed : {A : Type 0} {Q : A → Type 0} (n : ℕ) (f : ℕ → A) → ((i : ℕ) → i < n → Q (f i)) → All Q (listed n f)
+unfolding listed
+all-listed zero f h = all-none
+all-listed (suc n) f h = all-append (all-listed n f (λ i l. h i (omega arith))) (all-more (h n (omega arith)) all-none)

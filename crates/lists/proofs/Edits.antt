@@ -6,7 +6,7 @@ use mathlib.Core.List.{List, [], _∷_, _++_, map}
 use native.Mathlib.Omega.{arith}
 use lib.ListN.{length, take, drop, getD, length-append}
 use lib.Seq.{split-at, length-take-le, drop-at, take-take, take-append-le}
-use Rattle.lists.specs.Lists.{splice}
+use Rattle.lists.specs.Lists.{listed, splice}
 
 module _ {A B : Type 0} (f : A → B) where
   pub map-append : (xs ys : List A) → map f (xs ++ ys) ≡ map f xs ++ map f ys
@@ -64,3 +64,9 @@ length-splice (suc i) xs (e ∷ es) h = omega (arith, length-splice i xs es (ome
 
 pub length-splice-one : {A : Type 0} (i : ℕ) (x : A) (es : List A) → i < length es → length (splice i (x ∷ []) es) ≡ length es
 length-splice-one i x es h = omega (arith, length-splice i (x ∷ []) es h)
+
+-- of a list by index
+pub map-listed : {A B : Type 0} (f : A → B) (n : ℕ) (g : ℕ → A) → map f (listed n g) ≡ listed n (λ i. f (g i))
+unfolding listed
+map-listed f zero g = refl
+map-listed f (suc n) g = map-append f (listed n g) (g n ∷ []) ∙ ap (λ r. r ++ (f (g n) ∷ [])) (map-listed f n g)

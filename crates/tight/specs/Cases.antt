@@ -35,7 +35,7 @@ pub record Tight-cases : Type 0 where
   pub levels :
       map (sizes 2) (1 ∷ 4 ∷ 5 ∷ 9 ∷ 16 ∷ 17 ∷ 21 ∷ [])
       ≡ (1 ∷ []) ∷ (1 ∷ []) ∷ (2 ∷ 1 ∷ []) ∷ (3 ∷ 1 ∷ []) ∷ (4 ∷ 1 ∷ []) ∷ (5 ∷ 2 ∷ 1 ∷ []) ∷ (6 ∷ 2 ∷ 1 ∷ []) ∷ []
-  -- four levels, as many as there are below the root and one
+  -- four levels
   pub sixty-five : (sizes 2 65 ≡ 17 ∷ 5 ∷ 2 ∷ 1 ∷ []) × (length (tight-cells 2 (runs 65)) ≡ 25)
   pub levels-of-six : map (sizes 3) (36 ∷ 37 ∷ []) ≡ (6 ∷ 1 ∷ []) ∷ (7 ∷ 2 ∷ 1 ∷ []) ∷ []
   -- "page sizes differing by at most one, larger first"

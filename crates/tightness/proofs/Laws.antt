@@ -1,4 +1,4 @@
--- Laws of lists by index, and of a level's pages and cells, that speak of no tree. Assumes nothing.
+-- Laws of numbers, and of a level's pages and cells, that speak of no tree. Assumes nothing.
 use Prim.Native.Nat.{ℕ, zero, suc, _+_, _≤_, _<_}
 use mathlib.Core.Path.{_≡_, refl, sym, ap, _∙_}
 use mathlib.Core.List.{List, [], _∷_, _++_, map}
@@ -8,8 +8,7 @@ use native.Mathlib.Decide.{decLe}
 use lib.ListN.{length, getD, List·getD-append}
 use lib.Seq.{getD-append-add}
 use Rattle.lists.specs.Lists.{listed, total, hit, All, all-none, all-more}
-use Rattle.lists.proofs.All.{all-append, all-take, all-drop}
-use Rattle.lists.proofs.Edits.{map-append}
+use Rattle.lists.proofs.All.{all-take, all-drop}
 use Rattle.lists.proofs.Listed.{length-listed, getD-listed}
 use Rattle.lists.proofs.Totals.{from, hit-from}
 use Rattle.page.specs.declared.Entry.{Entry}
@@ -17,18 +16,6 @@ use Rattle.image.specs.Images.{tree, never-used}
 use Rattle.tight.specs.Tight.{pages-for, page-entries, entries-before, in-page, level-cells, entries-above, cells}
 use Rattle.tight.proofs.Pages.{pages-least}
 use Rattle.tight.proofs.Levels.{cells-more}
-
--- ---- lists by index
-
-pub map-listed : {A B : Type 0} (g : A → B) (n : ℕ) (f : ℕ → A) → map g (listed n f) ≡ listed n (λ i. g (f i))
-unfolding listed
-map-listed g zero f = refl
-map-listed g (suc n) f = map-append g (listed n f) (f n ∷ []) ∙ ap (λ r. r ++ (g (f n) ∷ [])) (map-listed g n f)
-
-pub all-listed : {A : Type 0} {Q : A → Type 0} (n : ℕ) (f : ℕ → A) → ((i : ℕ) → i < n → Q (f i)) → All Q (listed n f)
-unfolding listed
-all-listed zero f h = all-none
-all-listed (suc n) f h = all-append (all-listed n f (λ i l. h i (omega arith))) (all-more (h n (omega arith)) all-none)
 
 -- q is one of the n numbers from `first` on, or lies past them, or before
 pub total-from : (q first n : ℕ) → total n (λ i. hit q (first + i)) + from (first + n) q ≡ from first q

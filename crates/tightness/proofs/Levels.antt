@@ -28,7 +28,8 @@ use Rattle.tree.proofs.Look.{look}
 use Rattle.refinement.specs.Represents.{Stores}
 use Rattle.invariant.specs.Invariant.{Any-pair, Value-or-none, Bounds}
 use Rattle.tightness.specs.State.{page-node, nodes-above, tree-over}
-use Rattle.tightness.proofs.Laws.{all-listed, pages-several, all-in-page, cell-here, cell-above}
+use Rattle.lists.proofs.All.{all-listed}
+use Rattle.tightness.proofs.Laws.{pages-several, all-in-page, cell-here, cell-above}
 use Rattle.tightness.proofs.Pages.{flat-above, below-above, spans-above, answers-above}
 
 -- ---- the pairs on every path

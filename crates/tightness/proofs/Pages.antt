@@ -23,7 +23,8 @@ use Rattle.tree.proofs.Seg.{le-or-lt, from-yes, from-no, seg-part, seg-lt, seg-
 use Rattle.tree.proofs.Look.{look, look-append, look-early, pair-in-look}
 use Rattle.refinement.proofs.Below.{below-none, below-append, below-one, under-suc}
 use Rattle.tightness.specs.State.{page-node, nodes-above}
-use Rattle.tightness.proofs.Laws.{map-listed, total-from}
+use Rattle.lists.proofs.Edits.{map-listed}
+use Rattle.tightness.proofs.Laws.{total-from}
 
 -- ---- an entry without a pair
 

@@ -16,7 +16,8 @@ use Rattle.tight.proofs.Levels.{in-page-more, in-page-all}
 use Rattle.tree.specs.Tree.{Node, Subtree, Nodes, Tree}
 use Rattle.tree.proofs.Seg.{least-one}
 use Rattle.tightness.specs.State.{leaf-nodes, page-node, nodes-above, tree-over}
-use Rattle.tightness.proofs.Laws.{all-listed, all-in-page}
+use Rattle.lists.proofs.All.{all-listed}
+use Rattle.tightness.proofs.Laws.{all-in-page}
 use Rattle.tightness.proofs.Levels.{Level, up}
 
 -- ---- lists one behind another

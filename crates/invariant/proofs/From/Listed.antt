@@ -3,9 +3,9 @@ use Prim.Native.Nat.{ℕ, zero, suc, _<_}
 use mathlib.Core.Path.{_≡_}
 use mathlib.Core.List.{[], _∷_, _++_, map}
 use native.Mathlib.Omega.{arith}
-use Rattle.lists.specs.Lists.{All, all-none, all-more}
-use Rattle.lists.proofs.Edits.{map-append}
-use Rattle.lists.proofs.All.{all-append}
+use Rattle.lists.specs.Lists.{All}
+use Rattle.lists.proofs.Edits.{map-append, map-listed}
+use Rattle.lists.proofs.All.{all-listed as each-listed}
 use Rattle.page.specs.declared.Entry.{Entry}
 use Rattle.lists.specs.Lists.{listed}
 use Rattle.tree.specs.Tree.{Node}
@@ -18,9 +18,7 @@ module _ {A : Type 0} (g : Entry → Node A) (f : ℕ → Entry) where
   map-more n = map-append g (listed n f) (f n ∷ [])
 
   pub all-listed : {Q : Node A → Type 0} (n : ℕ) → ((i : ℕ) → i < n → Q (g (f i))) → All Q (map g (listed n f))
-  unfolding listed
-  all-listed zero h = all-none
-  all-listed (suc n) h = rw (map-more n) (all-append (all-listed n (λ i l. h i (omega arith))) (all-more (h n (omega arith)) all-none))
+  all-listed n h = rw (map-listed g n f) (each-listed n (λ i. g (f i)) h)
 
   pub seg-listed : {Q : Asked A} (n : ℕ) (b : ℕ → ℕ) → ((i : ℕ) → i < n → g (f i) .entry .start ≡ b i) → ((i : ℕ) → i < n → b i < b (suc i))
       → ((i : ℕ) → i < n → Q (b i) (b (suc i)) (g (f i))) → Seg Q (b 0) (b n) (map g (listed n f))

@@ -8,8 +8,8 @@ use lib.Dec.{leb}
 use lib.ListN.{length, length-map, getD}
 use Rattle.lists.specs.Lists.{listed, concat-map}
 use Rattle.lists.proofs.Listed.{listed-same}
-use Rattle.lists.proofs.Edits.{map-append}
 use Rattle.lists.proofs.Concat.{concat-map-append}
+use Rattle.lists.proofs.Edits.{map-listed}
 use Rattle.rule.specs.Pairs.{none}
 use Rattle.fields.specs.Bytes.{unused}
 use Rattle.fields.specs.Numbers.{u32-bytes}
@@ -46,11 +46,6 @@ getD-map : {A B : Type 0} (f : A → B) (xs : List A) (i : ℕ) (d : A) → getD
 getD-map f [] i d = refl
 getD-map f (x ∷ xs) zero d = refl
 getD-map f (x ∷ xs) (suc i) d = getD-map f xs i d
-
-pub map-listed : {A B : Type 0} (f : A → B) (n : ℕ) (g : ℕ → A) → map f (listed n g) ≡ listed n (λ i. f (g i))
-unfolding listed
-map-listed f zero g = refl
-map-listed {B = B} f (suc n) g = map-append f (listed n g) (g n ∷ []) ∙ ap (λ (r : List B). r ++ (f (g n) ∷ [])) (map-listed f n g)
 
 -- ---- a page
 

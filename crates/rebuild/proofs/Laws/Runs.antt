@@ -5,6 +5,7 @@ use mathlib.Core.List.{List, [], _++_, append-assoc, append-nil, map}
 use native.Mathlib.Nat.{add-zero}
 use native.Mathlib.Omega.{arith}
 use lib.ListN.{length, length-append, getD, drop}
+use Rattle.lists.proofs.Edits.{map-listed}
 use Rattle.lists.specs.Lists.{concat-map}
 use Rattle.lists.proofs.Listed.{listed-same, listed-getD}
 use Rattle.rule.specs.Pairs.{none}
@@ -20,7 +21,7 @@ use Rattle.runs.proofs.Laws.Steps.{length-run-bytes}
 use Rattle.runs.proofs.Laws.Entries.{length-runs-bytes}
 use Rattle.tight.specs.Tight.{leaf-entry}
 use Rattle.rebuild.specs.Levels.{run-entry, run-entries}
-use Rattle.rebuild.proofs.Laws.Coded.{coded, Same-bytes, map-listed}
+use Rattle.rebuild.proofs.Laws.Coded.{coded, Same-bytes}
 
 -- one run, where its bytes stand
 module _ (s : List ℕ) (i : ℕ) (r : Run) (bytes : Bytes s) (inside : 16 * i + 16 ≤ length s)

@@ -6,8 +6,7 @@ use native.Mathlib.Nat.{add-zero, add-comm, mul-zero, mul-suc}
 use native.Mathlib.Omega.{arith}
 use lib.ListN.{length, length-append, getD, take, drop}
 use lib.Seq.{length-take-le}
-use Rattle.lists.specs.Lists.{listed, concat-map, All, all-none, all-more}
-use Rattle.lists.proofs.All.{all-append}
+use Rattle.lists.specs.Lists.{concat-map, All, all-none, all-more}
 use Rattle.fields.specs.Bytes.{part, patch, unused}
 use Rattle.fields.specs.Numbers.{u32-bytes}
 use Rattle.fields.proofs.Laws.Parts.{part-middle, part-append-right}
@@ -20,12 +19,7 @@ use Rattle.page.proofs.Laws.Concat.{part-joined}
 use Rattle.page.proofs.Laws.Entries.{start-bytes, length-start-bytes}
 use Rattle.page.proofs.Laws.Trees.{bytes-tree, length-tree}
 
--- ---- things of one size one behind another (these belong in `lists` and `fields`)
-
-pub all-listed : {A : Type 0} {Q : A → Type 0} (n : ℕ) (g : ℕ → A) → ((i : ℕ) → i < n → Q (g i)) → All Q (listed n g)
-unfolding listed
-all-listed zero g each = all-none
-all-listed (suc n) g each = all-append (all-listed n g (λ i l. each i (omega arith))) (all-more (each n (omega arith)) all-none)
+-- ---- things of one size one behind another
 
 module _ {A : Type 0} (b : A → List ℕ) (k : ℕ) where
   abbrev pub Sized : A → Type 0

@@ -10,6 +10,8 @@ use lib.Dec.{leb}
 use lib.ListN.{length, length-append}
 use lib.Seq.{getD-append-add}
 use borrow.Author.Tests.{le-leb, lt-leb}
+use Rattle.lists.proofs.Edits.{map-listed}
+use Rattle.lists.proofs.All.{all-listed}
 use Rattle.lists.specs.Lists.{listed, concat-map, sum, All, all-none}
 use Rattle.lists.proofs.Listed.{length-listed, getD-listed, listed-same}
 use Rattle.lists.proofs.Concat.{concat-map-append}
@@ -28,8 +30,8 @@ use Rattle.tight.proofs.Pages.{pages-some, page-most, page-some}
 use Rattle.tight.proofs.Levels.{length-in-page, length-above, length-cells}
 use Rattle.rebuild.specs.Levels.{run-entries, page-entry, page-entries-from, level-bytes}
 use Rattle.rebuild.proofs.Laws.Sizes.{fewer}
-use Rattle.rebuild.proofs.Laws.Sized.{all-listed, length-sized, patched-sized, first-start}
-use Rattle.rebuild.proofs.Laws.Coded.{coded, Same-bytes, map-listed, level-same}
+use Rattle.rebuild.proofs.Laws.Sized.{length-sized, patched-sized, first-start}
+use Rattle.rebuild.proofs.Laws.Coded.{coded, Same-bytes, level-same}
 
 -- a page's bytes
 abbrev pub Page-sized : ℕ → Cell → Type 0
