@@ -1,9 +1,9 @@
--- `Sizes`: how many pages and levels. `Slots`: a page that is made slot by slot. `Patches`: writes in front of another, and what stands in
--- front of one. `Pieces`: pieces of one size, written one after the other, forwards and backwards. `Pages`: the pages of a level as such
--- pieces.
+-- `Sizes`: how many pages and levels. `Patches`: writes in front of another or over it, and what stands in front of one. `Slots`: a page
+-- that is written slot by slot. `Pieces`: pieces of one size, written one after the other, forwards and backwards. `Pages`: the pages of a
+-- level as such pieces.
 pub mod Sizes
-pub mod Slots
 pub mod Patches
+pub mod Slots
 pub mod Pieces
 pub mod Pages
 pub mod Leaves

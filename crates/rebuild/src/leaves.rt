@@ -3,9 +3,10 @@ use crate::sizes::page_entries;
 use fields::read::get_i32;
 use fields::read::get_i64;
 use fields::read::get_u32;
-use page::Page;
-use page::layout::SLOTS;
-use page::pages::write_page_at;
+use page::Entry;
+use page::pages::set_slot_at;
+use page::pages::write_blank_at;
+use rule::Pair;
 use runs::RUN_BYTES;
 use runs::RUN_COUNT_OFFSET;
 use runs::RUN_SUM_OFFSET;
@@ -14,35 +15,38 @@ ghost use Prim.Native.Nat.{suc, _+_, _*_, _≤_};
 ghost use lib.ListN.{length};
 ghost use Rattle.lists.specs.Lists.{listed};
 ghost use Rattle.fields.specs.Bytes.{patch};
-ghost use Rattle.page.specs.Layout.{page-size};
-ghost use Rattle.edit.specs.Contents.{Has-entries};
+ghost use Rattle.page.specs.Layout.{capacity, page-size, tree-bytes};
 ghost use Rattle.tight.specs.Tight.{pages-for};
 ghost use Rattle.rebuild.specs.Levels.{run-entry, run-entries, level-bytes};
 
-// A leaf of the runs from the one numbered `from` on.
-fn leaf_page(s: &[u8], from: usize, size: usize) -> Page
-    requires { ⌜ (size ≤ 24) × (16 * (from + size) ≤ length (now s)) ⌝ }
-    ensures { λ r. ⌜ Has-entries 0 (listed size (λ i. run-entry (now (s .entry)) (from + i))) r ⌝ }
+// The i-th run that is listed in s, as a leaf entry.
+fn run_at(s: &[u8], i: usize) -> Entry
+    requires { ⌜ 16 * i + 16 ≤ length (now s) ⌝ }
+    ensures { λ r. ⌜ r ≡ run-entry (now (s .entry)) i ⌝ }
 {
-    let mut starts = [0u32; SLOTS];
-    let mut sums = [0i64; SLOTS];
-    let mut counts = [0i32; SLOTS];
-    let children = [0u32; SLOTS];
+    let o = RUN_BYTES * i;
+    Entry {
+        start: get_u32(s, o),
+        pair: Pair {
+            sum: get_i64(s, o + RUN_SUM_OFFSET),
+            count: get_i32(s, o + RUN_COUNT_OFFSET),
+        },
+        child: 0,
+    }
+}
+
+// Writes page p as a leaf of the runs from the one numbered `from` on. They lie before the page, so none of them is overwritten.
+fn write_leaf(half: usize, img: &mut [u8], p: u32, from: usize, size: usize)
+    requires { ⌜ (half ≤ 12) × (size ≤ capacity half) ⌝ }
+    requires { ⌜ (16 * (from + size) ≤ page-size half * p) × (page-size half * p + page-size half ≤ length (now img)) ⌝ }
+    ensures { λ _. ⌜ now (img .exit)
+        ≡ patch (now (img .entry)) (page-size half * p) (tree-bytes half 0 (listed size (λ i. run-entry (now (img .entry)) (from + i)))) ⌝ }
+{
+    write_blank_at(half, img, p, 0, size as u32);
     let mut i = 0;
     while i < size {
-        let o = RUN_BYTES * (from + i);
-        starts[i] = get_u32(s, o);
-        counts[i] = get_i32(s, o + RUN_COUNT_OFFSET);
-        sums[i] = get_i64(s, o + RUN_SUM_OFFSET);
+        set_slot_at(half, img, p, i, run_at(img, from + i));
         i += 1;
-    }
-    Page {
-        level: 0,
-        len: size,
-        starts,
-        sums,
-        counts,
-        children,
     }
 }
 
@@ -61,8 +65,7 @@ pub fn write_leaves(half: usize, img: &mut [u8], runs: u32, pages: u32)
     while 0 < i {
         let size = page_entries(least, larger, i - 1);
         from = from - size;
-        let leaf = leaf_page(img, from as usize, size as usize);
-        write_page_at(half, img, i, leaf);
+        write_leaf(half, img, i, from as usize, size as usize);
         i = i - 1;
     }
 }

@@ -8,10 +8,7 @@ use lib.ListN.{length}
 use Rattle.lists.specs.Lists.{listed}
 use Rattle.lists.proofs.Listed.{listed-same}
 use Rattle.fields.specs.Bytes.{patch}
-use Rattle.page.specs.declared.Page.{Page}
 use Rattle.page.specs.Layout.{capacity, page-size, tree-bytes}
-use Rattle.page.specs.Decoded.{entry-list}
-use Rattle.edit.specs.Contents.{Has-entries}
 use Rattle.tight.proofs.Pages.{pages-some, before-more, before-all, before-most, page-most}
 use Rattle.rebuild.specs.Levels.{run-entry, run-entries, level-bytes}
 use Rattle.rebuild.proofs.Laws.Patches.{run-before}
@@ -52,10 +49,10 @@ module _ (half m : ℕ) (s : List ℕ) (some : 1 ≤ half) (one : 1 ≤ m) (room
       ∙ run-before s (k * suc (suc i)) (behind (leaf half m s) (pages half m) (suc i)) (omega arith) (before half m i + j)
       (omega (arith, runs-room half m some one (suc i), before-more m (pages half m) i, mul-suc k (suc i))))
 
-  pub leaves-more : {t u : List ℕ} {n from i : ℕ} {q : Page} (j : ℕ) → i ≡ suc j → Leaves half m s i from t → n ≡ size half m j
-      → Has-entries 0 (listed n (λ k. run-entry t (from - n + k))) q → length u ≡ length t
-      → u ≡ patch t (page-size half * i) (tree-bytes half (q .level) (entry-list q)) → Leaves half m s j (from - n) u
-  leaves-more {t} {u} {n} {from} {i} {q} j next g e has same wrote =
+  pub leaves-more : {t u : List ℕ} {n from i : ℕ} (j : ℕ) → i ≡ suc j → Leaves half m s i from t → n ≡ size half m j
+      → length u ≡ length t → u ≡ patch t (page-size half * i) (tree-bytes half 0 (listed n (λ k. run-entry t (from - n + k))))
+      → Leaves half m s j (from - n) u
+  leaves-more {t} {u} {n} {from} {i} j next g e same wrote =
       let k : ℕ = page-size half in
       let h : j < pages half m = omega (arith, g .within) in
       let a : from - n ≡ before half m j = omega (arith, g .left ∙ ap (before half m) next, before-more m (pages half m) j) in
@@ -66,18 +63,17 @@ module _ (half m : ℕ) (s : List ℕ) (some : 1 ≤ half) (one : 1 ≤ m) (room
         left = a;
         long = same ∙ g .long;
         bytes = back-more (leaf half m s) (pages half m) k s j h room (length-piece half m (run-entry s) some one 0 j) t-is
-            (wrote ∙ ap (λ l. patch t (k * l) (tree-bytes half (q .level) (entry-list q))) next)
-            ((λ l. tree-bytes half (has .level l) (has .entries l))
-            ∙ (λ l. tree-bytes half 0 (listed (e l) (λ x. run-entry t (a l + x))))
+            (wrote ∙ ap (λ l. patch t (k * l) (tree-bytes half 0 (listed n (λ x. run-entry t (from - n + x))))) next)
+            ((λ l. tree-bytes half 0 (listed (e l) (λ x. run-entry t (a l + x))))
             ∙ ap (tree-bytes half 0) (listed-still j t h t-is));
       }
 
-  -- the next page: its runs are among those left, it has room for them, and they and the page lie in the target
+  -- the next page: its runs are among those left and lie before it, it has room for them, and it lies in the target
   pub record Next (n from i : ℕ) : Type 0 where
     pub most : from ≤ m
     pub left : n ≤ from
     pub few : n ≤ capacity half
-    pub listed : 16 * from ≤ length s
+    pub before : 16 * from ≤ page-size half * i
     pub page : page-size half * i + page-size half ≤ length s
 
   pub leaves-next : {t : List ℕ} {n from i : ℕ} (j : ℕ) → i ≡ suc j → Leaves half m s i from t → n ≡ size half m j → Next n from i
@@ -89,7 +85,7 @@ module _ (half m : ℕ) (s : List ℕ) (some : 1 ≤ half) (one : 1 ≤ m) (room
         most = omega (arith, g .left, before-most m (pages half m) (pages-some half m some one) i (g .within));
         left = omega arith;
         few = omega (arith, page-most half m some one j);
-        listed = omega (arith, g .left, runs-room half m some one i, mul-suc k i);
+        before = omega (arith, g .left, runs-room half m some one i);
         page = omega (arith, mul-suc k i);
       }
 

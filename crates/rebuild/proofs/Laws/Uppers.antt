@@ -2,27 +2,21 @@
 use Prim.Native.Nat.{ℕ, suc, _+_, _*_, _≤_, _<_}
 use mathlib.Core.Path.{_≡_, refl, sym, ap, _∙_}
 use mathlib.Core.List.{List}
-use native.Mathlib.Nat.{add-assoc, add-zero, mul-add, mul-le-mul-left}
+use native.Mathlib.Nat.{add-assoc, add-zero, mul-add}
 use native.Mathlib.Numerals.{add-one}
 use native.Mathlib.Omega.{arith}
 use lib.ListN.{length}
 use Rattle.lists.specs.Lists.{listed, total}
 use Rattle.lists.proofs.Listed.{listed-same}
-use Rattle.rule.specs.Pairs.{none}
 use Rattle.fields.specs.Bytes.{patch}
 use Rattle.page.specs.declared.Entry.{Entry}
-use Rattle.page.specs.declared.Page.{Page}
-use Rattle.page.specs.Entries.{entry}
-use Rattle.page.specs.Layout.{capacity, page-size, tree-bytes, start-at}
-use Rattle.page.specs.Decoded.{entry-list}
+use Rattle.page.specs.Layout.{capacity, page-size, tree-bytes}
 use Rattle.page.proofs.Laws.Offsets.{page-within}
-use Rattle.edit.specs.Contents.{Has-entries}
-use Rattle.image.specs.Images.{page-at}
 use Rattle.image.proofs.Rows.{rows}
 use Rattle.tight.specs.Tight.{entries-before}
 use Rattle.tight.proofs.Pages.{pages-some, before-more, before-most, page-most}
 use Rattle.rebuild.specs.Levels.{page-entry, page-entries-from, level-bytes}
-use Rattle.rebuild.proofs.Laws.Patches.{page-before}
+use Rattle.rebuild.proofs.Laws.Patches.{lead-before}
 use Rattle.rebuild.proofs.Laws.Pieces.{ahead-none, ahead-more}
 use Rattle.rebuild.proofs.Laws.Pages.{pages, size, before, page-of, piece, length-piece, level-pieces}
 
@@ -54,7 +48,6 @@ module _ (half n below level : ℕ) (s : List ℕ) (some : 1 ≤ half) (one : 1 
   -- what a page is made of stands in front of what is written
   pages-still : (i : ℕ) (t bs : List ℕ) → i < pages half n → t ≡ patch s (page-size half * (below + n)) bs
       → listed (size half n i) (λ k. page-entry half t (below + before half n i + k)) ≡ page-of half n (lead half s below) i
-  unfolding page-entry
   pages-still i t bs h e =
       let o : ℕ = page-size half * (below + n) in
       listed-same (size half n i) (λ k. page-entry half t (below + before half n i + k))
@@ -67,14 +60,14 @@ module _ (half n below level : ℕ) (s : List ℕ) (some : 1 ≤ half) (one : 1 
         before-most n (pages half n) (pages-some half n some one) (suc i) h,
       ) in
       ap (page-entry half t) (add-assoc below (before half n i) k)
-      ∙ ap (λ u. entry (start-at u 0) none q)
-      (ap (λ u. page-at half u q) e ∙ page-before s o bs behind-below half q (page-within half m)))
+      ∙ ap (λ u. page-entry half u q) e
+      ∙ lead-before s o bs behind-below half q (page-within half m))
 
-  pub upper-more : {t u : List ℕ} {m i child : ℕ} {q : Page} → i < pages half n → Upper half n below level s i child t
-      → m ≡ size half n i → Has-entries level (listed m (λ k. page-entry half t (child + k))) q → length u ≡ length t
-      → u ≡ patch t (page-size half * (below + n + i)) (tree-bytes half (q .level) (entry-list q))
+  pub upper-more : {t u : List ℕ} {m i child : ℕ} → i < pages half n → Upper half n below level s i child t
+      → m ≡ size half n i → length u ≡ length t
+      → u ≡ patch t (page-size half * (below + n + i)) (tree-bytes half level (listed m (λ k. page-entry half t (child + k))))
       → Upper half n below level s (i + 1) (child + m) u
-  upper-more {t} {u} {m} {i} {child} {q} h g e has same wrote =
+  upper-more {t} {u} {m} {i} {child} h g e same wrote =
       let k : ℕ = page-size half in
       let f : ℕ → Entry = lead half s below in
       record {
@@ -83,23 +76,20 @@ module _ (half n below level : ℕ) (s : List ℕ) (some : 1 ≤ half) (one : 1 
         long = same ∙ g .long;
         bytes = ahead-more (piece half n f level) (pages half n) k s (k * (below + n)) i (k * (below + n + i)) h behind-below
             (λ j l. length-piece half n f some one level j) (g .bytes) wrote
-            ((λ l. tree-bytes half (has .level l) (has .entries l))
-            ∙ (λ l. tree-bytes half level (listed (e l) (λ x. page-entry half t (g .leads l + x))))
+            ((λ l. tree-bytes half level (listed (e l) (λ x. page-entry half t (g .leads l + x))))
             ∙ ap (tree-bytes half level) (pages-still i t (rows (piece half n f level) i) h (g .bytes)))
             (mul-add k (below + n) i);
       }
 
-  -- the next page: it has room for its entries, and they lead to pages of the level below
+  -- the next page: it has room for its entries, they lead to pages of the level below, and it lies in the target
   pub record Above (m i child : ℕ) : Type 0 where
     pub few : m ≤ capacity half
     pub leads : child + m ≤ below + n
-    pub inside : page-size half * (child + m) ≤ length s
     pub page : page-size half * (below + n + i) + page-size half ≤ length s
 
   pub upper-next : {t : List ℕ} {m i child : ℕ} → i < pages half n → Upper half n below level s i child t → m ≡ size half n i
       → Above m i child
   upper-next {t} {m} {i} {child} h g e =
-      let k : ℕ = page-size half in
       let l : child + m ≤ below + n = omega (
         arith,
         g .leads,
@@ -110,7 +100,6 @@ module _ (half n below level : ℕ) (s : List ℕ) (some : 1 ≤ half) (one : 1 
       record {
         few = omega (arith, page-most half n some one i);
         leads = l;
-        inside = omega (arith, mul-le-mul-left k l, behind-below);
         page = omega (arith, page-within half a);
       }
 

@@ -1,13 +1,10 @@
 -- `rebuild::leaves::write_leaves` meets its contract. The loop's invariant: the leaves from the i-th on are written, and the runs before
 -- them are listed still. Assumes nothing.
-use Prim.Native.Nat.{suc, _+_, _-_, _*_, _≤_}
+use Prim.Native.Nat.{suc, _-_, _*_, _≤_}
 use mathlib.Core.Path.{sym}
 use native.Mathlib.Omega.{arith}
 use lib.ListN.{length}
-use Rattle.lists.proofs.Listed.{length-listed}
 use Rattle.page.specs.Layout.{page-size}
-use Rattle.edit.proofs.Edits.{has-len}
-use Rattle.rebuild.specs.Levels.{run-entry}
 use Rattle.rebuild.proofs.Laws.Pages.{pages, some-pages, least-few, size-told}
 use Rattle.rebuild.proofs.Laws.Leaves.{Leaves, leaves-none, leaves-more, Next, leaves-next, leaves-all}
 use Rattle.rebuild.proofs.leaves.write_leaves.Statement.{statement}
@@ -54,35 +51,20 @@ next c =
     leaves-next half m (start .args .img .now) (pre .0) (pre .2) (room start) (at c .loop .i - 1) (omega arith) (at c .loop .inv)
     (size-told half m (pre .3) (at c .loop .i - 1) (c .page-entries .ensures))
 
-leaf-page-requires : tie.Need-leaf-page-requires Inv-loop μ-loop
-leaf-page-requires c κs = omega (arith, next (c .before), at (c .before) .loop .inv .long)
-
-write-page-at-requires : tie.Need-write-page-at-requires Inv-loop μ-loop
-write-page-at-requires c κs =
-    let page = c .before in
-    let sizes = page .before .before in
-    let n = sizes .page-entries .result in
-    let loop = at sizes .loop in
-    omega (
-      arith,
-      next sizes,
-      loop .inv .long,
-      has-len (page .leaf-page .ensures),
-      length-listed n (λ i. run-entry (loop .img) (loop .from - n + i)),
-    )
+write-leaf-requires : tie.Need-write-leaf-requires Inv-loop μ-loop
+write-leaf-requires c κs = omega (arith, next (c .before), at (c .before) .loop .inv .long)
 
 loop-again : tie.Need-loop-again Inv-loop μ-loop
 loop-again c =
     let wrote = c .before .before in
-    let page = wrote .before .before in
-    let sizes = page .before .before in
+    let sizes = wrote .before .before in
     let start = started (at sizes) in
     let pre = start .pre .0 in
     let half = start .args .half in
     let m = start .args .runs in
     leaves-more half m (start .args .img .now) (pre .0) (pre .2) (room start) (at sizes .loop .i - 1) (omega arith) (at sizes .loop .inv)
-    (size-told half m (pre .3) (at sizes .loop .i - 1) (sizes .page-entries .ensures)) (page .leaf-page .ensures) (omega arith)
-    (wrote .write-page-at .ensures)
+    (size-told half m (pre .3) (at sizes .loop .i - 1) (sizes .page-entries .ensures)) (omega arith)
+    (wrote .write-leaf .ensures)
 
 returns : tie.Need-returns Inv-loop μ-loop
 returns c =
@@ -95,5 +77,5 @@ pub write-leaves-spec : {M : Type 1} → statement M
 write-leaves-spec =
     tie.close
     (tie.spec Inv-loop μ-loop (λ c. omega (arith, some (c .before))) (λ c. omega (arith, some (c .before))) loop-holds (λ c. omega arith)
-    few (λ c. next c .left) (λ c. omega (arith, next (c .before))) (λ c. omega arith) leaf-page-requires write-page-at-requires
-    (λ c. omega arith) (λ c. omega arith) loop-again (λ c. c .before .loop .inv .long) returns)
+    few (λ c. next c .left) (λ c. omega (arith, next (c .before))) (λ c. omega arith) write-leaf-requires (λ c. omega arith)
+    (λ c. omega arith) loop-again (λ c. c .before .loop .inv .long) returns)

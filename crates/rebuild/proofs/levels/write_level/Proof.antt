@@ -4,10 +4,7 @@ use Prim.Native.Nat.{_+_, _-_, _*_, _≤_}
 use mathlib.Core.Path.{sym}
 use native.Mathlib.Omega.{arith}
 use lib.ListN.{length}
-use Rattle.lists.proofs.Listed.{length-listed}
 use Rattle.page.specs.Layout.{page-size}
-use Rattle.edit.proofs.Edits.{has-len}
-use Rattle.rebuild.specs.Levels.{page-entry}
 use Rattle.rebuild.proofs.Laws.Pages.{pages, some-pages, least-few, size-told}
 use Rattle.rebuild.proofs.Laws.Uppers.{Upper, upper-none, upper-more, Above, upper-next, upper-all}
 use Rattle.rebuild.proofs.levels.write_level.Statement.{statement}
@@ -56,36 +53,21 @@ next c =
     upper-next half n (start .args .below) (start .args .level) (start .args .img .now) (pre .0) (pre .2) (room start) (omega arith)
     (at c .loop .inv) (size-told half n (pre .3) (at c .loop .i) (c .page-entries .ensures))
 
-inner-page-requires : tie.Need-inner-page-requires Inv-loop μ-loop
-inner-page-requires c κs = omega (arith, next (c .before), at (c .before) .loop .inv .long)
-
-write-page-at-requires : tie.Need-write-page-at-requires Inv-loop μ-loop
-write-page-at-requires c κs =
-    let page = c .before in
-    let sizes = page .before .before in
-    let m = sizes .page-entries .result in
-    let loop = at sizes .loop in
-    omega (
-      arith,
-      next sizes,
-      loop .inv .long,
-      has-len (page .inner-page .ensures),
-      length-listed m (λ i. page-entry (started (at sizes) .args .half) (loop .img) (loop .child + i)),
-    )
+write-inner-requires : tie.Need-write-inner-requires Inv-loop μ-loop
+write-inner-requires c κs = omega (arith, next (c .before), at (c .before) .loop .inv .long)
 
 loop-again : tie.Need-loop-again Inv-loop μ-loop
 loop-again c =
     let wrote = c .before .before in
-    let page = wrote .before .before in
-    let sizes = page .before .before in
+    let sizes = wrote .before .before in
     let start = started (at sizes) in
     let pre = start .pre .0 in
     let half = start .args .half in
     let n = start .args .n in
     upper-more half n (start .args .below) (start .args .level) (start .args .img .now) (pre .0) (pre .2) (room start) (omega arith)
-    (at sizes .loop .inv) (size-told half n (pre .3) (at sizes .loop .i) (sizes .page-entries .ensures)) (page .inner-page .ensures)
+    (at sizes .loop .inv) (size-told half n (pre .3) (at sizes .loop .i) (sizes .page-entries .ensures))
     (omega arith)
-    (wrote .write-page-at .ensures)
+    (wrote .write-inner .ensures)
 
 returns : tie.Need-returns Inv-loop μ-loop
 returns c =
@@ -99,6 +81,6 @@ pub write-level-spec : {M : Type 1} → statement M
 write-level-spec =
     tie.close
     (tie.spec Inv-loop μ-loop (λ c. omega (arith, some (c .before))) (λ c. omega (arith, some (c .before))) loop-holds few
-    (λ c. omega arith) inner-page-requires (λ c. omega arith) (λ c. omega arith) write-page-at-requires
-    (λ c. omega (arith, next (c .before .before .before .before .before .before))) (λ c. omega arith) (λ c. omega arith) loop-again
+    (λ c. omega arith) (λ c. omega arith) (λ c. omega arith) write-inner-requires
+    (λ c. omega (arith, next (c .before .before .before .before))) (λ c. omega arith) (λ c. omega arith) loop-again
     (λ c. c .before .loop .inv .long) returns)
