@@ -9,3 +9,9 @@ macro_rules! copies {
         const $name: [$type; 4] = [$($copy),*];
     };
 }
+
+/// Which two archives a table is of.
+pub fn print_archives() {
+    println!("before: {}; after: this archive; each at four places", env!("BEFORE_IS"));
+    println!();
+}

@@ -3,8 +3,8 @@
 //!
 //!     cargo run --release --offline --manifest-path tests/bench/Cargo.toml --target-dir target/cargo
 //!
-//! A name behind it, instant, audit, listing or change, measures these rows alone; search or rounding, tables of their own, for
-//! which LUWHENOKA_BEFORE names the folder of another commit's archive.
+//! A name behind it, instant, audit, listing or change, measures these rows alone; search, rounding or rebuild, tables of their
+//! own. For search and rounding LUWHENOKA_BEFORE names the folder of another commit's archive.
 
 #[macro_use]
 mod copies;
@@ -15,8 +15,10 @@ mod even;
 mod measure;
 mod peer;
 mod reading;
+mod rebuilding;
 mod rounding;
 mod search;
+mod seasons;
 mod subjects;
 
 /// The parts of the table, by the names that choose them.
@@ -27,22 +29,21 @@ const PARTS: [(&str, fn()); 4] = [
     ("change", booking::changes),
 ];
 
-/// Tables that stand apart, of this archive and one of before.
-const APART: [(&str, fn()); 2] = [("search", search::searches), ("rounding", rounding::roundings)];
+/// Tables that stand apart.
+const APART: [(&str, fn()); 3] =
+    [("search", search::searches), ("rounding", rounding::roundings), ("rebuild", rebuilding::rebuilds)];
 
 fn main() {
     let asked: Vec<String> = std::env::args().skip(1).collect();
     if let [name] = &asked[..] {
         if let Some((_, tables)) = APART.iter().find(|(apart, _)| apart == name) {
             print_setup();
-            println!("before: {}; after: this archive; each at four places", env!("BEFORE_IS"));
-            println!();
             tables();
             return;
         }
     }
     if let Some(unknown) = asked.iter().find(|name| PARTS.iter().all(|(part, _)| part != name)) {
-        eprintln!("{unknown}: not one of instant, audit, listing, change; search and rounding stand alone");
+        eprintln!("{unknown}: not one of instant, audit, listing, change; search, rounding and rebuild stand alone");
         std::process::exit(2);
     }
     print_setup();

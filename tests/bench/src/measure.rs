@@ -12,6 +12,9 @@ pub enum Column {
     Known,
     Copying,
     Map,
+    Listing,
+    Audit,
+    Filling,
 }
 
 /// A piece of work: done once, it does `units` of what is counted, and gives a number so that nothing is left out.
@@ -27,15 +30,22 @@ impl<'a> Work<'a> {
     }
 }
 
-/// What a work took: the least of the rounds, for each unit, and the median over the rounds of the first work's time by its
-/// own.
+/// What a work took: the least of the rounds, for each unit, the median over the rounds of the first work's time by its own,
+/// and each round's time.
 pub struct Took {
     column: Column,
     nanoseconds: f64,
     pub ratio: f64,
+    rounds: Vec<f64>,
 }
 
 impl Took {
+    /// The median over the rounds of its time by what others took together.
+    pub fn by_all(&self, others: &[&Took]) -> f64 {
+        let together = |round: usize| others.iter().map(|other| other.rounds[round]).sum::<f64>();
+        median(self.rounds.iter().enumerate().map(|(round, own)| own / together(round)).collect())
+    }
+
     /// One digit after the point where there are less than three before it.
     pub fn time(&self) -> String {
         if self.nanoseconds < 100.0 {
@@ -65,9 +75,10 @@ pub fn side_by_side(mut works: Vec<Work>) -> Vec<Took> {
         }
     }
     let first = times[0].clone();
-    let took = works.iter().zip(&times).map(|(work, times)| {
-        let ratios = first.iter().zip(times).map(|(first, own)| first / own).collect();
-        Took { column: work.column, nanoseconds: times.iter().copied().fold(f64::MAX, f64::min), ratio: median(ratios) }
+    let took = works.iter().zip(times).map(|(work, rounds)| {
+        let ratio = median(first.iter().zip(&rounds).map(|(first, own)| first / own).collect());
+        let nanoseconds = rounds.iter().copied().fold(f64::MAX, f64::min);
+        Took { column: work.column, nanoseconds, ratio, rounds }
     });
     took.collect()
 }

@@ -2,6 +2,7 @@
 
 use luwhenoka::raw::AverageAnswer;
 
+use crate::copies::print_archives;
 use crate::measure::{side_by_side, Column, Work};
 use crate::subjects::Random;
 
@@ -24,6 +25,7 @@ fn of(copy: AverageOf, pair: Pair) -> AverageAnswer {
 }
 
 pub fn roundings() {
+    print_archives();
     println!("| pairs | ns | × before | × plain C |");
     println!("|--|--|--|--|");
     row("sums to a million, counts to 1,000", |random| {

@@ -7,6 +7,7 @@ use luwhenoka::raw::InstantAnswer;
 use plain::page::{read_head, read_page};
 use plain::Capacity;
 
+use crate::copies::print_archives;
 use crate::even::{Even, LATE};
 use crate::measure::{side_by_side, Column, Took, Work};
 use crate::subjects::{booked, bookings, height, Booking, Random, CAPACITY, INSTANTS, RANGE};
@@ -77,6 +78,7 @@ struct Subject {
 }
 
 pub fn searches() {
+    print_archives();
     let subjects = subjects();
     before_and_after(&subjects);
     println!();
