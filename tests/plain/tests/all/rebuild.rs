@@ -254,7 +254,7 @@ fn five_runs_by_bytes() {
     assert_eq!(expected.len(), 4 * 112);
     expected.resize(7 * 112, 0xFF);
 
-    // 6 counts on [10, 27), 3 on [20, 52): the window is 2. The withdrawal of a booking that never was, and its entry, leave no run.
+    // 6 counts on [10, 27), 3 on [20, 52): the window is 2. A booking of 0 that is entered and withdrawn again leaves no run.
     let mut source = fresh_of(4, 9, 1, 2);
     for (v, s, e) in [(6, 10, 25), (3, 20, 50), (0, 90, 93)] {
         assert_eq!(enter(&mut source, &mut [0; 2], v, s, e), 0);
