@@ -250,7 +250,8 @@ uint32_t luw_withdraw(uint8_t *image, size_t image_length, uint8_t *scratch, siz
  *   rest     FF
  *
  * So for m runs a target needs a page for its head, a page for each K runs, a page for each K of those, and so on up to a
- * single one, each time rounded up. 24 tells that it has fewer. As many pages as the source has are always enough.
+ * single one, each time rounded up. 24 tells that it has fewer. A target of as many pages as the source uses, its head among
+ * them, is always large enough, and so is one of the source's own length.
  *
  * Refusals: 16, 17, 21 of the source, and 21 for its capacity ahead of them; then 16 if the target isn't 2 to 1,024 pages
  * of the source's capacity; then 24. There is no 23, since a rebuild is no change. The source always keeps its bytes, the
