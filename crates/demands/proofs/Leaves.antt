@@ -1,17 +1,14 @@
 -- Runs that tile all time, as the leaf entries of a tree: they follow each other, each instant has its run's pair, and their pairs are
 -- bounded as those of the image's pages. Assumes nothing.
-use Prim.Native.Nat.{ℕ, _*_, _≤_, _<_}
-use mathlib.Core.Path.{_≡_, refl, sym, ap, _∙_}
-use mathlib.Core.Bool.{true, false}
+use Prim.Native.Nat.{ℕ, _≤_, _<_}
+use mathlib.Core.Path.{_≡_, refl, sym, _∙_}
 use mathlib.Core.List.{List}
 use native.Mathlib.Omega.{arith}
 use native.Mathlib.Decide.{decLt}
-use lib.Dec.{eqb}
-use lib.IntN.{natAbs}
 use Rattle.lists.specs.Lists.{All}
-use Rattle.lists.proofs.All.{all-map, all-weaken}
+use Rattle.lists.proofs.All.{all-map}
 use Rattle.rule.specs.declared.Pair.{Pair}
-use Rattle.rule.specs.Time.{END, most-value}
+use Rattle.rule.specs.Time.{END}
 use Rattle.rule.specs.Pairs.{none}
 use Rattle.page.specs.declared.Head.{Head}
 use Rattle.page.specs.Fit.{root-context}
@@ -23,9 +20,9 @@ use Rattle.tree.specs.Shape.{Seg, Leaf}
 use Rattle.tree.specs.Shape as shape
 use Rattle.tree.specs.Conserved.{Path-bounded}
 use Rattle.tree.proofs.Look.{look, look-first, look-early, pair-in-look}
-use Rattle.invariant.specs.Invariant.{Any-pair, Value-or-none, Bounds}
+use Rattle.invariant.specs.Invariant.{Bounds}
 use Rattle.tightness.specs.State.{leaf-nodes}
-use Rattle.answers.proofs.Tiles.{Tiles, done, more, tiles-le}
+use Rattle.answers.proofs.Tiles.{Tiles, done, more}
 
 module _ {Q : ℕ → Pair → Type 0} where
   pub tiles-seg : {a b : ℕ} {rs : List Run} → Tiles Q a b rs → Seg Leaf a b (leaf-nodes rs)

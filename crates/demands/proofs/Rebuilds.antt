@@ -25,7 +25,7 @@ use Rattle.soundness.proofs.Counting.{sound-counted}
 use Rattle.fewest.proofs.Fewest.{fewest-used, listing-few, no-more-on, no-higher}
 use Rattle.calls.specs.Refusals.{borrowed}
 use Rattle.calls.specs.Calls.{Instant, Rebuilt, head, instant, average-at, listing, runs-over, full-runs, rebuilt-bytes, rebuild}
-use Rattle.calls.specs.Index.{judge, index-instant, index-average, index-listing, index-rebuild}
+use Rattle.calls.specs.Index.{judge, index-rebuild}
 use Rattle.calls.specs.Tables.{Returned, Exactly, Fewer-bits, Too-small, judge-cases, rebuild-cases}
 use Rattle.calls.specs.Rebuild.{Head-left, Answers-kept, No-fewer, Rebuilt-from, Rebuilds}
 use Rattle.calls.proofs.Judged.{by-judge}
@@ -34,7 +34,7 @@ use Rattle.answers.proofs.Tiles.{runs-of-same}
 use Rattle.answers.proofs.Full.{full-is}
 use Rattle.answers.proofs.Agree.{listing-of-same}
 use Rattle.answers.proofs.Sound.{sound-status, sound-pair, sound-listing}
-use Rattle.answers.proofs.Own.{Own, sound-own, judged-half, own-instant, own-average, own-listing, own-rebuild}
+use Rattle.answers.proofs.Own.{sound-own, judged-half, own-instant, own-average, own-listing, own-rebuild}
 use Rattle.demands.proofs.Agree.{instant-end}
 use Rattle.demands.proofs.Rebuilt.{rebuilt-sound, rebuilt-is-bytes, rebuilt-length, rebuilt-head, rebuilt-look, rebuilt-field, passed}
 use Rattle.demands.proofs.Rebuilt.{rebuilt-laid-out}

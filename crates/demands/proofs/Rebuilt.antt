@@ -1,8 +1,8 @@
 -- What an accepted rebuild leaves in its target: a sound image that answers as the source does, in the fewest pages. Assumes nothing.
 use Prim.Native.Nat.{ℕ, suc, _*_, _≤_, _<_}
-use mathlib.Core.Path.{_≡_, refl, sym, ap, _∙_, subst⁻¹}
-use mathlib.Core.Bool.{Bool, true, false, cond, not}
-use mathlib.Core.List.{List, [], _∷_}
+use mathlib.Core.Path.{_≡_, sym, ap, _∙_}
+use mathlib.Core.Bool.{true, cond}
+use mathlib.Core.List.{List}
 use native.Mathlib.Omega.{arith}
 use lib.ListN.{length}
 use lib.Dec.{eqb}
@@ -12,12 +12,10 @@ use Rattle.fields.specs.Bytes.{Bytes}
 use Rattle.page.specs.declared.Head.{Head}
 use Rattle.page.specs.Layout.{capacity, capacity-named, page-size}
 use Rattle.page.proofs.Laws.Capacities.{field-is}
-use Rattle.image.specs.Images.{capacity-field, half-of, pages-in, length-ok, image-of, image-bytes}
+use Rattle.image.specs.Images.{capacity-field, pages-in, length-ok, image-of}
 use Rattle.image.specs.Sound.{sound}
 use Rattle.image.specs.Instant.{look-up}
-use Rattle.image.specs.Listing.{Run, walk-over, join}
 use Rattle.image.proofs.Capacity.{field-read}
-use Rattle.image.proofs.Sizes.{sized}
 use Rattle.tight.specs.Tight.{pages-used, tight, too-small}
 use Rattle.tight.specs.Layout.{Laid-out}
 use Rattle.soundness.proofs.Sound.{sound-facts}
@@ -25,9 +23,9 @@ use Rattle.invariant.proofs.From.Invariant.{pages-range}
 use Rattle.tightness.specs.State.{Suited}
 use Rattle.tightness.proofs.Sound.{tight-sound, tight-head, tight-bytes, tight-length, tight-look}
 use Rattle.tightness.proofs.Laid.{tight-laid-out}
-use Rattle.calls.specs.Refusals.{first, borrowed, scratch-ok}
-use Rattle.calls.specs.Calls.{Rebuilt, head, full-runs, rebuilt-bytes, audit-input-rows, rebuild-status, rebuild}
-use Rattle.calls.specs.Book.{Book, book-pair}
+use Rattle.calls.specs.Refusals.{borrowed}
+use Rattle.calls.specs.Calls.{head, full-runs, rebuilt-bytes, audit-input-rows, rebuild-status, rebuild}
+use Rattle.calls.specs.Book.{Book}
 use Rattle.answers.proofs.Own.{sound-own}
 use Rattle.answers.proofs.Full.{full-tiles, full-paired}
 use Rattle.demands.proofs.Rows.{first-none}

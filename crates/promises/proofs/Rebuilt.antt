@@ -1,12 +1,11 @@
 -- What a rebuild leaves, of what the functions for C promise. Assumes nothing.
 use Prim.Native.Nat.{ℕ}
-use mathlib.Core.Path.{_≡_, sym, ap, _∙_}
+use mathlib.Core.Path.{sym, ap, _∙_}
 use mathlib.Core.List.{List}
-use Rattle.calls.specs.Calls.{Listed, Averaged}
+use Rattle.calls.specs.Calls.{Listed}
 use Rattle.calls.specs.Trace.{rebuilt}
 use Rattle.calls.specs.Rebuild.{Answers-kept, Rebuilt-from}
 use Rattle.demands.proofs.Rebuilds.{rebuilds}
-use Rattle.luwhenoka.specs.declared.ListingAnswer.{ListingAnswer}
 use Rattle.luwhenoka.specs.Answers.{averaged-answer, listing-answer}
 use Rattle.luwhenoka.specs.Promises.{Rebuilds}
 use Rattle.promises.specs.Rebuilt.{Goes-on, Rebuild-promised}
