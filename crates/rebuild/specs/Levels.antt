@@ -1,14 +1,13 @@
 -- What the code makes the levels of a tight image of: the runs that are listed in bytes, and the pages of a level. Assumes nothing.
-use Prim.Native.Nat.{ℕ, suc, _+_, _*_}
+use Prim.Native.Nat.{ℕ, _+_, _*_}
 use mathlib.Core.List.{List}
 use lib.ListN.{length}
 use Rattle.lists.specs.Lists.{listed, concat-map}
 use Rattle.rule.specs.Pairs.{none}
 use Rattle.fields.specs.Numbers.{u32-at, i32-at, i64-at}
 use Rattle.page.specs.declared.Entry.{Entry}
-use Rattle.page.specs.declared.Head.{Head}
 use Rattle.page.specs.Entries.{entry}
-use Rattle.page.specs.Layout.{capacity, start-at}
+use Rattle.page.specs.Layout.{start-at}
 use Rattle.image.specs.Images.{page-at, cell-bytes}
 use Rattle.tight.specs.Tight.{sizes, pages-used, level-cells}
 use Rattle.rebuild.specs.declared.TreeSize.{TreeSize}
@@ -36,20 +35,3 @@ page-entries-from half img first n = listed n (λ i. page-entry half img (first 
 -- the bytes of the pages of a level
 unfoldable pub level-bytes : ℕ → ℕ → List Entry → List ℕ
 level-bytes half level es = concat-map (cell-bytes half) (level-cells half level es)
-
--- "the chain is empty, the high mark follows the last page used; kind, window and changes are kept": the head of the tight image of m runs,
--- h being the source's
-unfoldable pub tight-head : ℕ → ℕ → ℕ → Head → Head
-tight-head half pages m h =
-    record {
-      pages = pages;
-      height = length (sizes half m);
-      root = pages-used half m;
-      free = 0;
-      chain = 0;
-      mark = suc (pages-used half m);
-      kind = h .kind;
-      window = h .window;
-      changes = h .changes;
-      capacity = capacity half;
-    }

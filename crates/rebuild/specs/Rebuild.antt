@@ -7,14 +7,10 @@ use lib.ListN.{length}
 use Rattle.rule.specs.Time.{END}
 use Rattle.page.specs.declared.Head.{Head}
 use Rattle.image.specs.Images.{pages-in, length-ok}
-use Rattle.image.specs.Listing.{Run, walk-over, join}
+use Rattle.image.specs.Listing.{walk-over}
 use Rattle.access.specs.Access.{Open-image}
 use Rattle.tight.specs.Tight.{too-small}
 use Rattle.calls.specs.Calls.{full-runs, rebuilt-bytes}
-
--- "the runs of the full listing"
-abbrev pub all-runs : ℕ → List ℕ → List Run
-all-runs half img = join (walk-over half img 0 END .runs)
 
 -- The source has this head and only fit pages, and so many runs; the target is of a length in range, with pages enough for them.
 pub record Rebuildable (half : ℕ) (source : List ℕ) (h : Head) (target : List ℕ) (m : ℕ) : Type 0 where
@@ -22,7 +18,7 @@ pub record Rebuildable (half : ℕ) (source : List ℕ) (h : Head) (target : Lis
   pub half-most : half ≤ 12
   pub opened : Open-image half source h
   pub fit : walk-over half source 0 END .fit ≡ true
-  pub counted : m ≡ length (all-runs half source)
+  pub counted : m ≡ length (full-runs half source)
   pub some : 1 ≤ m
   pub whole : length-ok half target ≡ true
   pub room : too-small half (pages-in half target) m ≡ false

@@ -1,5 +1,5 @@
 // The tight image, written into the target. Document 02, (iii).
-use crate::sizes::tree_size;
+use crate::TreeSize;
 use crate::trees::write_tree;
 use access::lengths::page_count;
 use fields::fill::UNUSED_BYTE;
@@ -15,25 +15,25 @@ ghost use Prim.Native.Nat.{_*_, _-_, _≤_, _<_};
 ghost use lib.ListN.{length};
 ghost use Rattle.fields.specs.Bytes.{patch, unused};
 ghost use Rattle.page.specs.Layout.{page-size, head-bytes};
-ghost use Rattle.image.specs.Images.{pages-in, image-bytes};
-ghost use Rattle.tight.specs.Tight.{pages-used, tight};
-ghost use Rattle.rebuild.specs.Levels.{tight-head};
-ghost use Rattle.rebuild.specs.Rebuild.{all-runs, Rebuildable};
+ghost use Rattle.image.specs.Images.{pages-in};
+ghost use Rattle.tight.specs.Tight.{tight-head};
+ghost use Rattle.calls.specs.Calls.{rebuilt-bytes};
+ghost use Rattle.rebuild.specs.Levels.{tree-size};
+ghost use Rattle.rebuild.specs.Rebuild.{Rebuildable};
 
 // "the chain is empty, the high mark follows the last page used; kind, window and changes are kept", h being the source's head. "A rebuild
 // keeps K .. and writes the field".
-fn tight_head(half: usize, pages: u32, runs: u32, h: Head) -> Head
-    requires { ⌜ (2 ≤ half) × (half ≤ 12) × (1 ≤ runs) × (pages-used half runs < 4294967295) ⌝ }
-    ensures { λ r. ⌜ r ≡ tight-head half pages runs h ⌝ }
+fn tight_head(half: usize, pages: u32, size: TreeSize, h: Head) -> Head
+    requires { ⌜ (half ≤ 12) × (size .pages < 4294967295) ⌝ }
+    ensures { λ r. ⌜ r ≡ tight-head half pages (h .kind) (h .window) (h .changes) (size .pages) (size .height) ⌝ }
 {
-    let tree = tree_size(half, runs);
     Head {
         pages,
-        height: tree.height,
-        root: tree.pages,
+        height: size.height,
+        root: size.pages,
         free: 0,
         chain: 0,
-        mark: tree.pages + 1,
+        mark: size.pages + 1,
         kind: h.kind,
         window: h.window,
         changes: h.changes,
@@ -41,29 +41,36 @@ fn tight_head(half: usize, pages: u32, runs: u32, h: Head) -> Head
     }
 }
 
-// Writes the head over the front of the listing, and FF behind the last page used: "From the high mark on, pages are all FF."
+// Writes FF behind the last page used, "From the high mark on, pages are all FF", and then the head over the front of the listing. The head
+// comes last: as long as the listing stands there, a fit head doesn't, since its first number, the start 0, is no number of pages.
 fn write_ends(half: usize, img: &mut [u8], h: Head)
     requires { ⌜ (1 ≤ half) × (half ≤ 12) × (1 ≤ h .mark) × (page-size half * h .mark ≤ length (now img)) ⌝ }
     ensures { λ _. ⌜ now (img .exit)
-        ≡ patch (patch (now (img .entry)) 0 (head-bytes half h)) (page-size half * h .mark)
-        (unused (length (now (img .entry)) - page-size half * h .mark)) ⌝ }
+        ≡ patch
+        (patch (now (img .entry)) (page-size half * h .mark) (unused (length (now (img .entry)) - page-size half * h .mark)))
+        0 (head-bytes half h) ⌝ }
 {
     let end = page_size(half) * h.mark as usize;
     let length = img.len();
-    write_head_at(half, img, h);
     fill(img, end, length - end, UNUSED_BYTE);
+    write_head_at(half, img, h);
 }
 
-// Writes the tight image of the source's runs over all of the target: `runs` of them, for which it has pages enough. The runs are listed
-// at its front first, and overwritten by what is made of them.
-pub fn write_tight(half: usize, source: &[u8], h: Head, target: &mut [u8], runs: u32)
-    requires { ⌜ Rebuildable half (now source) h (now target) runs ⌝ }
-    ensures { λ _. ⌜ now (target .exit)
-        ≡ image-bytes half
-        (tight half (pages-in half (now (target .entry))) (h .kind) (h .window) (h .changes) (all-runs half (now (source .entry)))) ⌝ }
+// Writes the tight image of the source's runs over all of the target: `runs` of them, in a tree of that size, for which it has pages enough.
+// The runs are listed at its front first, and overwritten by what is made of them.
+pub fn write_tight(
+    half: usize,
+    source: &[u8],
+    h: Head,
+    target: &mut [u8],
+    runs: u32,
+    size: TreeSize,
+)
+    requires { ⌜ Rebuildable half (now source) h (now target) runs × (size ≡ tree-size half runs) ⌝ }
+    ensures { λ _. ⌜ now (target .exit) ≡ rebuilt-bytes half (now (source .entry)) (pages-in half (now (target .entry))) ⌝ }
 {
     write_runs(half, source, h, 0, END, target);
     write_tree(half, target, runs);
     let pages = page_count(half, target) as u32;
-    write_ends(half, target, tight_head(half, pages, runs, h));
+    write_ends(half, target, tight_head(half, pages, size, h));
 }

@@ -28,6 +28,6 @@ pub fn fill_target(half: usize, source: &[u8], target: &mut [u8]) -> bool
     if page_count(half, target) <= size.pages as usize {
         return false;
     }
-    write_tight(half, source, h, target, runs);
+    write_tight(half, source, h, target, runs, size);
     true
 }

@@ -9,6 +9,7 @@ use lib.Dec.{leb, ltb}
 use Rattle.lists.specs.Lists.{listed, sum, total}
 use Rattle.rule.specs.Pairs.{none}
 use Rattle.page.specs.declared.Entry.{Entry}
+use Rattle.page.specs.declared.Head.{Head}
 use Rattle.page.specs.Entries.{entry, at}
 use Rattle.page.specs.Layout.{capacity}
 use Rattle.image.specs.Images.{Image, Cell, tree, never-used}
@@ -79,24 +80,27 @@ unfoldable pub tight-cells : ℕ → List Run → List Cell
 tight-cells half runs = cells half (length runs) 0 1 (map leaf-entry runs)
 
 -- "the chain is empty, the high mark follows the last page used; kind, window and changes are kept." The last page used is the root.
--- Document 02, (xi): "A rebuild keeps K .. and writes the field".
+-- Document 02, (xi): "A rebuild keeps K .. and writes the field". By how many pages are used and how many levels there are.
+abbrev pub tight-head : ℕ → ℕ → ℕ → ℕ → ℕ → ℕ → ℕ → Head
+tight-head half pages kind window changes used height =
+    record {
+      pages = pages;
+      height = height;
+      root = used;
+      free = 0;
+      chain = 0;
+      mark = suc used;
+      kind = kind;
+      window = window;
+      changes = changes;
+      capacity = capacity half;
+    }
+
 unfoldable pub tight : ℕ → ℕ → ℕ → ℕ → ℕ → List Run → Image
 tight half pages kind window changes runs =
-    let used = pages-used half (length runs) in
+    let m = length runs in
     record {
-      head =
-          record {
-            pages = pages;
-            height = length (sizes half (length runs));
-            root = used;
-            free = 0;
-            chain = 0;
-            mark = suc used;
-            kind = kind;
-            window = window;
-            changes = changes;
-            capacity = capacity half;
-          };
+      head = tight-head half pages kind window changes (pages-used half m) (length (sizes half m));
       page = λ p. getD (tight-cells half runs) (p - 1) never-used;
     }
 

@@ -20,10 +20,10 @@ use Rattle.image.specs.Images.{Cell, never-used, cell-bytes, image-bytes, pages
 use Rattle.image.specs.Listing.{Run, run-bytes}
 use Rattle.image.proofs.Rows.{rows}
 use Rattle.image.proofs.Sizes.{sized}
-use Rattle.tight.specs.Tight.{pages-for, entries-before, level-sizes, sizes, pages-used, cells, leaf-entry, tight-cells, tight, too-small}
+use Rattle.tight.specs.Tight.{pages-for, entries-before, level-sizes, sizes, pages-used, cells, leaf-entry, tight-cells, tight-head, tight, too-small}
 use Rattle.tight.proofs.Pages.{pages-some, before-all}
 use Rattle.tight.proofs.Levels.{length-cells}
-use Rattle.rebuild.specs.Levels.{run-entries, tight-head}
+use Rattle.rebuild.specs.Levels.{run-entries}
 use Rattle.rebuild.proofs.Laws.Sizes.{leaves-used}
 use Rattle.rebuild.proofs.Laws.Patches.{patch-front}
 use Rattle.rebuild.proofs.Laws.Pieces.{joined-rows}
@@ -71,17 +71,21 @@ module _ (half : ℕ) (cs : List Cell) where
 
 -- ---- the image
 
-module _ (half n : ℕ) (rs : List Run) (h : Head) where
-  image-parts : (j : ℕ) → n - 1 ≡ length (tight-cells half rs) + j
+module _ (half n : ℕ) (h : Head) where
+  -- the head of the tight image of m runs
+  abbrev pub head-over : ℕ → Head
+  head-over m = tight-head half n (h .kind) (h .window) (h .changes) (pages-used half m) (length (sizes half m))
+
+  image-parts : (rs : List Run) (j : ℕ) → n - 1 ≡ length (tight-cells half rs) + j
       → image-bytes half (tight half n (h .kind) (h .window) (h .changes) rs)
-      ≡ head-bytes half (tight-head half n (length rs) h)
+      ≡ head-bytes half (head-over (length rs))
       ++ (concat-map (cell-bytes half) (tight-cells half rs) ++ unused (page-size half * j))
-  unfolding image-bytes tight tight-head
-  image-parts j e =
-      let top : List ℕ = head-bytes half (tight-head half n (length rs) h) in
+  unfolding image-bytes tight
+  image-parts rs j e =
+      let top : List ℕ = head-bytes half (head-over (length rs)) in
       ap (λ k. top ++ rows (page half (tight-cells half rs)) k) e ∙ ap (λ l. top ++ l) (pages-filled half (tight-cells half rs) j)
 
--- what each call leaves of s: the m runs at the front, the tree, and then the head with unused bytes behind the root
+-- what each call leaves of s: the m runs at the front, the tree, and then unused bytes behind the root and the head
 module _ (half n m : ℕ) (rs : List Run) (h : Head) (two : 2 ≤ half) (one : 1 ≤ m) (counted : m ≡ length rs) (s : List ℕ)
     (size : length s ≡ page-size half * n) (room : pages-used half m < n) (listed : 16 * m ≤ length s) where
   abbrev used : ℕ
@@ -102,19 +106,19 @@ module _ (half n m : ℕ) (rs : List Run) (h : Head) (two : 2 ≤ half) (one : 1
       (cells-sized half (length rs) 0 1 es (omega arith) (omega (arith, length-map rs leaf-entry)))
       ∙ ap (λ k. page-size half * k) cells-length
 
-  pub tight-written : {t u w : List ℕ} {top : Head} → Bytes t → length t ≡ length s → length u ≡ length s → top ≡ tight-head half n m h
+  pub tight-written : {t u w : List ℕ} {top : Head} → Bytes t → length t ≡ length s → length u ≡ length s → top ≡ head-over half n h m
       → t ≡ patch s 0 (concat-map run-bytes rs)
       → u ≡ patch t (page-size half) (concat-map (cell-bytes half) (cells half m 0 1 (run-entries t m)))
-      → w ≡ patch (patch u 0 (head-bytes half top)) (page-size half * top .mark) (unused (length u - page-size half * top .mark))
+      → w ≡ patch (patch u (page-size half * top .mark) (unused (length u - page-size half * top .mark))) 0 (head-bytes half top)
       → w ≡ image-bytes half (tight half n (h .kind) (h .window) (h .changes) rs)
-  unfolding tight-cells tight-head
+  unfolding tight-cells
   tight-written {t} {u} {w} {top} bytes long still same-head front tree ends =
       let k : ℕ = page-size half in
-      let a : List ℕ = head-bytes half (tight-head half n m h) in
+      let a : List ℕ = head-bytes half (head-over half n h m) in
       let b : List ℕ = concat-map (cell-bytes half) (tight-cells half rs) in
       let j : ℕ = n - suc used in
       let d : List ℕ = unused (k * j) in
-      let la : length a ≡ k = length-head half (tight-head half n m h) (omega arith) in
+      let la : length a ≡ k = length-head half (head-over half n h m) (omega arith) in
       let lb : length b ≡ k * used = tree-length in
       let ld : length d ≡ k * j = length-unused (k * j) in
       let nj : n ≡ suc used + j = omega arith in
@@ -125,28 +129,27 @@ module _ (half n m : ℕ) (rs : List Run) (h : Head) (two : 2 ≤ half) (one : 1
       ∙ ap (λ i. patch t k (concat-map (cell-bytes half) (cells half i 0 1 (run-entries t i)))) counted
       ∙ ap (patch t k) (cells-same half (length rs) 0 1 (runs-coded s rs (omega arith) bytes front)) in
       ends
-      ∙ (λ i. patch (patch u 0 (head-bytes half (same-head i))) (k * same-head i .mark) (unused (still i - k * same-head i .mark)))
-      ∙ (λ i. patch (patch (same i) 0 a) (k * suc used) (unused (left i)))
-      ∙ ap (λ l. patch l (k * suc used) d) (patch-front t k b 0 a (omega arith) (omega (arith, mul-suc k used)))
-      ∙ patch-patch-next t 0 (a ++ b) d (k * suc used) (simp length-append (omega (arith, mul-suc k used))) (omega arith)
-      ∙ patch-whole t ((a ++ b) ++ d) (simp length-append (omega (arith, mul-suc k used)))
-      ∙ append-assoc a b d
-      ∙ ap (λ i. head-bytes half (tight-head half n i h) ++ (b ++ d)) counted
-      ∙ sym (image-parts half n rs h j (omega (arith, cells-length)))
+      ∙ (λ i. patch (patch u (k * same-head i .mark) (unused (still i - k * same-head i .mark))) 0 (head-bytes half (same-head i)))
+      ∙ (λ i. patch (patch (same i) (k * suc used) (unused (left i))) 0 a)
+      ∙ ap (λ l. patch l 0 a) (patch-patch-next t k b d (k * suc used) (omega (arith, mul-suc k used)) (omega (arith, mul-suc k used)))
+      ∙ patch-front t k (b ++ d) 0 a (omega arith) (omega (arith, mul-suc k used))
+      ∙ patch-whole t (a ++ (b ++ d)) (simp length-append (omega (arith, mul-suc k used)))
+      ∙ ap (λ i. head-bytes half (head-over half n h i) ++ (b ++ d)) counted
+      ∙ sym (image-parts half n h rs j (omega (arith, cells-length)))
 
 -- ---- a target that is long enough
 
-pub record Enough (half m : ℕ) (s : List ℕ) : Type 0 where
+pub record Long-enough (half m : ℕ) (s : List ℕ) : Type 0 where
   pub size : length s ≡ page-size half * pages-in half s
   pub most : pages-in half s ≤ 1024
   pub room : pages-used half m < pages-in half s
   pub tree : page-size half * suc (pages-used half m) ≤ length s
   pub runs : 16 * m ≤ length s
 
-pub enough : (half m : ℕ) (s : List ℕ) → 1 ≤ half → 1 ≤ m → length-ok half s ≡ true → too-small half (pages-in half s) m ≡ false
-    → Enough half m s
+pub long-enough : (half m : ℕ) (s : List ℕ) → 1 ≤ half → 1 ≤ m → length-ok half s ≡ true → too-small half (pages-in half s) m ≡ false
+    → Long-enough half m s
 unfolding too-small
-enough half m s some one ok large =
+long-enough half m s some one ok large =
     let k : ℕ = page-size half in
     let p : ℕ = pages-for half m in
     let z = sized half s ok in

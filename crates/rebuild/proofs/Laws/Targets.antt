@@ -1,7 +1,7 @@
 -- The ways out where a target is filled: a sound source has a fit head, fit pages and a run. Assumes nothing.
 use Prim.Native.Nat.{ℕ, suc, _-_, _≤_, _<_}
 use mathlib.Core.Path.{_≡_, refl, sym, ap, _∙_}
-use mathlib.Core.Bool.{true, false, cond, not, false≢true}
+use mathlib.Core.Bool.{true, false, not, false≢true}
 use mathlib.Core.List.{List}
 use native.Mathlib.Omega.{arith}
 use lib.ListN.{length}
@@ -16,11 +16,11 @@ use Rattle.tight.specs.Tight.{pages-used, tight, too-small}
 use Rattle.access.specs.declared.HeadCheck.the-variants.{Unfit}
 use Rattle.access.specs.Access.{Open-image, head-check}
 use Rattle.access.proofs.Laws.{shut}
-use Rattle.calls.specs.Calls.{head, head-ok, runs-over, full-runs, rebuilt-bytes}
+use Rattle.calls.specs.Calls.{head, head-ok, full-runs, rebuilt-bytes}
 use Rattle.calls.specs.Book.{runs-after, runs-of}
 use Rattle.answers.proofs.Sound.{sound-head, sound-walk}
 use Rattle.answers.proofs.Full.{full-is}
-use Rattle.rebuild.specs.Rebuild.{all-runs, Rebuildable, Fills}
+use Rattle.rebuild.specs.Rebuild.{Rebuildable, Fills}
 
 module _ (half : ℕ) (source : List ℕ) (fits : sound half source ≡ true) where
   -- the test of the head doesn't turn it back
@@ -34,19 +34,15 @@ module _ (half : ℕ) (source : List ℕ) (fits : sound half source ≡ true) wh
       let e : length (full-runs half source) ≡ suc (length (runs-after f 0 (END - suc 0))) = ap length (full-is half source fits) in
       omega (arith, e)
 
-  module _ (m : ℕ) (told : m ≡ length (all-runs half source)) where
-    told-runs : m ≡ length (full-runs half source)
-    unfolding full-runs runs-over
-    told-runs = told
-
+  module _ (m : ℕ) (told : m ≡ length (full-runs half source)) where
     pub some-told : 1 ≤ m
-    some-told = omega (arith, told-runs, some-run)
+    some-told = omega (arith, told, some-run)
 
     -- too few pages: nothing is written
     pub fills-not : (target : List ℕ) → pages-in half target ≤ pages-used half m → Fills half source target false target
     unfolding too-small
     fills-not target few =
-        let e : pages-used half m ≡ pages-used half (length (full-runs half source)) = ap (pages-used half) told-runs in
+        let e : pages-used half m ≡ pages-used half (length (full-runs half source)) = ap (pages-used half) told in
         record {
           told =
               sym (ap not (lt-ltb (pages-in half target) (suc (pages-used half (length (full-runs half source)))) (omega (arith, few, e))));
@@ -69,21 +65,21 @@ module _ (half : ℕ) (source : List ℕ) (fits : sound half source ≡ true) wh
             room = le-ltb (pages-in half target) (suc (pages-used half m)) (omega arith);
           }
 
-      pub fills : {h : Head} {left : List ℕ} → Open-image half source h
-          → left ≡ image-bytes half (tight half (pages-in half target) (h .kind) (h .window) (h .changes) (all-runs half source))
-          → Fills half source target true left
-      unfolding rebuilt-bytes head full-runs runs-over too-small
-      fills o e =
-          let same : pages-used half m ≡ pages-used half (length (full-runs half source)) = ap (pages-used half) told-runs in
+      pub fills : {left : List ℕ} → left ≡ rebuilt-bytes half source (pages-in half target) → Fills half source target true left
+      unfolding too-small
+      fills e =
+          let same : pages-used half m ≡ pages-used half (length (full-runs half source)) = ap (pages-used half) told in
           record {
             told =
                 sym
                 (ap not
                 (le-ltb (pages-in half target) (suc (pages-used half (length (full-runs half source)))) (omega (arith, room, same))));
-            leaves =
-                e
-                ∙ ap
-                (λ (h : Head).
-                image-bytes half (tight half (pages-in half target) (h .kind) (h .window) (h .changes) (all-runs half source)))
-                (o .shown);
+            leaves = e;
           }
+
+-- the tight image by the numbers of the source's head
+pub by-head : (half : ℕ) (source : List ℕ) (n : ℕ) {h : Head} → Open-image half source h
+    → image-bytes half (tight half n (h .kind) (h .window) (h .changes) (full-runs half source)) ≡ rebuilt-bytes half source n
+unfolding rebuilt-bytes head
+by-head half source n o =
+    ap (λ (h : Head). image-bytes half (tight half n (h .kind) (h .window) (h .changes) (full-runs half source))) (o .shown)

@@ -7,10 +7,12 @@ use lib.ListN.{length}
 use Rattle.fields.proofs.Laws.Digits.{bytes-of}
 use Rattle.page.specs.Layout.{page-size}
 use Rattle.image.specs.Images.{pages-in}
-use Rattle.tight.specs.Tight.{pages-used}
-use Rattle.rebuild.specs.Levels.{tight-head}
-use Rattle.rebuild.specs.Rebuild.{all-runs}
-use Rattle.rebuild.proofs.Laws.Images.{Enough, enough, tight-written}
+use Rattle.tight.specs.Tight.{pages-used, tight-head}
+use Rattle.calls.specs.Calls.{runs-over, full-runs}
+use Rattle.rebuild.specs.declared.TreeSize.{TreeSize}
+use Rattle.rebuild.specs.Levels.{tree-size}
+use Rattle.rebuild.proofs.Laws.Images.{Long-enough, long-enough, head-over, tight-written}
+use Rattle.rebuild.proofs.Laws.Targets.{by-head}
 use Rattle.rebuild.proofs.images.write_tight.Statement.{statement}
 use Rattle.rebuild.proofs.images.write_tight.Tie as tie
 
@@ -27,15 +29,17 @@ from-count c = c .before .before .before .before
 abbrev start : tie.After-page-count → tie.Start
 start c = from-runs (from-tree (from-count c))
 
-target-enough : (c : tie.Start) → Enough (c .args .half) (c .args .runs) (c .args .target .now)
+target-enough : (c : tie.Start) → Long-enough (c .args .half) (c .args .runs) (c .args .target .now)
 target-enough c =
-    enough (c .args .half) (c .args .runs) (c .args .target .now) (omega arith) (c .pre .some) (c .pre .whole) (c .pre .room)
+    let pre = c .pre .0 in
+    long-enough (c .args .half) (c .args .runs) (c .args .target .now) (omega arith) (pre .some) (pre .whole) (pre .room)
 
 write-runs-requires : tie.Need-write-runs-requires
+unfolding full-runs runs-over
 write-runs-requires c κs =
     let begun = c .before .before .before in
-    let pre = begun .pre in
-    ((omega arith, pre .half-most, pre .opened), (pre .fit, omega (arith, target-enough begun)))
+    let pre = begun .pre .0 in
+    ((omega (arith, pre .half-least), pre .half-most, pre .opened), (pre .fit, omega (arith, target-enough begun, pre .counted)))
 
 -- the pages of the target are as many as before
 pages-told : (c : tie.After-page-count) → c .page-count .result ≡ pages-in (start c .args .half) (start c .args .target .now)
@@ -46,16 +50,26 @@ pages-told c =
     c .page-count .ensures ∙ ap (λ k. k / page-size (args .half)) l
 
 head-is : (c : tie.After-tight-head)
-    → c .tight-head .result
-    ≡ tight-head (start (c .before .before) .args .half)
-    (pages-in (start (c .before .before) .args .half) (start (c .before .before) .args .target .now))
-    (start (c .before .before) .args .runs) (start (c .before .before) .args .h)
+    → let args = start (c .before .before) .args in
+    c .tight-head .result ≡ head-over (args .half) (pages-in (args .half) (args .target .now)) (args .h) (args .runs)
+unfolding tree-size
 head-is c =
-    let args = start (c .before .before) .args in
-    c .tight-head .ensures ∙ ap (λ n. tight-head (args .half) n (args .runs) (args .h)) (pages-told (c .before .before))
+    let begun = start (c .before .before) in
+    let args = begun .args in
+    let h = args .h in
+    let size = begun .pre .1 in
+    c .tight-head .ensures
+    ∙ (λ j.
+    tight-head (args .half) (pages-told (c .before .before) j) (h .kind) (h .window) (h .changes) (size j .pages) (size j .height))
+
+tight-head-requires : tie.Need-tight-head-requires
+unfolding tree-size
+tight-head-requires c κs =
+    let begun = start (c .before) in
+    let used = ap (λ (t : TreeSize). t .pages) (begun .pre .1) in
+    omega (arith, begun .pre .0 .half-most, target-enough begun, used)
 
 write-ends-requires : tie.Need-write-ends-requires
-unfolding tight-head
 write-ends-requires c κs =
     let begun = start (c .before .before) in
     let args = begun .args in
@@ -63,6 +77,7 @@ write-ends-requires c κs =
     omega (arith, target-enough begun, ap (λ k. page-size (args .half) * k) mark)
 
 returns : tie.Need-returns
+unfolding full-runs runs-over
 returns c =
     let ended = c .before .before in
     let head = ended .before in
@@ -70,17 +85,18 @@ returns c =
     let runs = from-tree tree in
     let begun = from-runs runs in
     let args = begun .args in
-    let pre = begun .pre in
+    let pre = begun .pre .0 in
     let s = args .target .now in
     let z = target-enough begun in
-    tight-written (args .half) (pages-in (args .half) s) (args .runs) (all-runs (args .half) (args .source .now)) (args .h)
+    tight-written (args .half) (pages-in (args .half) s) (args .runs) (full-runs (args .half) (args .source .now)) (args .h)
     (pre .half-least) (pre .some) (pre .counted) s (z .size) (z .room) (z .runs)
     (bytes-of (runs .write-runs .last .1 .1 .1 .1 .1 .0) (tree .before .before .slice-known2 .given)) (omega arith) (omega arith)
     (head-is head) (runs .write-runs .ensures) (tree .write-tree .ensures) (ended .write-ends .ensures)
+    ∙ by-head (args .half) (args .source .now) (pages-in (args .half) s) (pre .opened)
 
 pub write-tight-spec : {M : Type 1} → statement M
 write-tight-spec =
     tie.close
     (tie.spec write-runs-requires (λ c κs. omega (arith, target-enough (from-runs (c .before .before .before)))) (λ c κs. omega arith)
-    (λ c. omega (arith, pages-told c, target-enough (start c))) (λ c κs. omega (arith, target-enough (start (c .before))))
+    (λ c. omega (arith, pages-told c, target-enough (start c))) tight-head-requires
     write-ends-requires (λ c. omega arith) returns)

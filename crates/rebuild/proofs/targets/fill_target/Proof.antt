@@ -3,6 +3,7 @@ use Prim.Native.Nat.{_≤_, _<_}
 use mathlib.Core.Path.{_≡_, sym, ap, _∙_}
 use mathlib.Core.Bool.{true}
 use native.Mathlib.Omega.{arith}
+use lib.ListN.{length}
 use borrow.Author.Needs.{needs}
 use Rattle.image.specs.Images.{pages-in, length-ok}
 use Rattle.image.specs.Sound.{sound}
@@ -10,6 +11,7 @@ use Rattle.soundness.proofs.Sound.{sound-whole}
 use Rattle.tight.specs.Tight.{pages-used}
 use Rattle.access.specs.Access.{Open-image}
 use Rattle.access.proofs.Laws.{opened}
+use Rattle.calls.specs.Calls.{runs-over, full-runs}
 use Rattle.answers.proofs.Sound.{sound-walk}
 use Rattle.rebuild.specs.Levels.{tree-size}
 use Rattle.rebuild.specs.declared.TreeSize.{TreeSize}
@@ -42,11 +44,18 @@ count-known-runs-requires c κs =
     let pre = began (read c) .pre in
     ((omega (arith, pre .0), pre .0 .1, headed c), sound-walk _ _ (fits (read c)) _ _)
 
+-- the runs counted are those of the full listing
+runs-told : (c : tie.After-count-known-runs)
+    → let args = began (read (c .before)) .args in
+    c .count-known-runs .result ≡ length (full-runs (args .half) (args .source .now))
+unfolding full-runs runs-over
+runs-told c = c .count-known-runs .ensures
+
 tree-size-requires : tie.Need-tree-size-requires
 tree-size-requires c κs =
     let at = read (c .before) in
     let pre = began at .pre in
-    (pre .0 .0, pre .0 .1, some-told _ _ (fits at) _ (c .count-known-runs .ensures))
+    (pre .0 .0, pre .0 .1, some-told _ _ (fits at) _ (runs-told c))
 
 -- where the runs had been counted, and the pages that the tree takes
 abbrev counted : tie.After-struct-known → tie.After-count-known-runs
@@ -61,7 +70,7 @@ used c = ap (λ (t : TreeSize). t .pages) (c .before .before .before .tree-size 
 returns-2 : tie.Need-returns-2
 returns-2 c =
     let at = c .before in
-    fills-not _ _ (fits (read (counted at .before))) _ (counted at .count-known-runs .ensures) _
+    fills-not _ _ (fits (read (counted at .before))) _ (runs-told (counted at)) _
     (omega (arith, c .if1 .taken, used at, at .before .page-count .ensures))
 
 room : (c : tie.Else1)
@@ -73,15 +82,16 @@ write-tight-requires : tie.Need-write-tight-requires
 write-tight-requires c κs =
     let at = counted (c .before .before) in
     let pre = began (read (at .before)) .pre in
-    rebuildable _ _ (fits (read (at .before))) _ (at .count-known-runs .ensures) _ (room (c .before)) (pre .0 .0) (pre .0 .1)
-    (headed (at .before)) (pre .1 .1)
+    let asked = rebuildable _ _ (fits (read (at .before))) _ (runs-told at) _ (room (c .before)) (pre .0 .0) (pre .0 .1)
+    (headed (at .before)) (pre .1 .1) in
+    (asked, c .before .before .before .before .before .tree-size .ensures)
 
 returns-3 : tie.Need-returns-3
 returns-3 c =
     let wrote = c .before .before in
     let test = wrote .before .before in
     let at = counted (test .before) in
-    fills _ _ (fits (read (at .before))) _ (at .count-known-runs .ensures) _ (room test) (headed (at .before)) (wrote .write-tight .ensures)
+    fills _ _ (fits (read (at .before))) _ (runs-told at) _ (room test) (wrote .write-tight .ensures)
 
 pub fill-target-spec : {M : Type 1} → statement M
 fill-target-spec =
