@@ -20,8 +20,9 @@ use Rattle.image.specs.Trail.{each-in-turn, finds-fit, all-fit, up-to-un
 use Rattle.image.specs.Trail.{instant-trail, listing-trail, audit-trail}
 use Rattle.image.specs.Instant.{stopped, leaf-answer, above, look-by, look-up}
 use Rattle.image.specs.Descent.{descend, Associative}
+use Rattle.image.specs.Listing.{differ-after, neighbours-differ}
 use Rattle.image.specs.Looks.{pages-of, found-fit, chain-looks, audit-looks}
-use Rattle.image.specs.Cases.{cell, pages, both, whole, hurt, tall-cell, tall, upper, paired, back, down, Cases}
+use Rattle.image.specs.Cases.{cell, pages, both, whole, hurt, tall-cell, tall, upper, paired, back, down, differing, Cases}
 
 upper-laws : Associative upper
 unfolding upper same-number same-pair
@@ -34,7 +35,7 @@ upper-laws =
     go p q r false e = rw e refl
 
 pub cases : Cases
-unfolding value-ok kind-ok window-ok same-number same-pair part patch unused all-are every num digits u32-at i32-at i64-at u32-bytes i32-bytes i64-bytes last-from index-of level-of entry-count listed start-at pair-at child-at entry-at entries-of unused-ok concat-map entry-bytes tree-bytes next-of free-bytes free-ok never-used-ok head-of head-bytes root-context end-at context-below fewest entry-count-ok starts-ok child-ok children-ok pair-ok pairs-ok page-fit capacity-ok capacity-named ranges-ok field-ok head-fit page-at pages-in length-ok cell-bytes image-bytes tree-fit tree-pages chain-pages times all-of each-once sound overlaps each-in-turn finds-fit all-fit up-to-unfit visits trail entry-of entries-over every-entry instant-trail listing-trail audit-trail pages-of found-fit chain-looks audit-looks added combine stopped leaf-answer above look-by look-up cell pages both whole hurt tall-cell tall greater better descend upper value-or-none paired back down
+unfolding value-ok kind-ok window-ok same-number same-pair part patch unused all-are every num digits u32-at i32-at i64-at u32-bytes i32-bytes i64-bytes last-from index-of level-of entry-count listed start-at pair-at child-at entry-at entries-of unused-ok concat-map entry-bytes tree-bytes next-of free-bytes free-ok never-used-ok head-of head-bytes root-context end-at context-below fewest entry-count-ok starts-ok child-ok children-ok pair-ok pairs-ok page-fit capacity-ok capacity-named ranges-ok field-ok head-fit page-at pages-in length-ok cell-bytes image-bytes tree-fit tree-pages chain-pages times all-of each-once sound overlaps each-in-turn finds-fit all-fit up-to-unfit visits trail entry-of entries-over every-entry instant-trail listing-trail audit-trail pages-of found-fit chain-looks audit-looks added combine stopped leaf-answer above look-by look-up cell pages both whole hurt tall-cell tall greater better descend upper value-or-none paired back down differ-after neighbours-differ differing
 cases =
     record {
       whole-sound = refl;
@@ -66,4 +67,6 @@ cases =
       instant-left = refl;
       instant-right = refl;
       instant-root = refl;
+      apart = refl;
+      alike = refl;
     }

@@ -1,6 +1,6 @@
--- How many runs walks in turn find, and that joining makes them fewer. Assumes nothing.
+-- How many runs walks in turn find, and what joining makes of them. Assumes nothing.
 use Prim.Native.Nat.{ℕ, zero, suc, _*_, _≤_}
-use mathlib.Core.Path.{_≡_}
+use mathlib.Core.Path.{_≡_, refl}
 use mathlib.Core.Bool.{Bool, true, false, cond}
 use mathlib.Core.List.{List, [], _∷_}
 use native.Mathlib.Nat.{mul-add}
@@ -9,7 +9,7 @@ use lib.ListN.{length, length-append, length-map}
 use Rattle.lists.specs.Lists.{total}
 use Rattle.rule.specs.declared.Pair.{Pair}
 use Rattle.rule.specs.Pairs.{same-pair}
-use Rattle.image.specs.Listing.{Run, Walked, nothing, then, in-turn, under, join-after, join}
+use Rattle.image.specs.Listing.{Run, Walked, nothing, then, in-turn, under, join-after, join, differ-after, neighbours-differ}
 
 -- ---- walks in turn
 
@@ -45,3 +45,22 @@ pub join-few : (rs : List Run) → length (join rs) ≤ length rs
 unfolding join
 join-few [] = omega arith
 join-few (r ∷ rs) = omega (arith, join-after-few (r .pair) rs)
+
+-- ---- and no two neighbours are left with the same pair
+
+differ-joined-after : (p : Pair) (rs : List Run) → differ-after p (join-after p rs) ≡ true
+unfolding differ-after join-after
+differ-joined-after p [] = refl
+differ-joined-after p (r ∷ rs) =
+    pick (same-pair p (r .pair)) refl (differ-joined-after p rs) (differ-joined-after (r .pair) rs)
+  where
+    pick : (t : Bool) → same-pair p (r .pair) ≡ t → differ-after p (join-after p rs) ≡ true
+        → differ-after (r .pair) (join-after (r .pair) rs) ≡ true
+        → differ-after p (cond t (join-after p rs) (r ∷ join-after (r .pair) rs)) ≡ true
+    pick true e x y = x
+    pick false e x y = rw e y
+
+pub differ-joined : (rs : List Run) → neighbours-differ (join rs) ≡ true
+unfolding join neighbours-differ
+differ-joined [] = refl
+differ-joined (r ∷ rs) = differ-joined-after (r .pair) rs

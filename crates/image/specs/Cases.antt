@@ -1,8 +1,8 @@
--- Cases of the looks of a walk, and of the start and the end that an instant tells, that compute, on pages of four entries (half of which is
--- 2). Assumes nothing.
+-- Cases of the looks of a walk, of the start and the end that an instant tells, and of runs that differ from their neighbours, that compute,
+-- on pages of four entries (half of which is 2). Assumes nothing.
 use Prim.Native.Nat.{ℕ, _*_, _+_}
 use mathlib.Core.Path.{_≡_}
-use mathlib.Core.Bool.{true, false, cond}
+use mathlib.Core.Bool.{Bool, true, false, cond}
 use mathlib.Core.List.{List, [], _∷_, map}
 use lib.IntN.{pos}
 use lib.Dec.{eqb}
@@ -18,6 +18,7 @@ use Rattle.image.specs.Images.{Cell, tree, free, never-used, page-at, im
 use Rattle.image.specs.Sound.{sound}
 use Rattle.image.specs.Instant.{look-by, look-up}
 use Rattle.image.specs.Descent.{Associative, descend}
+use Rattle.image.specs.Listing.{run, neighbours-differ}
 use Rattle.image.specs.Trail.{visits, every-entry, instant-trail, listing-trail, audit-trail}
 use Rattle.image.specs.Looks.{pages-of, found-fit, audit-looks}
 
@@ -112,6 +113,10 @@ back comb = let h = head-of (page-at 2 paired 0) in look-by comb 2 h paired 10 1
 unfoldable pub down : (Pair → Pair → Pair) → Pair
 down comb = let h = head-of (page-at 2 paired 0) in descend comb 2 h paired 10 1 (root-context h) 3 none 0 .pair
 
+-- whether no two neighbours of runs with these sums and counts are to be joined
+unfoldable pub differing : List (ℕ × ℕ) → Bool
+differing ps = neighbours-differ (map (λ p. run 0 (pair (pos (p .0)) (pos (p .1)))) ps)
+
 pub record Cases : Type 0 where
   -- An audit of a sound image looks at each page once.
   pub whole-sound : sound 2 whole ≡ true
@@ -167,3 +172,8 @@ pub record Cases : Type 0 where
   pub instant-left : pages-of (instant-trail 2 14 (hurt 2 whole)) ≡ 3 ∷ 1 ∷ []
   pub instant-right : pages-of (instant-trail 2 15 (hurt 1 whole)) ≡ 3 ∷ 2 ∷ []
   pub instant-root : pages-of (instant-trail 2 15 (hurt 3 whole)) ≡ 3 ∷ []
+  -- Neighbours differ in their sum or in their count; two that are alike may stand apart.
+  pub apart : map differing ([] ∷ ((1, 1) ∷ []) ∷ ((1, 1) ∷ (2, 1) ∷ (1, 1) ∷ []) ∷ ((1, 1) ∷ (1, 2) ∷ []) ∷ []) ≡ true ∷ true ∷ true ∷ true ∷ []
+  pub alike :
+      map differing (((1, 1) ∷ (1, 1) ∷ []) ∷ ((1, 1) ∷ (1, 1) ∷ (2, 1) ∷ []) ∷ ((2, 1) ∷ (1, 1) ∷ (1, 1) ∷ []) ∷ [])
+      ≡ false ∷ false ∷ false ∷ []

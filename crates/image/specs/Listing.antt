@@ -1,6 +1,6 @@
 -- Document 01, "Span listing": "Runs over [a, b), the first starting at a: joined as long as the pair is equal". Assumes nothing.
 use Prim.Native.Nat.{ℕ, zero, suc, _-_, max}
-use mathlib.Core.Bool.{Bool, true, false, cond, _&&_}
+use mathlib.Core.Bool.{Bool, true, false, cond, not, _&&_}
 use mathlib.Core.List.{List, [], _∷_, _++_, map}
 use Rattle.rule.specs.declared.Pair.{Pair}
 use Rattle.rule.specs.Pairs.{same-pair, combine}
@@ -79,6 +79,15 @@ join-after p (r ∷ rs) = cond (same-pair p (r .pair)) (join-after p rs) (r ∷ 
 unfoldable pub join : List Run → List Run
 join [] = []
 join (r ∷ rs) = r ∷ join-after (r .pair) rs
+
+-- There is none to be joined: no two neighbours have the same pair. First of those behind one whose pair is p.
+unfoldable pub differ-after : Pair → List Run → Bool
+differ-after p [] = true
+differ-after p (r ∷ rs) = not (same-pair p (r .pair)) && differ-after (r .pair) rs
+
+unfoldable pub neighbours-differ : List Run → Bool
+neighbours-differ [] = true
+neighbours-differ (r ∷ rs) = differ-after (r .pair) rs
 
 -- from the root
 unfoldable pub walk-over : ℕ → List ℕ → ℕ → ℕ → Walked
