@@ -116,7 +116,7 @@ demand-1 =
           (λ g n. (kept _ _ out n, kept _ _ 0 n)) (λ r n. (refl, refl));
       of-rebuild = index-rebuild-keeps;
       of-scratch = λ side v s e img scratch. (booking-leaves side v s e img scratch, audit-leaves img scratch);
-      of-rebuild-scratch = rebuild-leaves;
+      of-rebuild-scratch = λ source target scratch. rebuild-leaves source scratch target;
       of-pages = λ t img.
           by-judge _ (λ half. instant half t img) img
           (λ (r : Instant). (r .status ≡ 0 → r .pages ≡ head (half-of img) img .height) × (r .status ≢ 0 → r .status ≢ 21 → r .pages ≡ 0))

@@ -18,10 +18,10 @@ use Rattle.calls.specs.Changes.{Side, withdraws}
 use Rattle.calls.specs.Calls.{Booked, Audited, Rebuilt, head, book-input-rows, book-status, book, audit-input-rows, audit, rebuild}
 use Rattle.calls.specs.Index.{names-capacity, judge, judged, index-book, index-audit, index-rebuild}
 use Rattle.calls.specs.Tables.{Case, Returned, Exactly, _when_, Whole-pages, Fewer-bits, judge-cases, book-cases, audit-cases}
-use Rattle.calls.specs.Scratch.{Bytes-cleared, Untouched, Scratch-left}
-use Rattle.calls.proofs.Judged.{by-judge, goes-on}
-use Rattle.calls.proofs.Reflects.{Reflects, either, is-equal, chosen, other}
-use Rattle.calls.proofs.Tables.{bad-field, turned-back}
+use Rattle.calls.specs.Scratch.{Bytes-cleared, Untouched, Not-begun, Scratch-left, Left-at, Left-by-rebuild}
+use Rattle.calls.proofs.Judged.{by-judge, judged-part, goes-on}
+use Rattle.calls.proofs.Reflects.{Reflects, is-less, is-equal, is-not, either, chosen, other}
+use Rattle.calls.proofs.Tables.{bad-field, whole-pages, fewer-bits, turned-back}
 use Rattle.calls.proofs.Scratch.{clears}
 use Rattle.answers.proofs.Rows.{untouched-at, book-scratch, audit-scratch}
 
@@ -84,6 +84,19 @@ module _ (img : List ℕ) where
 
 -- ---- byte by byte
 
+-- by a test for an untouched scratch; where it fails the scratch was found long enough
+left-by : {Kept : Type 0} {b : Bool} (pages : ℕ) (scratch : List ℕ) {left : List ℕ} → Reflects Kept b
+    → (¬ Kept → ¬ Fewer-bits pages scratch) → left ≡ cond b scratch (cleared borrowed pages scratch) → Scratch-left Kept pages scratch left
+unfolding Fewer-bits
+left-by pages scratch test room left-so =
+    let done = cleared borrowed pages scratch in
+    record {
+      untouched = λ k. left-so ∙ chosen scratch done test k;
+      clears = λ n.
+          let long : ¬ (8 * length scratch < pages) = room n in
+          subst⁻¹ (Bytes-cleared pages scratch) (left-so ∙ other scratch done test n) (clears pages scratch (omega (arith, long)));
+    }
+
 module _ (img scratch : List ℕ) where
   -- the test for an untouched scratch
   untouched : (r : ℕ) → Reflects (Untouched img r) (keeps-scratch img r)
@@ -109,20 +122,11 @@ module _ (img scratch : List ℕ) where
         go (inr (a, inr (b, inr (c, inr k)))) = k .0
 
     -- whichever call it is
-    leaves : {left : List ℕ} → left ≡ cond (keeps-scratch img r) scratch (cleared borrowed pages scratch) → Scratch-left img scratch r left
-    unfolding Fewer-bits
-    leaves left-so =
-        let done = cleared borrowed pages scratch in
-        record {
-          untouched = λ u. left-so ∙ chosen scratch done (untouched r) u;
-          clears = λ n.
-              let room : ¬ (8 * length scratch < pages) = long-enough n in
-              subst⁻¹ (Bytes-cleared pages scratch) (left-so ∙ other scratch done (untouched r) n)
-              (clears pages scratch (omega (arith, room)));
-        }
+    leaves : {left : List ℕ} → left ≡ cond (keeps-scratch img r) scratch (cleared borrowed pages scratch) → Left-at img scratch r left
+    leaves left-so = left-by pages scratch (untouched r) long-enough left-so
 
 pub booking-leaves : (side : Side) (v : ℤ) (s e : ℕ) (img scratch : List ℕ)
-    → Scratch-left img scratch (index-book side v s e img scratch .status) (index-book side v s e img scratch .scratch)
+    → Left-at img scratch (index-book side v s e img scratch .status) (index-book side v s e img scratch .scratch)
 unfolding judge-cases book-cases Exactly
 booking-leaves side v s e img scratch =
     leaves img scratch _ _ (turned-back .of-booking side v s e img scratch _ .0 refl)
@@ -131,7 +135,7 @@ booking-leaves side v s e img scratch =
     (booking-goes (half-of img) side v s e img scratch))
 
 pub audit-leaves : (img scratch : List ℕ)
-    → Scratch-left img scratch (index-audit img scratch .status) (index-audit img scratch .scratch)
+    → Left-at img scratch (index-audit img scratch .status) (index-audit img scratch .scratch)
 unfolding judge-cases audit-cases Exactly
 audit-leaves img scratch =
     leaves img scratch _ _ (turned-back .of-audit img scratch _ .0 refl)
@@ -139,14 +143,43 @@ audit-leaves img scratch =
     goes img _ (λ half. audit borrowed half img scratch) (λ (a : Audited). a .status) (λ (a : Audited). a .scratch) scratch refl refl
     (audit-goes (half-of img) img scratch))
 
--- a rebuild clears what an audit of its source clears
-pub rebuild-leaves : (source target scratch : List ℕ) → index-rebuild source target scratch .scratch ≡ index-audit source scratch .scratch
-unfolding index-rebuild index-audit judged rebuild audit
-rebuild-leaves source target scratch = go (eqb (judge source) 0)
-  where
-    go : (b : Bool)
-        → cond b (rebuild borrowed (half-of source) source target scratch)
-        (record { status = judge source; target = target; scratch = scratch }) .scratch
-        ≡ cond b (audit borrowed (half-of source) source scratch) (record { status = judge source; scratch = scratch }) .scratch
-    go true = refl
-    go false = refl
+-- ---- a rebuild, by its source
+
+module _ (source scratch : List ℕ) where
+  abbrev half : ℕ
+  half = half-of source
+
+  abbrev not-begun : Bool
+  not-begun =
+      ltb (length source) 40
+      || (not (names-capacity source)
+      || (not (length-ok half source) || not (scratch-ok borrowed (pages-in half source) scratch)))
+
+  tells-begun : Reflects (Not-begun source scratch) not-begun
+  unfolding Not-begun
+  tells-begun =
+      either (is-less (length source) 40)
+      (either (bad-field source)
+      (either (is-not (whole-pages half source)) (fewer-bits .reflects (pages-in half source) scratch)))
+
+  rebuild-goes : (target : List ℕ)
+      → index-rebuild source target scratch .scratch ≡ cond not-begun scratch (cleared borrowed (pages-in half source) scratch)
+  unfolding index-rebuild judge first rebuild audit-input-rows scratch-after
+  rebuild-goes target =
+      judged-part _ (λ h. rebuild borrowed h source target scratch) source (λ (b : Rebuilt). b .scratch)
+      ∙ go (ltb (length source) 40) (not (names-capacity source)) (not (length-ok half source))
+      (not (scratch-ok borrowed (pages-in half source) scratch)) (cleared borrowed (pages-in half source) scratch)
+    where
+      go : (x y a b : Bool) (done : List ℕ)
+          → cond (eqb (cond x 16 (cond y 21 0)) 0) (cond (eqb (cond a 16 (cond b 17 0)) 0) done scratch) scratch
+          ≡ cond (x || (y || (a || b))) scratch done
+      go true y a b done = refl
+      go false true a b done = refl
+      go false false true b done = refl
+      go false false false true done = refl
+      go false false false false done = refl
+
+  pub rebuild-leaves : (target : List ℕ) → Left-by-rebuild source scratch (index-rebuild source target scratch .scratch)
+  unfolding Not-begun
+  rebuild-leaves target =
+      left-by (pages-in half source) scratch tells-begun (λ n short. n (inr (inr (inr short)))) (rebuild-goes target)

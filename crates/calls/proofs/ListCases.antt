@@ -16,9 +16,9 @@ use Rattle.calls.specs.Book.{empty-book, entered, entered-all, book-of, 
 use Rattle.calls.specs.Trace.{Step, kept, accepted, Trace, formatted, formatted-before, extended, rebuilt, Throughout, change-made}
 use Rattle.calls.specs.Demands.{fixed-status, rebuild-of, Booking, couples, Reordered, same, next, swap, then, Same-changes}
 use Rattle.calls.specs.BookCases.{one, windowed}
-use Rattle.calls.specs.AggregateCases.{entry}
+use Rattle.calls.specs.AggregateCases.{entry, withdrawal}
 use Rattle.calls.specs.ListCases.{fresh-image, before-image, after-one, after-two, after-three, three-changes, greatest-one, greatest-book, struck}
-use Rattle.calls.specs.ListCases.{struck-too, roomier, after-season, List-cases}
+use Rattle.calls.specs.ListCases.{struck-too, roomier, withdrawn-there, after-season, List-cases}
 use Rattle.calls.proofs.Opened.{every-call}
 use Rattle.calls.proofs.Steps.{stayed, steps}
 
@@ -42,17 +42,23 @@ a-day =
     (accepted (7 ∷ 7 ∷ []) refl))
     (accepted (7 ∷ 7 ∷ []) refl)
 
--- a season: what the first booking left goes on in four pages, and that in five
-a-season : Trace 1 0 4 after-season (entry (pos 6) 10 40 ∷ entry (pos 3) 20 50 ∷ [])
-unfolding every-call fresh-image after-one roomier after-season
-a-season =
-    rebuilt {field = 4} (replicate (112 * 5) 9) (7 ∷ 7 ∷ [])
-    (extended
+-- a season: what the first booking left goes on in four pages, that in five, and that in the four again
+in-four : Trace 1 0 4 roomier (entry (pos 6) 10 40 ∷ entry (pos 3) 20 50 ∷ [])
+unfolding every-call fresh-image after-one roomier
+in-four =
+    extended
     (rebuilt {field = 4} (replicate (112 * 4) 9) (7 ∷ 7 ∷ [])
     (extended (formatted (replicate (112 * 2) 0) refl) (accepted (7 ∷ 7 ∷ []) refl))
     refl)
-    (accepted (7 ∷ 7 ∷ []) refl))
-    refl
+    (accepted (7 ∷ 7 ∷ []) refl)
+
+in-five : Trace 1 0 4 withdrawn-there (entry (pos 6) 10 40 ∷ entry (pos 3) 20 50 ∷ withdrawal (pos 6) 10 40 ∷ [])
+unfolding every-call fresh-image after-one roomier withdrawn-there
+in-five = extended (rebuilt {field = 4} (replicate (112 * 5) 9) (7 ∷ 7 ∷ []) in-four refl) (accepted (7 ∷ 7 ∷ []) refl)
+
+a-season : Trace 1 0 4 after-season (entry (pos 6) 10 40 ∷ entry (pos 3) 20 50 ∷ withdrawal (pos 6) 10 40 ∷ [])
+unfolding every-call fresh-image after-one roomier withdrawn-there after-season
+a-season = rebuilt {field = 4} roomier (7 ∷ 7 ∷ []) in-five refl
 
 -- whatever the scratch, 3 on [20, 50) is refused on what the first booking left
 refused-booking : (scratch : List ℕ) → index-book entering (pos 3) 20 50 after-one scratch .status ≢ 0
@@ -96,7 +102,7 @@ differs S =
     )
 
 pub list-cases : List-cases
-unfolding every-call empty-book entered entered-all book-of book-pair items-pair runs-after runs-of listing-of one windowed fixed-status couples fresh-image before-image after-one after-two after-three three-changes greatest-one greatest-book change-made Throughout a-day roomier after-season a-season rebuild-of
+unfolding every-call empty-book entered entered-all book-of book-pair items-pair runs-after runs-of listing-of one windowed fixed-status couples fresh-image before-image after-one after-two after-three three-changes greatest-one greatest-book change-made Throughout a-day roomier withdrawn-there after-season in-four in-five a-season rebuild-of
 list-cases =
     record {
       fits-at-first = refl;
@@ -117,9 +123,10 @@ list-cases =
       before-day = extended (formatted-before (replicate (512 * 2) 0) refl) (accepted (7 ∷ 7 ∷ []) refl);
       season = a-season;
       before-season = rebuilt (replicate 1024 9) (7 ∷ 7 ∷ []) (formatted-before (replicate (512 * 2) 0) refl) refl;
-      first-of-season = λ h. omega (arith, h .0 .0 .0 .0);
+      first-of-season = λ h. omega (arith, h .0 .0 .0 .0 .0 .0);
+      five-in-season = λ h. omega (arith, h .0 .1);
       last-of-season = λ h. omega (arith, h .1);
-      within-season = ((((omega arith, omega arith), omega arith), omega arith), omega arith);
+      within-season = ((((((omega arith, omega arith), omega arith), omega arith), omega arith), omega arith), omega arith);
       accepted-rebuild = λ step. let e : _≡_ {A = ℕ} 0 1 = ap (λ img. head 2 img .changes) (stayed step) in omega arith;
       book-rebuild = (refl, refl);
       two-capacities = λ D T U. D .demand-3-two T U (record { struck-x = []; struck-y = []; left = _; of-x = same; of-y = same });

@@ -23,6 +23,7 @@ use Rattle.calls.specs.Calls.{rebuilt-bytes, rebuild-state-rows, rebuild
 use Rattle.calls.specs.Index.{judge, judged, index-book, index-audit, index-rebuild, index-book-bytewise, index-audit-bytewise}
 use Rattle.calls.specs.Index.{index-rebuild-bytewise}
 use Rattle.calls.specs.Scratch.{Bytes-cleared, Enough, Bit-per-page}
+use Rattle.calls.proofs.Rows.{first-not}
 use Rattle.calls.proofs.Judged.{by-judge, judge-not}
 use Rattle.calls.proofs.Tables.{booking-bytewise, audit-bytewise, rebuild-bytewise}
 
@@ -138,17 +139,11 @@ has-enough half img scratch (inr k) e =
     le-leb ((pages-in half img + 7) / 8) (length scratch) (omega (arith, sized half img e .most, k))
 
 -- then 17 turns nothing back, if no row behind it has that number
-no-17 : (rows : List Row) → All (λ r. r .0 ≢ 17) rows → first rows ≢ 17
-unfolding first
-no-17 [] ns e = omega (arith, e)
-no-17 ((n, true) ∷ rows) (all-more k ns) e = k e
-no-17 ((n, false) ∷ rows) (all-more k ns) e = no-17 rows ns e
-
 passes-17 : (a b : Bool) (rows : List Row) → (a ≡ true → b ≡ true) → All (λ r. r .0 ≢ 17) rows
     → first ((16, not a) ∷ (17, not b) ∷ rows) ≢ 17
 unfolding first
 passes-17 false b rows has ns e = omega (arith, e)
-passes-17 true true rows has ns e = no-17 rows ns e
+passes-17 true true rows has ns e = first-not 17 rows (λ z. omega arith) ns e
 passes-17 true false rows has ns e = false≢true (has refl)
 
 -- whatever is borrowed, if the scratch has it

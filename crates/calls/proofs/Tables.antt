@@ -89,10 +89,10 @@ module _ (half : ℕ) (img : List ℕ) where
       (restated (λ f. one-unfit half h img looks (sym e ∙ f)) (λ k. e ∙ unfit-among looks k) (is-false fit))
 
 -- when a scratch is too short, by what is borrowed of it
-record Short-by (Short : ℕ → List ℕ → Type 0) (bytes-for : ℕ → ℕ) : Type 0 where
+pub record Short-by (Short : ℕ → List ℕ → Type 0) (bytes-for : ℕ → ℕ) : Type 0 where
   pub reflects : (pages : ℕ) (scratch : List ℕ) → Reflects (Short pages scratch) (not (scratch-ok bytes-for pages scratch))
 
-fewer-bits : Short-by Fewer-bits borrowed
+pub fewer-bits : Short-by Fewer-bits borrowed
 unfolding Fewer-bits scratch-ok borrowed
 fewer-bits =
     record { reflects = λ pages scratch. restated (λ l. omega arith) (λ l. omega arith) (is-above ((pages + 7) / 8) (length scratch)) }

@@ -23,13 +23,13 @@ use Rattle.calls.specs.Changes.{Side, entering, withdrawing, withdraws, 
 use Rattle.calls.specs.Calls.{Rebuilt, head}
 use Rattle.calls.specs.Index.{index-format, index-book, index-instant, index-average, index-listing, index-audit, index-rebuild}
 use Rattle.calls.specs.Tables.{Turned-back}
-use Rattle.calls.specs.Scratch.{Scratch-left}
+use Rattle.calls.specs.Scratch.{Left-at, Left-by-rebuild}
 use Rattle.calls.specs.Book.{Book, entered, book-of, book-pair, runs-of, listing-of}
 use Rattle.calls.specs.Trace.{Trace, Throughout, change-made, Steps}
 use Rattle.calls.specs.Aggregate.{aggregate, Matched, live-from}
 use Rattle.calls.specs.Accepted.{Every-change}
 use Rattle.calls.specs.Until.{Until-when}
-use Rattle.calls.specs.Rebuild.{Rebuilds}
+use Rattle.calls.specs.Rebuild.{Every-rebuild}
 
 -- Demand 1. "A caller may hand any public call any image, span, value or output buffer, unchecked; the call returns, and what
 -- document 01 turns back is refused by its number there, with image and output as before." That a call returns is part of every
@@ -59,11 +59,10 @@ pub record Demand-1 : Type 0 where
   -- "scratch is untouched at 16 and 17, also at 11 and 13, else its n bytes are 0": by document 02, (vi), those borrowed
   pub of-scratch :
       (side : Side) (v : ℤ) (s e : ℕ) (img scratch : List ℕ)
-      → Scratch-left img scratch (index-book side v s e img scratch .status) (index-book side v s e img scratch .scratch)
-      × Scratch-left img scratch (index-audit img scratch .status) (index-audit img scratch .scratch)
-  -- a rebuild leaves what an audit of its source would, whatever turns it back behind that: "then 16 of the target (scratch 0)"
+      → Left-at img scratch (index-book side v s e img scratch .status) (index-book side v s e img scratch .scratch)
+      × Left-at img scratch (index-audit img scratch .status) (index-audit img scratch .scratch)
   pub of-rebuild-scratch :
-      (source target scratch : List ℕ) → index-rebuild source target scratch .scratch ≡ index-audit source scratch .scratch
+      (source target scratch : List ℕ) → Left-by-rebuild source scratch (index-rebuild source target scratch .scratch)
   -- "It reports the tree pages read: the height if answered, or if a page is unfit, the pages up to and including it (0 for the
   -- head and at other refusals)."
   pub of-pages :
@@ -200,7 +199,7 @@ pub record The-demands : Type 0 where
   pub demand-1 : Demand-1
   pub demand-1-statuses : Turned-back
   pub until-when : Until-when
-  pub rebuild-leaves : Rebuilds
+  pub every-rebuild : Every-rebuild
   pub steps : Steps
   -- "The book is fed .. each call's arguments and, of enter and withdraw, the number returned; never the image."
   pub fed :

@@ -1,6 +1,6 @@
 -- Lists of calls on an image of two pages of four entries (half of which is 2): cases that compute, or that a few lines of proof settle.
 -- Assumes nothing.
-use Prim.Native.Nat.{ℕ, _*_, _<_}
+use Prim.Native.Nat.{ℕ, _+_, _-_, _*_, _<_}
 use mathlib.Core.Path.{_≡_}
 use mathlib.Core.List.{List, [], _∷_, _++_, map}
 use lib.ListN.{length, replicate}
@@ -47,12 +47,16 @@ after-three = enters (pos 3) 20 50 after-two .image
 abbrev pub rebuilt-into : ℕ → List ℕ → List ℕ
 rebuilt-into n img = index-rebuild img (replicate (112 * n) 9) (7 ∷ 7 ∷ []) .target
 
--- What the first booking left, rebuilt into four pages, where 3 on [20, 50) fits; and that rebuilt into five.
+-- What the first booking left, rebuilt into four pages, where 3 on [20, 50) fits; that rebuilt into five, where 6 on [10, 40) is withdrawn;
+-- and that rebuilt back into the four.
 unfoldable pub roomier : List ℕ
 roomier = enters (pos 3) 20 50 (rebuilt-into 4 after-one) .image
 
+unfoldable pub withdrawn-there : List ℕ
+withdrawn-there = withdraws (pos 6) 10 40 (rebuilt-into 5 roomier) .image
+
 unfoldable pub after-season : List ℕ
-after-season = rebuilt-into 5 roomier
+after-season = index-rebuild withdrawn-there roomier (7 ∷ 7 ∷ []) .target
 
 -- the first on an image of kind 2
 unfoldable pub greatest-one : List ℕ
@@ -121,12 +125,14 @@ pub record List-cases : Type 0 where
   pub day : Trace 1 0 4 after-three three-changes
   -- A list from document 01's own format, on an image that has FF in the capacity's field.
   pub before-day : Trace 1 0 4294967295 (enters (pos 6) 10 40 before-image .image) (entry (pos 6) 10 40 ∷ [])
-  -- A season: the list of a target goes on where its source's is, with a change before each rebuild; and from FF in the field.
-  pub season : Trace 1 0 4 after-season (entry (pos 6) 10 40 ∷ entry (pos 3) 20 50 ∷ [])
+  -- A season: the list of a target goes on where its source's is, with a change before each rebuild, the last one into an image that had a
+  -- list of its own; and from FF in the field.
+  pub season : Trace 1 0 4 after-season (entry (pos 6) 10 40 ∷ entry (pos 3) 20 50 ∷ withdrawal (pos 6) 10 40 ∷ [])
   pub before-season : Trace 1 0 24 (index-rebuild before-image (replicate 1024 9) (7 ∷ 7 ∷ []) .target) []
-  -- The images before a rebuild are looked at, and the one that it left.
+  -- The images before a rebuild are looked at, those of five pages, and the one that it left: the only one of four pages after three changes.
   pub first-of-season : ¬ Throughout (λ img cs. 0 < length cs) season
-  pub last-of-season : ¬ Throughout (λ img cs. length img < 560) season
+  pub five-in-season : ¬ Throughout (λ img cs. length img < 560) season
+  pub last-of-season : ¬ Throughout (λ img cs. 448 < length img + 560 * (3 - length cs)) season
   pub within-season : Throughout (λ img cs. length img < 561) season
   -- The target's own list has ended: an accepted rebuild is no step there.
   pub accepted-rebuild : ¬ Step after-one [] (index-rebuild fresh-image after-one (7 ∷ 7 ∷ []) .target)

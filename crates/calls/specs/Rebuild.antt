@@ -5,10 +5,12 @@ use mathlib.Core.Path.{_≡_}
 use mathlib.Core.Bool.{true}
 use mathlib.Core.List.{List}
 use lib.ListN.{length}
+use Rattle.rule.specs.Time.{END}
 use Rattle.fields.specs.Bytes.{Bytes}
 use Rattle.page.specs.Layout.{capacity}
 use Rattle.image.specs.Images.{capacity-field, half-of, pages-in}
 use Rattle.image.specs.Sound.{sound}
+use Rattle.image.specs.Listing.{walk-over, neighbours-differ}
 use Rattle.tight.specs.Tight.{sizes, pages-used}
 use Rattle.tight.specs.Counts.{pages-on}
 use Rattle.tight.specs.Layout.{Laid-out}
@@ -54,13 +56,15 @@ pub record Rebuilt-from (source target img : List ℕ) : Type 0 where
   pub head-left : Head-left source img
   pub answers-kept : Answers-kept source img
   pub laid-out : Laid-out (half-of source) img (head (half-of source) img .mark) (full-runs (half-of source) source)
+  -- no two neighbouring leaf entries have the same total, in a page or across the edge of one
+  pub neighbours : neighbours-differ (walk-over (half-of source) img 0 END .runs) ≡ true
   pub fewest :
       (other : List ℕ)
       → sound (half-of source) other ≡ true
       → full-runs (half-of source) other ≡ full-runs (half-of source) source
       → No-fewer source img other
 
-pub record Rebuilds : Type 0 where
+pub record Every-rebuild : Type 0 where
   pub of-accepted :
       (source target scratch img left : List ℕ)
       → record { status = 0; target = img; scratch = left } ≡ index-rebuild source target scratch

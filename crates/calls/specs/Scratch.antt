@@ -9,7 +9,7 @@ use lib.IntN.{ℤ}
 use Rattle.image.specs.Images.{half-of, pages-in}
 use Rattle.calls.specs.Changes.{Side}
 use Rattle.calls.specs.Index.{index-book, index-audit, index-rebuild, index-book-bytewise, index-audit-bytewise, index-rebuild-bytewise}
-use Rattle.calls.specs.Tables.{Exactly, Bad-field, Fewer-bytes, judge-cases, book-cases, audit-cases, rebuild-cases}
+use Rattle.calls.specs.Tables.{Exactly, Bad-field, Whole-pages, Fewer-bits, Fewer-bytes, judge-cases, book-cases, audit-cases, rebuild-cases}
 
 -- "those bytes are 0 afterwards": each in which a page has its bit, eight pages to a byte. Document 01: "any beyond keep theirs", also
 -- those of a caller who lends a byte for each page.
@@ -23,11 +23,25 @@ pub record Bytes-cleared (pages : ℕ) (scratch left : List ℕ) : Type 0 where
 unfoldable pub Untouched : List ℕ → ℕ → Type 0
 Untouched img r = Bad-field img ⊎ ((r ≡ 16) ⊎ ((r ≡ 17) ⊎ ((r ≡ 11) ⊎ (r ≡ 13))))
 
--- What a call that returned r leaves of its scratch: so it is of a booking and of an audit (Demands.antt). A rebuild leaves what an audit of
--- its source leaves; its own 16 may be that of the target, where the scratch is 0.
-pub record Scratch-left (img scratch : List ℕ) (r : ℕ) (left : List ℕ) : Type 0 where
-  pub untouched : Untouched img r → left ≡ scratch
-  pub clears : ¬ Untouched img r → Bytes-cleared (pages-in (half-of img) img) scratch left
+-- Document 02, (iii): "16, 17, 21 (not sound) of the source first, then 16 of the target (scratch 0)". So a rebuild's 16 doesn't tell
+-- whether its scratch is untouched: that goes by source and scratch alone, where the length or the capacity of the one or the length of
+-- the other turns it back.
+unfoldable pub Not-begun : List ℕ → List ℕ → Type 0
+Not-begun source scratch =
+    (length source < 40)
+    ⊎ (Bad-field source ⊎ ((¬ Whole-pages (half-of source) source) ⊎ Fewer-bits (pages-in (half-of source) source) scratch))
+
+-- what a call on so many pages leaves of its scratch, which is untouched where `Kept` holds
+pub record Scratch-left (Kept : Type 0) (pages : ℕ) (scratch left : List ℕ) : Type 0 where
+  pub untouched : Kept → left ≡ scratch
+  pub clears : ¬ Kept → Bytes-cleared pages scratch left
+
+-- a booking or an audit that returned r, and a rebuild
+abbrev pub Left-at : List ℕ → List ℕ → ℕ → List ℕ → Type 0
+Left-at img scratch r left = Scratch-left (Untouched img r) (pages-in (half-of img) img) scratch left
+
+abbrev pub Left-by-rebuild : List ℕ → List ℕ → List ℕ → Type 0
+Left-by-rebuild source scratch left = Scratch-left (Not-begun source scratch) (pages-in (half-of source) source) scratch left
 
 -- "n/8 bytes, rounded up", or as many as the greatest image needs: "The small controller can spare 128 bytes"
 unfoldable pub Enough : ℕ → List ℕ → Type 0

@@ -33,7 +33,7 @@ use Rattle.answers.proofs.Own.{Own, sound-own, own-book, own-instant, own-avera
 use Rattle.answers.proofs.Tiles.{runs-of-same}
 use Rattle.answers.proofs.Full.{full-is}
 use Rattle.demands.proofs.Book.Runs.{listing-same}
-use Rattle.demands.proofs.Rows.{first-off, first-on}
+use Rattle.calls.proofs.Rows.{first-without, first-off, first-on}
 use Rattle.demands.proofs.Invariant.{Trace-invariant}
 
 -- ---- a booking: 16 and 21 don't turn it back
@@ -66,12 +66,7 @@ numbers b17 b11 b13 c22 c23 b24 e16 e21 e22 e23 = rw (e16, e21, e22, e23) (go b1
 
 rebuilding : {b16 b21 : Bool} (b17 c16 b24 : Bool) → b16 ≡ false → b21 ≡ false
     → first ((16, b16) ∷ (17, b17) ∷ (21, b21) ∷ (16, c16) ∷ (24, b24) ∷ []) ≡ first ((17, b17) ∷ (16, c16) ∷ (24, b24) ∷ [])
-rebuilding {b16} {b21} b17 c16 b24 e16 e21 =
-    first-off 16 ((17, b17) ∷ (21, b21) ∷ (16, c16) ∷ (24, b24) ∷ []) e16 ∙ go b17
-  where
-    go : (x : Bool) → first ((17, x) ∷ (21, b21) ∷ (16, c16) ∷ (24, b24) ∷ []) ≡ first ((17, x) ∷ (16, c16) ∷ (24, b24) ∷ [])
-    go true = unfold first in refl
-    go false = unfold first in first-off 21 ((16, c16) ∷ (24, b24) ∷ []) e21
+rebuilding b17 c16 b24 e16 e21 = first-off 16 _ e16 ∙ first-without ((17, b17) ∷ []) 21 _ e21
 
 -- ---- END, and what lies past it
 
@@ -128,11 +123,9 @@ module _ {half : ℕ} {img : List ℕ} {B : Book} (K : Trace-invariant half img 
   audit-is : (scratch : List ℕ)
       → audit borrowed half img scratch .status ≡ first ((17, not (scratch-ok borrowed (pages-in half img) scratch)) ∷ [])
   unfolding audit audit-input-rows
-  audit-is scratch = first-off 16 _ passes-16 ∙ go (not (scratch-ok borrowed (pages-in half img) scratch))
-    where
-      go : (x : Bool) → first ((17, x) ∷ (21, not (sound half img)) ∷ []) ≡ first ((17, x) ∷ [])
-      go true = unfold first in refl
-      go false = unfold first in rw (K .sound)
+  audit-is scratch =
+      first-off 16 _ passes-16
+      ∙ first-without ((17, not (scratch-ok borrowed (pages-in half img) scratch)) ∷ []) 21 [] (ap not (K .sound))
 
   -- ---- a listing
 

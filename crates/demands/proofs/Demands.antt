@@ -24,7 +24,7 @@ use Rattle.demands.proofs.Book.Aggregates.{book-aggregate, aggregate-li
 use Rattle.demands.proofs.Book.Listings.{book-listing, listing-same-changes}
 use Rattle.demands.proofs.Agree.{instant-told, average-told, listing-told, as-the-book}
 use Rattle.demands.proofs.Accepted.{every-change}
-use Rattle.demands.proofs.Rebuilds.{rebuilds}
+use Rattle.demands.proofs.Rebuilds.{every-rebuild}
 use Rattle.demands.proofs.Traces.{Reached, reached, book-kind}
 
 module _ {kind window field : ℕ} where
@@ -83,7 +83,7 @@ the-demands =
       demand-1 = demand-1;
       demand-1-statuses = turned-back;
       until-when = until-when;
-      rebuild-leaves = rebuilds;
+      every-rebuild = every-rebuild;
       steps = steps;
       fed = book-fed;
       demand-2 = λ T. demand-2 (reached T);

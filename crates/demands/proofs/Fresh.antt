@@ -29,7 +29,7 @@ use Rattle.invariant.proofs.From.Invariant.{pages-range}
 use Rattle.image.proofs.Capacity.{field-read}
 use Rattle.image.proofs.Written.{bytes-written}
 use Rattle.invariant.proofs.To.Sound.{head-read-back, invariant-sound, look-written}
-use Rattle.demands.proofs.Rows.{first-none}
+use Rattle.calls.proofs.Rows.{first-none}
 use Rattle.demands.proofs.Invariant.{Trace-invariant}
 
 module _ (half pages kind window field : ℕ) (some : 1 ≤ half) (least : 2 ≤ pages) (most : pages ≤ 1024) (k : kind-ok kind ≡ true)

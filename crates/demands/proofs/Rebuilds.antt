@@ -1,13 +1,13 @@
 -- What an accepted rebuild leaves, of every source: the calls on the target answer as those on the source. Assumes nothing.
 use Prim.Native.Nat.{ℕ, suc, _+_, _≤_, _<_}
 use mathlib.Core.Path.{_≡_, refl, sym, ap, _∙_, subst⁻¹}
-use mathlib.Core.Logic.{inl, inr}
-use mathlib.Core.Bool.{Bool, true, false, cond}
+use mathlib.Core.Bool.{true, cond}
 use mathlib.Core.List.{List}
 use native.Mathlib.Omega.{arith}
 use native.Mathlib.Decide.{decLt}
 use lib.ListN.{length}
 use lib.Dec.{eqb}
+use borrow.Author.Tests.{ltb-true, not-false}
 use Rattle.rule.specs.declared.Average.the-variants.{Nothing}
 use Rattle.rule.specs.Time.{END}
 use Rattle.rule.specs.Averages.{average}
@@ -15,21 +15,22 @@ use Rattle.page.specs.declared.Head.{Head}
 use Rattle.image.specs.Images.{half-of, pages-in}
 use Rattle.image.specs.Sound.{sound}
 use Rattle.image.specs.Instant.{look-up}
-use Rattle.image.specs.Listing.{Run}
+use Rattle.image.specs.Listing.{Run, walk-over, neighbours-differ}
 use Rattle.image.proofs.Sizes.{sized}
-use Rattle.tight.specs.Tight.{pages-used, tight}
+use Rattle.image.proofs.Runs.{differ-joined}
+use Rattle.tight.specs.Tight.{pages-used, tight, too-small}
 use Rattle.tight.specs.Counts.{leaf-entries}
 use Rattle.tight.specs.Layout.{Laid-out}
 use Rattle.soundness.proofs.Sound.{sound-facts}
 use Rattle.soundness.proofs.Counting.{sound-counted}
 use Rattle.fewest.proofs.Fewest.{fewest-used, listing-few, no-more-on, no-higher}
 use Rattle.calls.specs.Refusals.{borrowed}
-use Rattle.calls.specs.Calls.{Instant, Rebuilt, head, instant, average-at, listing, runs-over, full-runs, rebuilt-bytes, rebuild}
+use Rattle.calls.specs.Calls.{Instant, Rebuilt, head, instant, average-at, listing, runs-over, audit-input-rows, full-runs, rebuilt-bytes}
+use Rattle.calls.specs.Calls.{rebuild-status, rebuild}
 use Rattle.calls.specs.Index.{judge, index-rebuild}
-use Rattle.calls.specs.Tables.{Returned, Exactly, Fewer-bits, Too-small, judge-cases, rebuild-cases}
-use Rattle.calls.specs.Rebuild.{Head-left, Answers-kept, No-fewer, Rebuilt-from, Rebuilds}
-use Rattle.calls.proofs.Judged.{by-judge}
-use Rattle.calls.proofs.Tables.{turned-back}
+use Rattle.calls.specs.Rebuild.{Head-left, Answers-kept, No-fewer, Rebuilt-from, Every-rebuild}
+use Rattle.calls.proofs.Rows.{first-later, first-last}
+use Rattle.calls.proofs.Judged.{by-judge, judge-not}
 use Rattle.answers.proofs.Tiles.{runs-of-same}
 use Rattle.answers.proofs.Full.{full-is}
 use Rattle.answers.proofs.Agree.{listing-of-same}
@@ -206,6 +207,7 @@ left-by source target scratch n =
     let p = passed half source target scratch n in
     let r = range half source target scratch n in
     let img = rebuilt-bytes half source (pages-in half target) in
+    let laid = rebuilt-laid-out half source (p .fits) (pages-in half target) (r .0) (r .1) (p .room) in
     record {
       sound-after = ap (λ k. sound k img) (own source target scratch n) ∙ fits source target scratch n;
       bytes = rebuilt-is-bytes half source (p .fits) (pages-in half target) (r .0) (r .1) (p .room);
@@ -213,50 +215,49 @@ left-by source target scratch n =
       head-left = head-left source target scratch n;
       answers-kept = kept source target scratch n;
       laid-out =
-          subst⁻¹ (λ k. Laid-out half img k (full-runs half source)) (mark-left source target scratch n)
-          (rebuilt-laid-out half source (p .fits) (pages-in half target) (r .0) (r .1) (p .room));
+          subst⁻¹ (λ k. Laid-out half img k (full-runs half source)) (mark-left source target scratch n) laid;
+      neighbours =
+          ap neighbours-differ (laid .leaves) ∙ (unfold full-runs runs-over in differ-joined (walk-over half source 0 END .runs));
       fewest = fewest source target scratch n;
     }
 
 -- ---- 24: the source's own tree has no fewer pages
 
-told-24 : (half : ℕ) (source target scratch : List ℕ)
-    → Returned (judge-cases source (rebuild-cases half Fewer-bits source target scratch)) 24
-    → (sound half source ≡ true) × Too-small half source target
-unfolding Returned judge-cases rebuild-cases
-told-24 half source target scratch (inl k) = absurd (omega (arith, k .1))
-told-24 half source target scratch (inr (a, inl k)) = absurd (omega (arith, k .1))
-told-24 half source target scratch (inr (a, inr (b, inl k))) = absurd (omega (arith, k .1))
-told-24 half source target scratch (inr (a, inr (b, inr (c, inl k)))) = absurd (omega (arith, k .1))
-told-24 half source target scratch (inr (a, inr (b, inr (c, inr (d, inl k))))) = absurd (omega (arith, k .1))
-told-24 half source target scratch (inr (a, inr (b, inr (c, inr (d, inr (e, inl k)))))) = absurd (omega (arith, k .1))
-told-24 half source target scratch (inr (a, inr (b, inr (c, inr (d, inr (e, inr (f, inl k))))))) = (fits (sound half source) refl e, k .0)
-  where
-    fits : (x : Bool) → sound half source ≡ x → ¬ (sound half source ≡ false) → sound half source ≡ true
-    fits true s n = s
-    fits false s n = absurd (n s)
-told-24 half source target scratch (inr (a, inr (b, inr (c, inr (d, inr (e, inr (f, inr k))))))) = absurd (omega (arith, k .1))
+told-24 : (source target scratch : List ℕ) → index-rebuild source target scratch .status ≡ 24
+    → (sound (half-of source) source ≡ true)
+    × (pages-in (half-of source) target < suc (pages-used (half-of source) (length (full-runs (half-of source) source))))
+unfolding index-rebuild rebuild rebuild-status audit-input-rows too-small
+told-24 source target scratch =
+    by-judge _ (λ half. rebuild borrowed half source target scratch) source
+    (λ (b : Rebuilt).
+    b .status ≡ 24
+    → (sound (half-of source) source ≡ true)
+    × (pages-in (half-of source) target < suc (pages-used (half-of source) (length (full-runs (half-of source) source)))))
+    (λ passes n.
+    let a = first-later 16 24 _ _ (λ e. omega arith) n in
+    let b = first-later 17 24 _ _ (λ e. omega arith) (a .1) in
+    let c = first-later 21 24 _ _ (λ e. omega arith) (b .1) in
+    let d = first-later 16 24 _ _ (λ e. omega arith) (c .1) in
+    (not-false _ (c .0), ltb-true _ _ (first-last 24 _ (omega arith) (d .1))))
+    (λ turned-back n. absurd (judge-not source 24 (λ e. omega arith) (λ e. omega arith) (λ e. omega arith) n))
 
 too-few : (source target scratch other : List ℕ) → index-rebuild source target scratch .status ≡ 24
     → sound (half-of source) other ≡ true → full-runs (half-of source) other ≡ full-runs (half-of source) source
     → pages-in (half-of source) target + head (half-of source) other .chain < head (half-of source) other .mark
-unfolding Exactly Too-small full-runs runs-over
 too-few source target scratch other n fits same =
     let half = half-of source in
-    let k = told-24 half source target scratch (turned-back .of-rebuild source target scratch 24 .0 n) in
-    omega (arith, used-by half other (full-runs half source) fits same, k .1)
+    omega (arith, used-by half other (full-runs half source) fits same, told-24 source target scratch n .1)
 
 source-fits : (source target scratch : List ℕ) → index-rebuild source target scratch .status ≡ 24
     → (pages-in (half-of source) target + head (half-of source) source .chain < head (half-of source) source .mark)
     × (head (half-of source) source .mark ≤ pages-in (half-of source) source)
-unfolding Exactly
 source-fits source target scratch n =
     let half = half-of source in
-    let k = told-24 half source target scratch (turned-back .of-rebuild source target scratch 24 .0 n) in
-    (too-few source target scratch source n (k .0) refl, unfold head in sound-facts half source (k .0) .fit .head .mark-most)
+    let fits = told-24 source target scratch n .0 in
+    (too-few source target scratch source n fits refl, unfold head in sound-facts half source fits .fit .head .mark-most)
 
-pub rebuilds : Rebuilds
-rebuilds =
+pub every-rebuild : Every-rebuild
+every-rebuild =
     record {
       of-accepted =
           λ source target scratch img left e.

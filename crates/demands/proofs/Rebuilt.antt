@@ -28,7 +28,7 @@ use Rattle.calls.specs.Calls.{head, full-runs, rebuilt-bytes, audit-input-rows,
 use Rattle.calls.specs.Book.{Book}
 use Rattle.answers.proofs.Own.{sound-own}
 use Rattle.answers.proofs.Full.{full-tiles, full-paired}
-use Rattle.demands.proofs.Rows.{first-none}
+use Rattle.calls.proofs.Rows.{first-none}
 use Rattle.demands.proofs.Leaves.{tiles-seg, tiles-pair, paired-bounds}
 use Rattle.demands.proofs.Invariant.{Trace-invariant}
 

@@ -15,7 +15,7 @@ use Rattle.calls.specs.Scratch.{Bit-per-page}
 use Rattle.calls.proofs.Judged.{by-judge, judge-not}
 use Rattle.calls.proofs.Scratch.{bit-per-page}
 use Rattle.answers.proofs.Few.{few-runs}
-use Rattle.demands.proofs.Rebuilds.{rebuilds}
+use Rattle.demands.proofs.Rebuilds.{every-rebuild}
 use Rattle.luwhenoka.specs.Answers.{listing-answer}
 use Rattle.promises.specs.Header.{Header-runs, Header-scratch, Header-target}
 
@@ -72,8 +72,8 @@ unfolding pages-in
 header-target =
     record {
       enough = λ source target scratch r after left p room z.
-          omega (arith, room, rebuilds .as-the-source source target scratch (sym (ap (λ (b : Rebuilt). b .status) p) ∙ z) .0);
+          omega (arith, room, every-rebuild .as-the-source source target scratch (sym (ap (λ (b : Rebuilt). b .status) p) ∙ z) .0);
       as-long = λ source target scratch r after left p long z.
-          let k = rebuilds .as-the-source source target scratch (sym (ap (λ (b : Rebuilt). b .status) p) ∙ z) in
+          let k = every-rebuild .as-the-source source target scratch (sym (ap (λ (b : Rebuilt). b .status) p) ∙ z) in
           omega (arith, k .0, k .1, pages-rise (page-size (half-of source)) (length source) (length target) (omega arith) long);
     }

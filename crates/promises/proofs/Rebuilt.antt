@@ -5,7 +5,7 @@ use mathlib.Core.List.{List}
 use Rattle.calls.specs.Calls.{Listed}
 use Rattle.calls.specs.Trace.{rebuilt}
 use Rattle.calls.specs.Rebuild.{Answers-kept, Rebuilt-from}
-use Rattle.demands.proofs.Rebuilds.{rebuilds}
+use Rattle.demands.proofs.Rebuilds.{every-rebuild}
 use Rattle.luwhenoka.specs.Answers.{averaged-answer, listing-answer}
 use Rattle.luwhenoka.specs.Promises.{Rebuilds}
 use Rattle.promises.specs.Rebuilt.{Goes-on, Rebuild-promised}
@@ -13,7 +13,7 @@ use Rattle.promises.proofs.Answers.{answer-status, answer-pair}
 
 module _ (source target scratch img left : List ℕ) (p : Rebuilds source target scratch 0 img left) where
   pub left-so : Rebuilt-from source target img
-  left-so = rebuilds .of-accepted source target scratch img left p
+  left-so = every-rebuild .of-accepted source target scratch img left p
 
   abbrev k : Answers-kept source img
   k = left-so .answers-kept

@@ -10,8 +10,8 @@ use Rattle.rule.specs.declared.Average.{Average}
 use Rattle.rule.specs.declared.Average.the-variants.{Hundredths, Nothing, Beyond}
 use Rattle.calls.specs.Changes.{entering}
 use Rattle.calls.specs.Calls.{Formatted, Booked, Listed, Audited, Rebuilt}
-use Rattle.calls.specs.Index.{index-average, index-audit}
-use Rattle.calls.specs.Scratch.{Scratch-left}
+use Rattle.calls.specs.Index.{index-average}
+use Rattle.calls.specs.Scratch.{Left-at, Left-by-rebuild}
 use Rattle.calls.specs.Demands.{Demand-1}
 use Rattle.answers.proofs.Demand.{demand-1}
 use Rattle.luwhenoka.specs.declared.AverageAnswer.{AverageAnswer}
@@ -59,7 +59,7 @@ refusing =
           λ side v s e img scratch r after left p.
           let n = ap (λ (b : Booked). b .status) p in (
             λ d. ap (λ (b : Booked). b .image) p ∙ d1 .of-booking side v s e img scratch (λ z. d (n ∙ z)),
-            subst⁻¹ (λ (b : Booked). Scratch-left img scratch (b .status) (b .scratch)) p (d1 .of-scratch side v s e img scratch .0),
+            subst⁻¹ (λ (b : Booked). Left-at img scratch (b .status) (b .scratch)) p (d1 .of-scratch side v s e img scratch .0),
           );
       of-instant =
           λ t img r p.
@@ -84,15 +84,14 @@ refusing =
           (ap (λ (l : Listed). l .output) p ∙ k .0, ap (λ (l : Listed). l .runs) p ∙ k .1);
       of-audit =
           λ img scratch r left p.
-          subst⁻¹ (λ (a : Audited). Scratch-left img scratch (a .status) (a .scratch)) p
+          subst⁻¹ (λ (a : Audited). Left-at img scratch (a .status) (a .scratch)) p
           (d1 .of-scratch entering (pos 0) 0 0 img scratch .1);
       of-rebuild =
           λ source target scratch r after left p. (
             λ d.
                 ap (λ (b : Rebuilt). b .target) p
                 ∙ d1 .of-rebuild source target scratch (λ z. d (ap (λ (b : Rebuilt). b .status) p ∙ z)),
-            subst⁻¹ (Scratch-left source scratch (index-audit source scratch .status))
-                (ap (λ (b : Rebuilt). b .scratch) p ∙ d1 .of-rebuild-scratch source target scratch)
-                (d1 .of-scratch entering (pos 0) 0 0 source scratch .1),
+            subst⁻¹ (Left-by-rebuild source scratch) (ap (λ (b : Rebuilt). b .scratch) p)
+                (d1 .of-rebuild-scratch source target scratch),
           );
     }

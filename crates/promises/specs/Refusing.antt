@@ -7,8 +7,7 @@ use lib.IntN.{ℤ, pos}
 use Rattle.image.specs.Images.{half-of}
 use Rattle.calls.specs.Changes.{Side}
 use Rattle.calls.specs.Calls.{head}
-use Rattle.calls.specs.Index.{index-audit}
-use Rattle.calls.specs.Scratch.{Scratch-left}
+use Rattle.calls.specs.Scratch.{Left-at, Left-by-rebuild}
 use Rattle.luwhenoka.specs.declared.InstantAnswer.{InstantAnswer}
 use Rattle.luwhenoka.specs.declared.AverageAnswer.{AverageAnswer}
 use Rattle.luwhenoka.specs.declared.ListingAnswer.{ListingAnswer}
@@ -22,7 +21,7 @@ pub record Refusing : Type 0 where
       (kind window k : ℕ) (img : List ℕ) (r : ℕ) (after : List ℕ) → Formats kind window k img r after → r ≢ 0 → after ≡ img
   pub of-booking :
       (side : Side) (v : ℤ) (s e : ℕ) (img scratch : List ℕ) (r : ℕ) (after left : List ℕ) → Books side v s e img scratch r after left
-      → (r ≢ 0 → after ≡ img) × Scratch-left img scratch r left
+      → (r ≢ 0 → after ≡ img) × Left-at img scratch r left
   pub of-instant :
       (t : ℕ) (img : List ℕ) (r : InstantAnswer) → Answers t img r
       → (r .status ≢ 0 → (r .sum ≡ pos 0) × (r .count ≡ pos 0) × (r .start ≡ 0) × (r .end ≡ 0))
@@ -34,9 +33,8 @@ pub record Refusing : Type 0 where
   pub of-listing :
       (a b : ℕ) (img out : List ℕ) (r : ListingAnswer) (after : List ℕ) → Lists a b img out r after → r .status ≢ 0
       → (after ≡ out) × (r .runs ≡ 0)
-  pub of-audit : (img scratch : List ℕ) (r : ℕ) (left : List ℕ) → Audits img scratch r left → Scratch-left img scratch r left
-  -- document 02, (iii): the target keeps its bytes, and the scratch is left as an audit of the source leaves it, whatever turns the call
-  -- back behind that: "then 16 of the target (scratch 0)"
+  pub of-audit : (img scratch : List ℕ) (r : ℕ) (left : List ℕ) → Audits img scratch r left → Left-at img scratch r left
+  -- document 02, (iii): the target keeps its bytes, and what is left of the scratch goes by the source: "then 16 of the target (scratch 0)"
   pub of-rebuild :
       (source target scratch : List ℕ) (r : ℕ) (after left : List ℕ) → Rebuilds source target scratch r after left
-      → (r ≢ 0 → after ≡ target) × Scratch-left source scratch (index-audit source scratch .status) left
+      → (r ≢ 0 → after ≡ target) × Left-by-rebuild source scratch left

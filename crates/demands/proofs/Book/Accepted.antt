@@ -15,7 +15,7 @@ use Rattle.steps.specs.Change.{lacks-pages}
 use Rattle.calls.specs.Refusals.{borrowed, scratch-ok}
 use Rattle.calls.specs.Changes.{Side, withdraws}
 use Rattle.calls.specs.Calls.{head, book-input-rows, book-status, book}
-use Rattle.demands.proofs.Rows.{first-none}
+use Rattle.calls.proofs.Rows.{first-none}
 
 pub record Passed (half : ℕ) (side : Side) (v : ℤ) (s e : ℕ) (img scratch : List ℕ) : Type 0 where
   pub lent : scratch-ok borrowed (pages-in half img) scratch ≡ true

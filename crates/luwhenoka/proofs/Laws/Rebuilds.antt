@@ -1,5 +1,5 @@
 -- The ways out of a rebuild: behind an audit of its source. Assumes nothing.
-use Prim.Native.Nat.{ℕ}
+use Prim.Native.Nat.{ℕ, _<_}
 use mathlib.Core.Path.{_≡_, refl, sym, ap, _∙_}
 use mathlib.Core.Logic.{_≢_}
 use mathlib.Core.Bool.{Bool, true, false, cond, not, false≢true}
@@ -7,12 +7,14 @@ use mathlib.Core.List.{List, [], _∷_}
 use native.Mathlib.Omega.{arith}
 use lib.ListN.{length}
 use lib.Dec.{eqb}
-use borrow.Author.Tests.{ne-eqb}
+use borrow.Author.Tests.{ne-eqb, not-false}
+use Rattle.lists.specs.Lists.{All, all-none, all-more}
 use Rattle.image.specs.Images.{pages-in, length-ok}
 use Rattle.image.specs.Sound.{sound}
 use Rattle.tight.specs.Tight.{too-small}
-use Rattle.calls.specs.Refusals.{first, borrowed, scratch-ok, scratch-after}
+use Rattle.calls.specs.Refusals.{Row, first, borrowed, scratch-ok, scratch-after}
 use Rattle.calls.specs.Calls.{Audited, Rebuilt, full-runs, rebuilt-bytes, audit-input-rows, audit, rebuild-status, rebuild}
+use Rattle.calls.proofs.Rows.{first-none, first-behind}
 use Rattle.rebuild.specs.Rebuild.{Fills}
 
 -- a rebuild by what the audit of its source returned, and by the outcomes of its own two tests
@@ -21,23 +23,12 @@ behind a whole small done target =
     let number = cond (eqb (a .status) 0) (first ((16, not whole) ∷ (24, small) ∷ [])) (a .status) in
     record { status = number; target = cond (eqb number 0) done target; scratch = a .scratch }
 
--- the rows of the audit, and then the others
-rows : (a b c d e : Bool)
-    → first ((16, a) ∷ (17, b) ∷ (21, c) ∷ (16, d) ∷ (24, e) ∷ [])
-    ≡ cond (eqb (first ((16, a) ∷ (17, b) ∷ (21, c) ∷ [])) 0) (first ((16, d) ∷ (24, e) ∷ [])) (first ((16, a) ∷ (17, b) ∷ (21, c) ∷ []))
-unfolding first
-rows true b c d e = refl
-rows false true c d e = refl
-rows false false true d e = refl
-rows false false false d e = refl
-
--- an audit that returned 0 has found the image sound
-accepted : (a b c : Bool) → first ((16, a) ∷ (17, b) ∷ (21, not c) ∷ []) ≡ 0 → c ≡ true
-unfolding first
-accepted true b c e = absurd (omega (arith, e))
-accepted false true c e = absurd (omega (arith, e))
-accepted false false false e = absurd (omega (arith, e))
-accepted false false true e = refl
+-- no number of an audit's rows is that of an accepted call
+some : (a b c : Bool) → All (λ (r : Row). r .0 ≢ 0) ((16, a) ∷ (17, b) ∷ (21, c) ∷ [])
+some a b c = all-more (number 16 (omega arith)) (all-more (number 17 (omega arith)) (all-more (number 21 (omega arith)) all-none))
+  where
+    number : (n : ℕ) → 0 < n → n ≢ 0
+    number n l e = omega (arith, l, e)
 
 module _ (half : ℕ) (source target scratch : List ℕ) {r : ℕ} {left : List ℕ}
     (p : record { status = r; scratch = left } ≡ audit borrowed half source scratch) where
@@ -47,17 +38,21 @@ module _ (half : ℕ) (source target scratch : List ℕ) {r : ℕ} {left : List 
   abbrev small : Bool
   small = too-small half (pages-in half target) (length (full-runs half source))
 
+  -- the rows of the audit, ahead of the others
+  abbrev rows : List Row
+  rows =
+      (16, not (length-ok half source))
+      ∷ (17, not (scratch-ok borrowed (pages-in half source) scratch))
+      ∷ (21, not (sound half source))
+      ∷ []
+
   by-audit : behind (record { status = r; scratch = left }) (length-ok half target) small done target
       ≡ rebuild borrowed half source target scratch
   unfolding behind rebuild rebuild-status audit audit-input-rows
   by-audit =
       ap (λ a. behind a (length-ok half target) small done target) p
       ∙ (λ j.
-      let number =
-      sym
-      (rows (not (length-ok half source)) (not (scratch-ok borrowed (pages-in half source) scratch)) (not (sound half source))
-      (not (length-ok half target)) small)
-      j in
+      let number = sym (first-behind rows ((16, not (length-ok half target)) ∷ (24, small) ∷ []) (some _ _ _)) j in
       record {
         status = number;
         target = cond (eqb number 0) done target;
@@ -77,7 +72,11 @@ module _ (half : ℕ) (source target scratch : List ℕ) {r : ℕ} {left : List 
   module _ (z : r ≡ 0) where
     pub audited-sound : sound half source ≡ true
     unfolding audit audit-input-rows
-    audited-sound = accepted _ _ (sound half source) (sym (ap (λ (a : Audited). a .status) p) ∙ z)
+    audited-sound =
+        let all : first rows ≡ 0 = sym (ap (λ (a : Audited). a .status) p) ∙ z in
+        let behind-16 = first-none 16 _ _ (omega arith) all .1 in
+        let behind-17 = first-none 17 _ _ (omega arith) behind-16 .1 in
+        not-false _ (first-none 21 _ _ (omega arith) behind-17 .0)
 
     pub rebuild-16 : length-ok half target ≡ false
         → record { status = 16; target = target; scratch = left } ≡ rebuild borrowed half source target scratch

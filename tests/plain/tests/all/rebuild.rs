@@ -143,6 +143,7 @@ fn assert_is_clean(source: &[u8], target: &[u8], runs: &[Run]) {
         "the pages used are the first ones"
     );
     assert!(word(target, 0, HIGH_MARK) <= word(source, 0, HIGH_MARK) && height(target) <= height(source));
+    assert!(leaf_pairs(&Node::of(target)).windows(2).all(|two| two[0].1 != two[1].1), "neighbours have different totals");
     assert!(full_listing(target) == full_listing(source));
     for (i, run) in runs.iter().enumerate() {
         let end = runs.get(i + 1).map_or(END, |next| next.start);
