@@ -52,6 +52,11 @@ pub all-weaken : {A : Type 0} {Q R : A → Type 0} {es : List A} → ((x : A) �
 all-weaken h all-none = all-none
 all-weaken h (all-more {x} q r) = all-more (h x q) (all-weaken h r)
 
+-- of any list, where it holds of whatever there is
+pub all-each : {A : Type 0} {Q : A → Type 0} → ((x : A) → Q x) → (es : List A) → All Q es
+all-each h [] = all-none
+all-each h (x ∷ xs) = all-more (h x) (all-each h xs)
+
 -- of a list by index
 pub all-listed : {A : Type 0} {Q : A → Type 0} (n : ℕ) (f : ℕ → A) → ((i : ℕ) → i < n → Q (f i)) → All Q (listed n f)
 unfolding listed

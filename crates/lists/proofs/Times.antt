@@ -3,13 +3,13 @@
 use mathlib.Core.Path.{_≡_, refl, sym, ap, _∙_}
 use mathlib.Core.Bool.{Bool, true, and-eq-true-iff}
 use mathlib.Core.List.{List, [], _∷_, _++_}
-use Prim.Native.Nat.{ℕ, zero, suc, _+_, _≤_, _<_}
+use Prim.Native.Nat.{ℕ, suc, _+_, _≤_, _<_}
 use native.Mathlib.Omega.{arith}
 use native.Mathlib.Decide.{ℕ-discrete}
 use lib.ListN.{length}
 use Rattle.lists.specs.Lists.{listed, concat-map, hit, times, sum, total, all-of}
-use Rattle.lists.proofs.Totals.{total-add, total-most, total-zeros, total-ones, all-ones, total-one, hit-same, hit-other}
-use Rattle.lists.proofs.Concat.{concat-map-more}
+use Rattle.lists.proofs.Totals.{total-add, total-most, total-zeros, total-ones, all-ones, total-one, total-hits, hit-same, hit-other}
+use Rattle.lists.proofs.Concat.{sum-append, sum-concat-map}
 
 pub times-none : (p : ℕ) → times p [] ≡ 0
 unfolding times
@@ -25,25 +25,42 @@ times-same p q qs e = omega (arith, times-cons p q qs, hit-same p q e)
 pub times-other : (p q : ℕ) (qs : List ℕ) → (p ≡ q → ⊥) → times p (q ∷ qs) ≡ times p qs
 times-other p q qs d = omega (arith, times-cons p q qs, hit-other p q d)
 
-pub times-append : (p : ℕ) (xs ys : List ℕ) → times p (xs ++ ys) ≡ times p xs + times p ys
-unfolding times
-times-append p [] ys = omega arith
-times-append p (x ∷ xs) ys = omega (arith, times-append p xs ys)
-
 -- as a sum, of 1 for that number alone
 pub times-is : (p : ℕ) (ps : List ℕ) → times p ps ≡ sum (hit p) ps
 unfolding times sum
 times-is p [] = refl
 times-is p (q ∷ qs) = ap (λ n. hit p q + n) (times-is p qs)
 
--- ---- in lists one behind another
+pub times-append : (p : ℕ) (xs ys : List ℕ) → times p (xs ++ ys) ≡ times p xs + times p ys
+times-append p xs ys = omega (arith, times-is p (xs ++ ys), sum-append (hit p) xs ys, times-is p xs, times-is p ys)
 
+-- in lists one behind another
 pub times-concat-map : {A : Type 0} (f : A → List ℕ) (g : ℕ → A) (n p : ℕ)
     → times p (concat-map f (listed n g)) ≡ total n (λ i. times p (f (g i)))
-unfolding concat-map listed times total
-times-concat-map f g zero p = refl
-times-concat-map f g (suc n) p =
-    omega (arith, ap (times p) (concat-map-more f g n), times-append p (concat-map f (listed n g)) (f (g n)), times-concat-map f g n p)
+times-concat-map f g n p =
+    times-is p (concat-map f (listed n g))
+    ∙ sum-concat-map (hit p) f g n
+    ∙ (λ j. total n (λ i. sym (times-is p (f (g i))) j))
+
+-- ---- each element once
+
+-- what adds to 1 over the numbers below n for each element adds to the length for all
+once-each : (n : ℕ) (f : ℕ → ℕ → ℕ) (ps : List ℕ) → ((p : ℕ) → 1 ≤ times p ps → total n (λ i. f i p) ≡ 1)
+    → total n (λ i. sum (f i) ps) ≡ length ps
+unfolding sum
+once-each n f [] h = total-zeros n
+once-each n f (p ∷ ps) h =
+    omega (
+      arith,
+      total-add n (λ i. f i p) (λ i. sum (f i) ps),
+      h p (omega (arith, times-same p p ps refl)),
+      once-each n f ps (λ q l. h q (omega (arith, times-cons q p ps))),
+    )
+
+-- the elements at place i, for all places, are all elements
+pub sum-hits : (n : ℕ) (place : ℕ → ℕ) (ps : List ℕ) → ((p : ℕ) → 1 ≤ times p ps → place p < n)
+    → total n (λ i. sum (λ p. hit i (place p)) ps) ≡ length ps
+sum-hits n place ps h = once-each n (λ i p. hit i (place p)) ps (λ p l. total-hits n (place p) (h p l))
 
 -- ---- the counting argument
 
@@ -52,16 +69,9 @@ abbrev pub Within : ℕ → List ℕ → Type 0
 Within m xs = (p : ℕ) → 1 ≤ times p xs → (1 ≤ p) × (p ≤ m)
 
 length-total : (m : ℕ) (xs : List ℕ) → Within m xs → total m (λ i. times (suc i) xs) ≡ length xs
-unfolding times
-length-total m [] w = total-zeros m
-length-total m (x ∷ xs) w =
-    let first : (1 ≤ x) × (x ≤ m) = w x (omega (arith, hit-same x x refl)) in
-    omega (
-      arith,
-      total-add m (λ i. hit (suc i) x) (λ i. times (suc i) xs),
-      total-one m x (first .0) (first .1),
-      length-total m xs (λ p h. w p (omega arith)),
-    )
+length-total m xs w =
+    (λ j. total m (λ i. times-is (suc i) xs j))
+    ∙ once-each m (λ i. hit (suc i)) xs (λ p l. total-one m p (w p l .0) (w p l .1))
 
 pub short-of-once : (m : ℕ) (xs : List ℕ) → Within m xs → ((p : ℕ) → times p xs ≤ 1) → length xs ≤ m
 short-of-once m xs w h = omega (arith, length-total m xs w, total-most m (λ i. times (suc i) xs) (λ i l. h (suc i)))

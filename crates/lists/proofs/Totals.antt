@@ -1,22 +1,71 @@
--- Sums over the numbers below n: of ones, of at most ones, of a mark at one place, and of marks of disjoint spans. Assumes nothing.
-use mathlib.Core.Path.{_≡_, refl, ap, _∙_}
+-- Sums over the numbers below n: one compared with another, of ones, of at most ones, of a mark at one place, and of marks of disjoint
+-- spans; and a list's sum by index. Assumes nothing.
+use mathlib.Core.Path.{_≡_, refl, sym, ap, _∙_}
 use mathlib.Core.Bool.{false, cond}
-use Prim.Native.Nat.{ℕ, zero, suc, _+_, _≤_, _<_}
+use mathlib.Core.List.{List, [], _∷_}
+use Prim.Native.Nat.{ℕ, zero, suc, _+_, _*_, _≤_, _<_}
+use native.Mathlib.Nat.{add-zero, zero-add, mul-add}
 use native.Mathlib.Omega.{arith}
 use native.Mathlib.Decide.{ℕ-discrete, decLe, decLt}
+use lib.ListN.{length, getD}
 use lib.Dec.{eqb, leb, leb·zero, leb·suc-zero, leb·suc-suc, eqb·zero-suc, eqb·suc-zero, eqb·suc-suc}
 use borrow.Author.Tests.{eq-eqb, ne-eqb}
-use Rattle.lists.specs.Lists.{hit, total}
+use Rattle.lists.specs.Lists.{hit, sum, total}
 
 pub total-add : (n : ℕ) (f g : ℕ → ℕ) → total n (λ i. f i + g i) ≡ total n f + total n g
 unfolding total
 total-add zero f g = refl
 total-add (suc n) f g = omega (arith, total-add n f g)
 
-pub total-zeros : (n : ℕ) → total n (λ i. 0) ≡ 0
+pub total-none : (n : ℕ) (f : ℕ → ℕ) → ((i : ℕ) → i < n → f i ≡ 0) → total n f ≡ 0
 unfolding total
-total-zeros zero = refl
-total-zeros (suc n) = omega (arith, total-zeros n)
+total-none zero f h = refl
+total-none (suc n) f h = omega (arith, total-none n f (λ i l. h i (omega arith)), h n (omega arith))
+
+pub total-zeros : (n : ℕ) → total n (λ i. 0) ≡ 0
+total-zeros n = total-none n (λ i. 0) (λ i l. refl)
+
+-- the first apart
+total-first : (n : ℕ) (f : ℕ → ℕ) → total (suc n) f ≡ f 0 + total n (λ i. f (suc i))
+unfolding total
+total-first zero f = omega arith
+total-first (suc n) f = omega (arith, total-first n f)
+
+-- a list's sum by index, also past its end
+pub sum-total : (ns : List ℕ) (n : ℕ) → length ns ≤ n → total n (λ i. getD ns i 0) ≡ sum (λ k. k) ns
+unfolding sum
+sum-total [] n h = total-zeros n
+sum-total (k ∷ ks) zero h = absurd (omega arith)
+sum-total (k ∷ ks) (suc n) h = omega (arith, total-first n (λ i. getD (k ∷ ks) i 0), sum-total ks n (omega arith))
+
+-- ---- one beside another
+
+-- each at most k times another
+pub total-most-times : (n k : ℕ) (f g : ℕ → ℕ) → ((i : ℕ) → i < n → f i ≤ k * g i) → total n f ≤ k * total n g
+unfolding total
+total-most-times zero k f g h = omega arith
+total-most-times (suc n) k f g h =
+    omega (arith, mul-add k (total n g) (g n), total-most-times n k f g (λ i l. h i (omega arith)), h n (omega arith))
+
+-- each at most another
+pub total-le : (n : ℕ) (f g : ℕ → ℕ) → ((i : ℕ) → i < n → f i ≤ g i) → total n f ≤ total n g
+total-le n f g h = omega (arith, total-most-times n 1 f g (λ i l. omega (arith, h i l)))
+
+-- and with as much in all they are the same
+pub all-same : (n : ℕ) (f g : ℕ → ℕ) → ((i : ℕ) → i < n → f i ≤ g i) → total n g ≤ total n f → (i : ℕ) → i < n → f i ≡ g i
+unfolding total
+all-same zero f g h e i l = absurd (omega arith)
+all-same (suc n) f g h e i l =
+    let below : (j : ℕ) → j < n → f j ≤ g j = λ j k. h j (omega arith) in
+    let rest : total n f ≤ total n g = total-le n f g below in
+    let last : f n ≤ g n = h n (omega arith) in
+    go (all-same n f g below (omega arith) i) (omega arith) (decLt i n)
+  where
+    go : (i < n → f i ≡ g i) → f n ≡ g n → Dec (i < n) → f i ≡ g i
+    go earlier last (yes k) = earlier k
+    go earlier last (no k) =
+        let d : i ≡ n = omega arith in
+        ap f d ∙ last ∙ ap g (sym d)
 
 -- ---- ones
 
@@ -25,26 +74,16 @@ unfolding total
 total-ones zero f h = refl
 total-ones (suc n) f h = omega (arith, total-ones n f (λ i l. h i (omega arith)), h n (omega arith))
 
+-- as many as there are numbers
+just-ones : (n : ℕ) → total n (λ i. 1) ≡ n
+just-ones n = total-ones n (λ i. 1) (λ i l. refl)
+
 pub total-most : (n : ℕ) (f : ℕ → ℕ) → ((i : ℕ) → i < n → f i ≤ 1) → total n f ≤ n
-unfolding total
-total-most zero f h = omega arith
-total-most (suc n) f h = omega (arith, total-most n f (λ i l. h i (omega arith)), h n (omega arith))
+total-most n f h = omega (arith, total-le n f (λ i. 1) h, just-ones n)
 
 -- n numbers of at most 1 that add to n are ones
 pub all-ones : (n : ℕ) (f : ℕ → ℕ) → ((i : ℕ) → i < n → f i ≤ 1) → total n f ≡ n → (i : ℕ) → i < n → f i ≡ 1
-unfolding total
-all-ones zero f h e i l = absurd (omega arith)
-all-ones (suc n) f h e i l =
-    let below : (j : ℕ) → j < n → f j ≤ 1 = λ j k. h j (omega arith) in
-    let rest : total n f ≤ n = total-most n f below in
-    let last : f n ≤ 1 = h n (omega arith) in
-    go (all-ones n f below (omega arith) i) (omega arith) (decLt i n)
-  where
-    go : (i < n → f i ≡ 1) → f n ≡ 1 → Dec (i < n) → f i ≡ 1
-    go earlier last (yes k) = earlier k
-    go earlier last (no k) =
-        let d : i ≡ n = omega arith in
-        ap f d ∙ last
+all-ones n f h e = all-same n f (λ i. 1) h (omega (arith, just-ones n))
 
 -- ---- 1 where a number is x, else 0
 
@@ -68,9 +107,7 @@ pub hit-not : (p q : ℕ) → hit p q ≡ 0 → eqb p q ≡ false
 hit-not p q h = ne-eqb p q (λ e. omega (arith, hit-same p q e))
 
 total-past : (n x : ℕ) → n < x → total n (λ i. hit (suc i) x) ≡ 0
-unfolding total
-total-past zero x h = refl
-total-past (suc n) x h = omega (arith, total-past n x (omega arith), hit-other (suc n) x (λ e. omega arith))
+total-past n x h = total-none n (λ i. hit (suc i) x) (λ i l. hit-other (suc i) x (λ e. omega arith))
 
 pub total-one : (n x : ℕ) → 1 ≤ x → x ≤ n → total n (λ i. hit (suc i) x) ≡ 1
 unfolding total
@@ -81,6 +118,10 @@ total-one (suc n) x g h = go (ℕ-discrete (suc n) x) (total-one n x g)
         → total n (λ i. hit (suc i) x) + hit (suc n) x ≡ 1
     go (yes e) ih = omega (arith, total-past n x (omega arith), hit-same (suc n) x e)
     go (no d) ih = omega (arith, ih (omega arith), hit-other (suc n) x d)
+
+-- counted from 0
+pub total-hits : (n x : ℕ) → x < n → total n (λ i. hit i x) ≡ 1
+total-hits n x l = sym (λ j. total n (λ i. cond (eqb·suc-suc i x j) 1 0)) ∙ total-one n (suc x) (omega arith) (omega arith)
 
 -- ---- 1 from m on, else 0
 
@@ -94,11 +135,20 @@ hit-from zero (suc m) = rw (eqb·zero-suc m, leb·suc-zero (suc m), leb·suc-zer
 hit-from (suc p) zero = rw (eqb·suc-zero p, leb·suc-suc 0 p, leb·zero p, leb·zero (suc p))
 hit-from (suc p) (suc m) = rw (eqb·suc-suc p m, leb·suc-suc (suc m) p, leb·suc-suc m p) (hit-from p m)
 
+-- p is one of the n numbers from m on, or lies past them, or before
+pub total-from : (p m n : ℕ) → total n (λ i. hit p (m + i)) + from (m + n) p ≡ from m p
+unfolding total
+total-from p m zero = omega (arith, ap (λ k. from k p) (add-zero m))
+total-from p m (suc n) =
+    let e : m + suc n ≡ suc (m + n) = omega arith in
+    omega (arith, total-from p m n, hit-from p (m + n), ap (λ k. from k p) e)
+
 -- p lies below m, or it is m or more
 pub total-or-from : (p m : ℕ) → total m (hit p) + from m p ≡ 1
-unfolding total
-total-or-from p zero = rw (leb·zero p)
-total-or-from p (suc m) = omega (arith, total-or-from p m, hit-from p m)
+total-or-from p m =
+    (λ j. total m (λ i. hit p (sym (zero-add i) j)) + from (sym (zero-add m) j) p)
+    ∙ total-from p 0 m
+    ∙ ap (λ t. cond t 1 0) (leb·zero p)
 
 -- ---- spans one after the other
 

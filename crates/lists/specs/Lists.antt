@@ -11,7 +11,7 @@ listed zero f = []
 listed (suc n) f = listed n f ++ (f n ∷ [])
 
 -- f of each element, one list behind another
-unfoldable pub concat-map : {A : Type 0} → (A → List ℕ) → List A → List ℕ
+unfoldable pub concat-map : {A B : Type 0} → (A → List B) → List A → List B
 concat-map f [] = []
 concat-map f (x ∷ xs) = f x ++ concat-map f xs
 
