@@ -8,6 +8,8 @@ use native.Mathlib.Omega.{arith}
 use native.Mathlib.Decide.{decLt}
 use lib.ListN.{length, getD}
 use Rattle.lists.specs.Lists.{total}
+use Rattle.lists.proofs.Totals.{total-le, all-same, sum-total}
+use Rattle.lists.proofs.Times.{sum-hits}
 use Rattle.rule.specs.Time.{END}
 use Rattle.page.specs.declared.Head.{Head}
 use Rattle.page.specs.Layout.{capacity, level-of}
@@ -22,7 +24,6 @@ use Rattle.soundness.proofs.Sound.{the-head, the-tree, Sound-facts, sound-facts
 use Rattle.soundness.proofs.Used.{tree-level}
 use Rattle.soundness.proofs.Counting.{sound-counted}
 use Rattle.tight.specs.Counts.{pages-on, leaf-entries}
-use Rattle.fewest.proofs.Sums.{total-le, all-same, sum-total, sum-hits}
 use Rattle.fewest.proofs.Under.{on-above, on-top, on-below, walk-runs}
 use Rattle.fewest.proofs.Levels.{sizes-least}
 

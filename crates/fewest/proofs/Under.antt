@@ -9,7 +9,8 @@ use native.Mathlib.Omega.{arith}
 use native.Mathlib.Decide.{ℕ-discrete}
 use lib.ListN.{length}
 use Rattle.lists.specs.Lists.{hit, sum, total}
-use Rattle.lists.proofs.Totals.{total-ones, hit-self, hit-other}
+use Rattle.lists.proofs.Concat.{sum-concat-map}
+use Rattle.lists.proofs.Totals.{total-none, total-most-times, total-ones, hit-self, hit-other}
 use Rattle.rule.specs.Pairs.{combine}
 use Rattle.rule.specs.Time.{overlaps}
 use Rattle.page.specs.declared.Head.{Head}
@@ -21,7 +22,6 @@ use Rattle.image.specs.Sound.{tree-fit, tree-pages}
 use Rattle.image.specs.Listing.{Walked, nothing, stopped, in-turn, under, leaf-run, walk-page, walk}
 use Rattle.image.proofs.Runs.{turn-le, picked-le, length-under}
 use Rattle.soundness.proofs.Tree.{tree-parts, tree-top, tree-more}
-use Rattle.fewest.proofs.Sums.{sum-concat-map, total-none, total-most-times}
 
 -- ---- the page itself, and the pages below its entries
 
