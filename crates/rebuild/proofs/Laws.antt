@@ -1,6 +1,5 @@
--- `Sizes`: how many pages and levels. `Patches`: writes in front of another or over it, and what stands in front of one. `Slots`: a page
--- that is written slot by slot. `Pieces`: pieces of one size, written one after the other, forwards and backwards. `Pages`: the pages of a
--- level as such pieces.
+-- `Sizes`: how many pages and levels. `Patches`: what stands in front of a write. `Slots`: a page that is written slot by slot. `Pieces`:
+-- pieces of one size, written one after the other, forwards and backwards. `Pages`: the pages of a level as such pieces.
 pub mod Sizes
 pub mod Patches
 pub mod Slots

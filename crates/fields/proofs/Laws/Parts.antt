@@ -74,6 +74,19 @@ take-patch s o bs h =
     ap (take (o + length bs)) (sym (append-assoc (take o s) bs (drop (o + length bs) s)))
     ∙ take-at (take o s ++ bs) (drop (o + length bs) s) (o + length bs) (simp (length-append, length-take) (omega arith))
 
+-- before a patch nothing changes
+take-patch-before : (s : List ℕ) (o : ℕ) (bs : List ℕ) (i : ℕ) → i ≤ o → o ≤ length s → take i (patch s o bs) ≡ take i s
+unfolding patch
+take-patch-before s o bs i g h =
+    take-append-le i (take o s) (bs ++ drop (o + length bs) s) (omega (arith, length-take-le o s h)) ∙ take-take i o s g
+
+pub part-patch-before : (s : List ℕ) (o : ℕ) (bs : List ℕ) → o ≤ length s → (a n : ℕ) → a + n ≤ o → part (patch s o bs) a n ≡ part s a n
+unfolding part
+part-patch-before s o bs h a n g =
+    sym (take-drop-take n a o (patch s o bs) g)
+    ∙ ap (λ l. take n (drop a l)) (take-patch-before s o bs o (omega arith) h)
+    ∙ take-drop-take n a o s g
+
 -- after a patch nothing changes
 drop-patch-after : (s : List ℕ) (o : ℕ) (bs : List ℕ) (i : ℕ) → o + length bs ≤ i → o ≤ length s → drop i (patch s o bs) ≡ drop i s
 unfolding patch
@@ -121,6 +134,25 @@ patch-patch-next s o xs ys p e h =
     ∙ ap (λ l. take o s ++ xs ++ (ys ++ l)) (drop-patch-after s o xs (p + length ys) (omega arith) h ∙ ap (λ k. drop k s) d)
     ∙ append-assoc (take o s) xs (ys ++ drop (o + length (xs ++ ys)) s)
     ∙ ap (λ l. take o s ++ l) (sym (append-assoc xs ys (drop (o + length (xs ++ ys)) s)))
+
+-- also where the one in front is the later one
+pub patch-front : (s : List ℕ) (o : ℕ) (ys : List ℕ) (p : ℕ) (xs : List ℕ) → p + length xs ≡ o → o ≤ length s
+    → patch (patch s o ys) p xs ≡ patch s p (xs ++ ys)
+unfolding patch
+patch-front s o ys p xs e h =
+    let d : o + length ys ≡ p + length (xs ++ ys) = simp length-append (omega arith) in
+    let behind : drop (p + length xs) (patch s o ys) ≡ ys ++ drop (p + length (xs ++ ys)) s =
+    ap (λ k. drop k (patch s o ys)) e
+    ∙ drop-at (take o s) (ys ++ drop (o + length ys) s) o (length-take-le o s h)
+    ∙ ap (λ k. ys ++ drop k s) d in
+    (λ j. take-patch-before s o ys p (omega arith) h j ++ (xs ++ behind j))
+    ∙ ap (λ l. take p s ++ l) (sym (append-assoc xs ys (drop (p + length (xs ++ ys)) s)))
+
+-- a patch over another of as many bytes
+pub patch-again : (s : List ℕ) (o : ℕ) (xs ys : List ℕ) → length ys ≡ length xs → o ≤ length s → patch (patch s o xs) o ys ≡ patch s o ys
+unfolding patch
+patch-again s o xs ys e h =
+    λ j. take-patch-before s o xs o (omega arith) h j ++ (ys ++ drop-patch-after s o xs (o + length ys) (omega arith) h j)
 
 -- a store right after a patch, and after a run of one byte
 pub set-patch-next : (s : List ℕ) (o : ℕ) (bs : List ℕ) (i v : ℕ) → o + length bs ≡ i → i < length s

@@ -11,7 +11,7 @@ use Rattle.lists.specs.Lists.{listed, concat-map, sum}
 use Rattle.lists.proofs.Listed.{listed-getD}
 use Rattle.lists.proofs.Concat.{concat-map-more}
 use Rattle.fields.specs.Bytes.{Bytes, patch, unused}
-use Rattle.fields.proofs.Laws.Parts.{patch-whole, patch-patch-next}
+use Rattle.fields.proofs.Laws.Parts.{patch-whole, patch-patch-next, patch-front}
 use Rattle.fields.proofs.Laws.Tests.{length-unused, unused-add}
 use Rattle.page.specs.declared.Head.{Head}
 use Rattle.page.specs.Layout.{page-size, head-bytes}
@@ -25,7 +25,6 @@ use Rattle.tight.proofs.Pages.{pages-some, before-all}
 use Rattle.tight.proofs.Levels.{length-cells}
 use Rattle.rebuild.specs.Levels.{run-entries}
 use Rattle.rebuild.proofs.Laws.Sizes.{leaves-used}
-use Rattle.rebuild.proofs.Laws.Patches.{patch-front}
 use Rattle.rebuild.proofs.Laws.Pieces.{joined-rows}
 use Rattle.rebuild.proofs.Laws.Pages.{runs-room}
 use Rattle.rebuild.proofs.Laws.Sized.{length-sized}

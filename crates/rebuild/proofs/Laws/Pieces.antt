@@ -11,9 +11,8 @@ use Rattle.lists.specs.Lists.{listed, concat-map}
 use Rattle.lists.proofs.Listed.{length-listed, getD-listed}
 use Rattle.lists.proofs.Concat.{concat-map-more}
 use Rattle.fields.specs.Bytes.{patch}
-use Rattle.fields.proofs.Laws.Parts.{patch-none, patch-patch-next}
+use Rattle.fields.proofs.Laws.Parts.{patch-none, patch-patch-next, patch-front}
 use Rattle.image.proofs.Rows.{rows, length-rows}
-use Rattle.rebuild.proofs.Laws.Patches.{patch-front}
 
 -- bytes of listed things are the pieces that each of them gives
 pub joined-rows : {A : Type 0} (b : A → List ℕ) (g : ℕ → A) (f : ℕ → List ℕ) (n : ℕ) → ((i : ℕ) → i < n → b (g i) ≡ f i)

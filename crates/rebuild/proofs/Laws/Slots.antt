@@ -8,11 +8,10 @@ use Rattle.lists.specs.Lists.{listed}
 use Rattle.lists.proofs.Listed.{length-listed}
 use Rattle.fields.specs.Bytes.{part, patch, unused}
 use Rattle.fields.specs.Numbers.{u32-bytes}
-use Rattle.fields.proofs.Laws.Parts.{part-patch-same}
+use Rattle.fields.proofs.Laws.Parts.{part-patch-same, patch-again}
 use Rattle.page.specs.declared.Entry.{Entry}
 use Rattle.page.specs.Layout.{capacity, page-size, with-entry, tree-bytes}
 use Rattle.page.proofs.Laws.Trees.{page-bytes, page-none, page-listed-more, page-whole, length-page}
-use Rattle.rebuild.proofs.Laws.Patches.{patch-again}
 
 -- b is an image whose page p was made blank; f gives the entries that an image has for that page.
 module _ (half p level size : ℕ) (f : List ℕ → ℕ → Entry) (b : List ℕ) where
