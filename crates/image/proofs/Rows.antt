@@ -1,16 +1,18 @@
 -- Pieces of one size one behind another: how long they are together, each at its offset, and one of them written. Assumes nothing.
 use Prim.Native.Nat.{ℕ, zero, suc, _+_, _*_, _<_}
-use mathlib.Core.Path.{_≡_, refl, sym, ap, _∙_}
-use mathlib.Core.List.{List, [], _∷_, _++_}
-use native.Mathlib.Nat.{mul-zero, mul-suc, mul-le-mul-left, add-zero}
+use mathlib.Core.Path.{_≡_, sym, ap, _∙_}
+use mathlib.Core.List.{List, [], _++_, append-nil}
+use native.Mathlib.Nat.{mul-suc, mul-le-mul-left, add-zero}
 use native.Mathlib.Omega.{arith}
 use native.Mathlib.Decide.{decLt}
-use lib.ListN.{length, length-append}
+use lib.ListN.{length}
+use Rattle.lists.specs.Lists.{listed, concat-map, All}
+use Rattle.lists.proofs.All.{all-listed}
+use Rattle.lists.proofs.Listed.{length-listed, getD-listed}
+use Rattle.lists.proofs.Concat.{concat-map-more, concat-map-same}
 use Rattle.fields.specs.Bytes.{part, patch}
-use Rattle.fields.proofs.Laws.Parts.{part-append-left, patch-append-left, patch-append-right, patch-whole}
-use Rattle.lists.specs.Lists.{listed, concat-map}
-use Rattle.lists.proofs.Concat.{concat-map-append, concat-map-one}
-use Rattle.page.proofs.Laws.Pieces.{part-last}
+use Rattle.fields.proofs.Laws.Parts.{patch-append-left, patch-append-right, patch-whole}
+use Rattle.page.proofs.Laws.Concat.{length-sized, part-sized}
 
 -- the pieces below n
 abbrev pub rows : (ℕ → List ℕ) → ℕ → List ℕ
@@ -18,37 +20,24 @@ rows f n = concat-map f (listed n (λ p. p))
 
 module _ (f : ℕ → List ℕ) (k : ℕ) where
   rows-more : (n : ℕ) → rows f (suc n) ≡ rows f n ++ f n
-  unfolding listed
-  rows-more n = concat-map-append f (listed n (λ p. p)) (n ∷ []) ∙ ap (λ r. rows f n ++ r) (concat-map-one f n)
+  rows-more n = concat-map-more f (λ p. p) n
 
-  pub length-rows : (n : ℕ) → ((i : ℕ) → i < n → length (f i) ≡ k) → length (rows f n) ≡ k * n
-  unfolding concat-map listed
-  length-rows zero each = sym (mul-zero k)
-  length-rows (suc n) each =
-      ap length (rows-more n)
-      ∙ length-append (rows f n) (f n)
-      ∙ (λ j. length-rows n (λ i l. each i (omega arith)) j + each n (omega arith) j)
-      ∙ sym (mul-suc k n)
+  module _ (n : ℕ) (each : (i : ℕ) → i < n → length (f i) ≡ k) where
+    all-sized : All (λ i. length (f i) ≡ k) (listed n (λ p. p))
+    all-sized = all-listed n (λ p. p) each
 
-  pub part-rows : (n : ℕ) → ((i : ℕ) → i < n → length (f i) ≡ k) → (i : ℕ) → i < n → part (rows f n) (k * i) k ≡ f i
-  part-rows zero each i l = absurd (omega arith)
-  part-rows (suc n) each i l = ap (λ r. part r (k * i) k) (rows-more n) ∙ go (decLt i n) (part-rows n fewer i)
-    where
-      fewer : (j : ℕ) → j < n → length (f j) ≡ k
-      fewer j m = each j (omega arith)
+    pub length-rows : length (rows f n) ≡ k * n
+    length-rows = length-sized f k all-sized ∙ ap (λ m. k * m) (length-listed n (λ p. p))
 
-      go : Dec (i < n) → (i < n → part (rows f n) (k * i) k ≡ f i) → part (rows f n ++ f n) (k * i) k ≡ f i
-      go (yes m) before = part-append-left (rows f n) (f n) (k * i) k (omega (arith, length-rows n fewer, mul-le-mul-left k m)) ∙ before m
-      go (no m) before =
-          let d : n ≡ i = omega arith in
-          part-last (rows f n) (f n) (k * i) k (length-rows n fewer ∙ ap (λ r. k * r) d) (each n (omega arith)) ∙ ap f d
+    pub part-rows : (i : ℕ) → i < n → part (rows f n) (k * i) k ≡ f i
+    part-rows i l =
+        ap (λ r. part r (k * i) k) (sym (append-nil (rows f n)))
+        ∙ part-sized f k [] 0 i all-sized (omega (arith, length-listed n (λ p. p)))
+        ∙ ap f (getD-listed n (λ p. p) 0 i l)
 
 -- pieces that are the same below n
 rows-same : (f g : ℕ → List ℕ) (n : ℕ) → ((i : ℕ) → i < n → f i ≡ g i) → rows f n ≡ rows g n
-unfolding concat-map listed
-rows-same f g zero same = refl
-rows-same f g (suc n) same =
-    rows-more f 0 n ∙ (λ j. rows-same f g n (λ i l. same i (omega arith)) j ++ same n (omega arith) j) ∙ sym (rows-more g 0 n)
+rows-same f g n same = concat-map-same f (λ p. p) g (λ p. p) n same
 
 -- the i-th piece is written
 pub patch-rows : (f g : ℕ → List ℕ) (k n i : ℕ) → ((j : ℕ) → j < n → length (f j) ≡ k) → length (g i) ≡ k

@@ -3,14 +3,14 @@
 use mathlib.Core.Path.{_≡_, sym, ap, _∙_}
 use mathlib.Core.List.{List, [], _∷_, _++_, append-assoc}
 use Prim.Native.Nat.{ℕ, zero, suc, _+_, _-_, _*_, _≤_, _<_}
-use native.Mathlib.Nat.{mul-zero, mul-suc, mul-add, add-comm, add-zero, sub-zero, add-sub-of-le}
-use native.Mathlib.Numerals.{add-one}
+use native.Mathlib.Nat.{mul-zero, mul-suc, mul-add, add-comm, sub-zero, add-sub-of-le}
 use native.Mathlib.Omega.{arith}
 use lib.ListN.{length, getD, length-append}
 use lib.Dec.{lit<}
-use Rattle.lists.specs.Lists.{listed, concat-map, splice}
+use Rattle.lists.specs.Lists.{listed, concat-map, splice, All, all-none, all-more}
+use Rattle.lists.proofs.All.{all-each}
 use Rattle.lists.proofs.Listed.{length-listed}
-use Rattle.lists.proofs.Concat.{concat-map-append, concat-map-one, concat-map-more}
+use Rattle.lists.proofs.Concat.{concat-map-more}
 use Rattle.fields.specs.Bytes.{Bytes, part, patch, unused}
 use Rattle.fields.proofs.Laws.Parts.{part-none, part-add, part-append-right, part-middle, patch-append-left, patch-append-right}
 use Rattle.fields.proofs.Laws.Parts.{patch-whole}
@@ -28,25 +28,35 @@ module _ {A : Type 0} (f : A → List ℕ) where
 unfoldable pub run : {A : Type 0} → (A → List ℕ) → ℕ → ℕ → List A → List ℕ
 run f k room xs = concat-map f xs ++ unused (k * (room - length xs))
 
-module _ {A : Type 0} (f : A → List ℕ) (k : ℕ) (each : (x : A) → length (f x) ≡ k) where
-  pub length-joined : (xs : List A) → length (concat-map f xs) ≡ k * length xs
+-- elements of k bytes each
+module _ {A : Type 0} (f : A → List ℕ) (k : ℕ) where
+  pub length-sized : {xs : List A} → All (λ x. length (f x) ≡ k) xs → length (concat-map f xs) ≡ k * length xs
   unfolding concat-map
-  length-joined [] = sym (mul-zero k)
-  length-joined (x ∷ xs) = rw (length-append, each x, length-joined xs, mul-suc) (add-comm k (k * length xs))
+  length-sized all-none = sym (mul-zero k)
+  length-sized (all-more {x} {xs} q r) = rw (length-append, q, length-sized r, mul-suc) (add-comm k (k * length xs))
 
   -- the i-th element's bytes stand at the i-th slot
-  pub part-joined : (xs : List A) (ys : List ℕ) (d : A) (i : ℕ) → i < length xs → part (concat-map f xs ++ ys) (k * i) k ≡ f (getD xs i d)
+  pub part-sized : {xs : List A} (ys : List ℕ) (d : A) (i : ℕ) → All (λ x. length (f x) ≡ k) xs → i < length xs
+      → part (concat-map f xs ++ ys) (k * i) k ≡ f (getD xs i d)
   unfolding concat-map
-  part-joined [] ys d i h = absurd (omega arith)
-  part-joined (x ∷ xs) ys d zero h =
+  part-sized ys d i all-none h = absurd (omega arith)
+  part-sized ys d zero (all-more {x} {xs} q r) h =
       ap (λ l. part l (k * 0) k) (append-assoc (f x) (concat-map f xs) ys)
-      ∙ part-middle [] (f x) (concat-map f xs ++ ys) (k * 0) k (sym (mul-zero k)) (each x)
-  part-joined (x ∷ xs) ys d (suc i) h =
-      let e : k * suc i ≡ length (f x) + k * i = rw (mul-suc, each x) (add-comm (k * i) k) in
+      ∙ part-middle [] (f x) (concat-map f xs ++ ys) (k * 0) k (sym (mul-zero k)) q
+  part-sized ys d (suc i) (all-more {x} {xs} q r) h =
+      let e : k * suc i ≡ length (f x) + k * i = rw (mul-suc, q) (add-comm (k * i) k) in
       ap (λ l. part l (k * suc i) k) (append-assoc (f x) (concat-map f xs) ys)
       ∙ ap (λ o. part (f x ++ (concat-map f xs ++ ys)) o k) e
       ∙ part-append-right (f x) (concat-map f xs ++ ys) (k * i) k
-      ∙ part-joined xs ys d i (omega arith)
+      ∙ part-sized ys d i r (omega arith)
+
+-- where each that there is has so many
+module _ {A : Type 0} (f : A → List ℕ) (k : ℕ) (each : (x : A) → length (f x) ≡ k) where
+  pub length-joined : (xs : List A) → length (concat-map f xs) ≡ k * length xs
+  length-joined xs = length-sized f k (all-each each xs)
+
+  pub part-joined : (xs : List A) (ys : List ℕ) (d : A) (i : ℕ) → i < length xs → part (concat-map f xs ++ ys) (k * i) k ≡ f (getD xs i d)
+  part-joined xs ys d i h = part-sized f k ys d i (all-each each xs) h
 
   -- the bytes of what stands at n slots, one after the other, are the bytes of those slots
   pub joined-parts : (s : List ℕ) (o n : ℕ) (x : ℕ → A) → ((i : ℕ) → i < n → f (x i) ≡ part s (o + k * i) k)

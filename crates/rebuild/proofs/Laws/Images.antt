@@ -15,6 +15,7 @@ use Rattle.fields.proofs.Laws.Parts.{patch-whole, patch-patch-next, patch-front
 use Rattle.fields.proofs.Laws.Tests.{length-unused, unused-add}
 use Rattle.page.specs.declared.Head.{Head}
 use Rattle.page.specs.Layout.{page-size, head-bytes}
+use Rattle.page.proofs.Laws.Concat.{length-sized}
 use Rattle.page.proofs.Laws.Heads.{length-head}
 use Rattle.image.specs.Images.{Cell, never-used, cell-bytes, image-bytes, pages-in, length-ok}
 use Rattle.image.specs.Listing.{Run, run-bytes}
@@ -27,7 +28,6 @@ use Rattle.rebuild.specs.Levels.{run-entries}
 use Rattle.rebuild.proofs.Laws.Sizes.{leaves-used}
 use Rattle.rebuild.proofs.Laws.Pieces.{joined-rows}
 use Rattle.rebuild.proofs.Laws.Pages.{runs-room}
-use Rattle.rebuild.proofs.Laws.Sized.{length-sized}
 use Rattle.rebuild.proofs.Laws.Coded.{cells-same}
 use Rattle.rebuild.proofs.Laws.Runs.{runs-coded}
 use Rattle.rebuild.proofs.Laws.Tree.{cells-sized}

@@ -1,52 +1,29 @@
 -- Things of one size one behind another, and the start that a page shows. Assumes nothing.
-use Prim.Native.Nat.{ℕ, zero, suc, _+_, _-_, _*_, _≤_, _<_}
+use Prim.Native.Nat.{ℕ, suc, _+_, _-_, _*_, _≤_, _<_}
 use mathlib.Core.Path.{_≡_, sym, ap, _∙_}
-use mathlib.Core.List.{List, [], _++_, append-assoc}
-use native.Mathlib.Nat.{add-zero, add-comm, mul-zero, mul-suc}
+use mathlib.Core.List.{List, _++_, append-assoc}
+use native.Mathlib.Nat.{add-zero, add-comm, mul-suc}
 use native.Mathlib.Omega.{arith}
 use lib.ListN.{length, length-append, getD, take, drop}
 use lib.Seq.{length-take-le}
-use Rattle.lists.specs.Lists.{concat-map, All, all-none, all-more}
+use Rattle.lists.specs.Lists.{concat-map, All}
 use Rattle.fields.specs.Bytes.{part, patch, unused}
 use Rattle.fields.specs.Numbers.{u32-bytes}
-use Rattle.fields.proofs.Laws.Parts.{part-middle, part-append-right}
+use Rattle.fields.proofs.Laws.Parts.{part-append-right}
 use Rattle.fields.proofs.Laws.Offsets.{u32}
 use Rattle.fields.proofs.Laws.Tests.{length-unused}
 use Rattle.page.specs.declared.Entry.{Entry}
 use Rattle.page.specs.Entries.{at, no-entry}
 use Rattle.page.specs.Layout.{capacity, page-size, start-at, entry-bytes, tree-bytes}
-use Rattle.page.proofs.Laws.Concat.{part-joined}
+use Rattle.page.proofs.Laws.Concat.{part-sized, part-joined}
 use Rattle.page.proofs.Laws.Entries.{start-bytes, length-start-bytes}
 use Rattle.page.proofs.Laws.Trees.{bytes-tree, length-tree}
 
--- ---- things of one size one behind another
+-- ---- things of one size one behind another, written from offset k on
 
 module _ {A : Type 0} (b : A → List ℕ) (k : ℕ) where
-  abbrev pub Sized : A → Type 0
-  Sized x = length (b x) ≡ k
-
-  pub length-sized : {xs : List A} → All Sized xs → length (concat-map b xs) ≡ k * length xs
-  unfolding concat-map
-  length-sized all-none = sym (mul-zero k)
-  length-sized (all-more {x} {xs} q r) =
-      length-append (b x) (concat-map b xs) ∙ (λ j. q j + length-sized r j) ∙ add-comm k (k * length xs) ∙ sym (mul-suc k (length xs))
-
-  part-sized : {xs : List A} (ys : List ℕ) (d : A) (i : ℕ) → All Sized xs → i < length xs
-      → part (concat-map b xs ++ ys) (k * i) k ≡ b (getD xs i d)
-  unfolding concat-map
-  part-sized ys d i all-none h = absurd (omega arith)
-  part-sized ys d zero (all-more {x} {xs} q r) h =
-      ap (λ l. part l (k * 0) k) (append-assoc (b x) (concat-map b xs) ys)
-      ∙ part-middle [] (b x) (concat-map b xs ++ ys) (k * 0) k (sym (mul-zero k)) q
-  part-sized ys d (suc i) (all-more {x} {xs} q r) h =
-      let e : k * suc i ≡ length (b x) + k * i = mul-suc k i ∙ add-comm (k * i) k ∙ ap (λ n. n + k * i) (sym q) in
-      ap (λ l. part l (k * suc i) k) (append-assoc (b x) (concat-map b xs) ys)
-      ∙ ap (λ o. part (b x ++ (concat-map b xs ++ ys)) o k) e
-      ∙ part-append-right (b x) (concat-map b xs ++ ys) (k * i) k
-      ∙ part-sized ys d i r (omega arith)
-
-  -- written from offset k on
-  pub patched-sized : {xs : List A} (s : List ℕ) (d : A) (i : ℕ) → All Sized xs → i < length xs → k ≤ length s
+  pub patched-sized : {xs : List A} (s : List ℕ) (d : A) (i : ℕ) → All (λ x. length (b x) ≡ k) xs → i < length xs
+      → k ≤ length s
       → part (patch s k (concat-map b xs)) (k * suc i) k ≡ b (getD xs i d)
   unfolding patch
   patched-sized {xs} s d i all h room =
@@ -55,7 +32,7 @@ module _ {A : Type 0} (b : A → List ℕ) (k : ℕ) where
       let rest : List ℕ = drop (k + length (concat-map b xs)) s in
       ap (λ o. part (take k s ++ (concat-map b xs ++ rest)) o k) e
       ∙ part-append-right (take k s) (concat-map b xs ++ rest) (k * i) k
-      ∙ part-sized rest d i all h
+      ∙ part-sized b k rest d i all h
 
 -- ---- the start of a page's first entry
 

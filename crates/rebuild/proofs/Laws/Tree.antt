@@ -22,6 +22,7 @@ use Rattle.fields.specs.Numbers.{u32-bytes}
 use Rattle.fields.proofs.Laws.Parts.{patch-patch-next}
 use Rattle.page.specs.declared.Entry.{Entry}
 use Rattle.page.specs.Entries.{entry, at}
+use Rattle.page.proofs.Laws.Concat.{length-sized}
 use Rattle.page.specs.Layout.{capacity, page-size, start-at, entry-bytes, tree-bytes}
 use Rattle.page.proofs.Laws.Trees.{length-tree}
 use Rattle.image.specs.Images.{Cell, tree, never-used, page-at, cell-bytes}
@@ -30,7 +31,7 @@ use Rattle.tight.proofs.Pages.{pages-some, page-most, page-some}
 use Rattle.tight.proofs.Levels.{length-in-page, length-above, length-cells}
 use Rattle.rebuild.specs.Levels.{run-entries, page-entry, page-entries-from, level-bytes}
 use Rattle.rebuild.proofs.Laws.Sizes.{fewer}
-use Rattle.rebuild.proofs.Laws.Sized.{length-sized, patched-sized, first-start}
+use Rattle.rebuild.proofs.Laws.Sized.{patched-sized, first-start}
 use Rattle.rebuild.proofs.Laws.Coded.{coded, Same-bytes, level-same}
 
 -- a page's bytes
