@@ -3,18 +3,18 @@
 use Prim.Native.Nat.{ℕ, zero, suc, _+_, _-_, _≤_, _<_}
 use mathlib.Core.Path.{_≡_, refl, sym, ap, _∙_}
 use mathlib.Core.Bool.{cond}
-use mathlib.Core.List.{List, [], _∷_, _++_, map}
+use mathlib.Core.List.{List, [], _∷_, map}
 use native.Mathlib.Omega.{arith}
 use native.Mathlib.Decide.{decLe}
 use lib.Dec.{leb}
 use borrow.Author.Tests.{le-leb, lt-leb}
-use Rattle.lists.specs.Lists.{concat-map}
+use Rattle.lists.specs.Lists.{concat-map, times}
+use Rattle.lists.proofs.Concat.{concat-map-map}
 use Rattle.page.specs.declared.Entry.{Entry}
 use Rattle.page.specs.Layout.{entries-of}
 use Rattle.image.specs.Images.{page-at}
 use Rattle.image.specs.Sound.{tree-pages}
-use Rattle.lists.specs.Lists.{times}
-use Rattle.tree.specs.Tree.{Node, pages-under}
+use Rattle.tree.specs.Tree.{pages-under}
 use Rattle.tree.specs.Conserved.{times-below, times-spare, held}
 use Rattle.soundness.proofs.Sound.{the-head, the-tree, the-chain, Sound-facts}
 use Rattle.soundness.proofs.Used.{tree-within, chain-within}
@@ -27,19 +27,12 @@ unfolding concat-map pages-under
 over-none half img [] = refl
 over-none half img (e ∷ es) = over-none half img es
 
-joined-over : {A : Type 0} (f : Entry → List ℕ) (g : Node A → List ℕ) (k : Entry → Node A) → ((e : Entry) → f e ≡ g (k e))
-    → (es : List Entry)
-    → concat-map f es ≡ concat-map g (map k es)
-unfolding concat-map
-joined-over f g k h [] = refl
-joined-over f g k h (e ∷ es) = λ j. h e j ++ joined-over f g k h es j
-
 pages-are : (half : ℕ) (img : List ℕ) (l p : ℕ) → tree-pages half img l p ≡ p ∷ concat-map (λ x. pages-under l x) (load half img l p)
 unfolding tree-pages pages-under below
 pages-are half img zero p = ap (λ (r : List ℕ). p ∷ r) (sym (over-none half img (entries-of half (page-at half img p))))
 pages-are half img (suc l) p =
     ap (λ (r : List ℕ). p ∷ r)
-    (joined-over (λ e. tree-pages half img l (e .child)) (λ x. pages-under (suc l) x) (loaded half img (suc l))
+    (concat-map-map (λ (e : Entry). tree-pages half img l (e .child)) (λ x. pages-under (suc l) x) (loaded half img (suc l))
     (λ e. pages-are half img l (e .child))
     (entries-of half (page-at half img p)))
 

@@ -3,12 +3,12 @@
 use Prim.Native.Nat.{ℕ, zero, suc, _+_, _-_, _*_}
 use mathlib.Core.Path.{_≡_, refl, sym, ap, _∙_}
 use mathlib.Core.Bool.{Bool, true, false, cond}
-use mathlib.Core.List.{List, [], _∷_, _++_, map}
+use mathlib.Core.List.{List, [], _++_, map}
 use lib.Dec.{leb}
-use lib.ListN.{length, length-map, getD}
+use lib.ListN.{length, length-map, getD, List·getD-map}
 use Rattle.lists.specs.Lists.{listed, concat-map}
 use Rattle.lists.proofs.Listed.{listed-same}
-use Rattle.lists.proofs.Concat.{concat-map-append}
+use Rattle.lists.proofs.Concat.{concat-map-append, concat-map-map}
 use Rattle.lists.proofs.Edits.{map-listed}
 use Rattle.rule.specs.Pairs.{none}
 use Rattle.fields.specs.Bytes.{unused}
@@ -35,18 +35,6 @@ coded e = record { start = u32-bytes (e .start); rest = entry-bytes e }
 pub record Same-bytes (es fs : List Entry) : Type 0 where
   pub each : map coded es ≡ map coded fs
 
--- ---- lists (these belong in `lists`)
-
-concat-map-map : {A B : Type 0} (b : B → List ℕ) (f : A → B) (xs : List A) → concat-map b (map f xs) ≡ concat-map (λ x. b (f x)) xs
-unfolding concat-map
-concat-map-map b f [] = refl
-concat-map-map b f (x ∷ xs) = ap (λ r. b (f x) ++ r) (concat-map-map b f xs)
-
-getD-map : {A B : Type 0} (f : A → B) (xs : List A) (i : ℕ) (d : A) → getD (map f xs) i (f d) ≡ f (getD xs i d)
-getD-map f [] i d = refl
-getD-map f (x ∷ xs) zero d = refl
-getD-map f (x ∷ xs) (suc i) d = getD-map f xs i d
-
 -- ---- a page
 
 module _ (half level : ℕ) where
@@ -63,8 +51,8 @@ module _ (half level : ℕ) where
       let n : length es ≡ length (map coded es) = sym (length-map es coded) in
       λ j.
       u32-bytes level ++ (u32-bytes (n j) ++ (unused 24
-      ++ (sym (concat-map-map (λ c. c .start) coded es) j ++ (unused (4 * (capacity half - n j))
-      ++ (sym (concat-map-map (λ c. c .rest) coded es) j ++ unused (16 * (capacity half - n j)))))))
+      ++ (concat-map-map (λ (e : Entry). u32-bytes (e .start)) (λ c. c .start) coded (λ e. refl) es j ++ (unused (4 * (capacity half - n j))
+      ++ (concat-map-map entry-bytes (λ c. c .rest) coded (λ e. refl) es j ++ unused (16 * (capacity half - n j)))))))
 
   tree-same : {es fs : List Entry} → Same-bytes es fs → tree-bytes half level es ≡ tree-bytes half level fs
   tree-same {es} {fs} e = tree-coded es ∙ ap coded-page (e .each) ∙ sym (tree-coded fs)
@@ -91,9 +79,9 @@ module _ (half : ℕ) {es fs : List Entry} (same : Same-bytes es fs) where
 
   first-same : (i : ℕ) → u32-bytes (at (in-page half es i) 0 .start) ≡ u32-bytes (at (in-page half fs i) 0 .start)
   first-same i =
-      ap (λ c. c .start) (sym (getD-map coded (in-page half es i) 0 no-entry))
+      ap (λ c. c .start) (sym (List·getD-map coded (in-page half es i) 0 no-entry))
       ∙ ap (λ cs. getD cs 0 (coded no-entry) .start) (page-same i .each)
-      ∙ ap (λ c. c .start) (getD-map coded (in-page half fs i) 0 no-entry)
+      ∙ ap (λ c. c .start) (List·getD-map coded (in-page half fs i) 0 no-entry)
 
   pub above-same : (first : ℕ) → Same-bytes (entries-above half first es) (entries-above half first fs)
   unfolding entries-above entry-bytes

@@ -1,5 +1,5 @@
 -- Pieces of one size, written one after the other: forwards, and from the last to the first. Assumes nothing.
-use Prim.Native.Nat.{ℕ, zero, suc, _+_, _*_, _≤_, _<_}
+use Prim.Native.Nat.{ℕ, suc, _+_, _*_, _≤_, _<_}
 use mathlib.Core.Path.{_≡_, refl, sym, ap, _∙_}
 use mathlib.Core.List.{List, [], _∷_, _++_}
 use native.Mathlib.Nat.{mul-suc, mul-le-mul-left}
@@ -9,7 +9,7 @@ use lib.ListN.{length, drop}
 use lib.Seq.{drop-cons, drop-length}
 use Rattle.lists.specs.Lists.{listed, concat-map}
 use Rattle.lists.proofs.Listed.{length-listed, getD-listed}
-use Rattle.lists.proofs.Concat.{concat-map-more}
+use Rattle.lists.proofs.Concat.{concat-map-more, concat-map-same}
 use Rattle.fields.specs.Bytes.{patch}
 use Rattle.fields.proofs.Laws.Parts.{patch-none, patch-patch-next, patch-front}
 use Rattle.image.proofs.Rows.{rows, length-rows}
@@ -17,12 +17,7 @@ use Rattle.image.proofs.Rows.{rows, length-rows}
 -- bytes of listed things are the pieces that each of them gives
 pub joined-rows : {A : Type 0} (b : A → List ℕ) (g : ℕ → A) (f : ℕ → List ℕ) (n : ℕ) → ((i : ℕ) → i < n → b (g i) ≡ f i)
     → concat-map b (listed n g) ≡ rows f n
-unfolding concat-map listed
-joined-rows b g f zero same = refl
-joined-rows b g f (suc n) same =
-    concat-map-more b g n
-    ∙ (λ j. joined-rows b g f n (λ i l. same i (omega arith)) j ++ same n (omega arith) j)
-    ∙ sym (concat-map-more f (λ p. p) n)
+joined-rows b g f n same = concat-map-same b g f (λ p. p) n same
 
 -- the pieces from the i-th on, of n
 unfoldable pub behind : (ℕ → List ℕ) → ℕ → ℕ → List ℕ
