@@ -1,34 +1,33 @@
 -- The entries of a level in its pages, and the levels one above another. Assumes nothing.
-use Prim.Native.Nat.{ℕ, zero, suc, _+_, _-_, _*_, _≤_, _<_, min}
+use Prim.Native.Nat.{ℕ, zero, suc, _+_, _≤_, _<_}
 use mathlib.Core.Path.{_≡_, refl, sym, ap, _∙_}
 use mathlib.Core.Bool.{Bool, true, false, cond}
 use mathlib.Core.List.{List, [], _∷_, _++_, map}
 use native.Mathlib.Omega.{arith}
-use native.Mathlib.Decide.{decLe}
-use lib.ListN.{length, length-map, length-append, length-take, length-drop, getD, take, drop}
-use lib.Seq.{take-add, take-all, getD-take, getD-drop}
+use lib.ListN.{length, length-map, length-append, length-take, length-drop, getD, List·getD-append, take, drop}
+use lib.Seq.{take-add, take-all, getD-take, getD-drop, getD-append-add}
 use borrow.Author.Tests.{le-leb, lt-leb}
 use lib.Dec.{leb}
-use Rattle.lists.specs.Lists.{sum, total}
-use Rattle.lists.proofs.Listed.{length-listed}
+use Rattle.lists.specs.Lists.{sum, total, All}
+use Rattle.lists.proofs.All.{all-take, all-drop}
+use Rattle.lists.proofs.Listed.{length-listed, getD-listed}
 use Rattle.lists.proofs.Edits.{map-take, map-drop}
 use Rattle.page.specs.declared.Entry.{Entry}
-use Rattle.page.specs.Layout.{capacity}
-use Rattle.image.specs.Images.{Cell}
+use Rattle.image.specs.Images.{Cell, tree, never-used}
 use Rattle.tight.specs.Tight.{pages-for, page-entries, entries-before, in-page, level-cells, entries-above, level-sizes, cells}
-use Rattle.tight.proofs.Pages.{pages-some, before-more, before-all, before-most, page-some}
+use Rattle.tight.proofs.Pages.{pages-some, before-more, before-all, before-most}
 
 -- ---- the pages of a level
 
 -- how many pages, and how many entries in the i-th and before it
 module _ (half m : ℕ) where
-  abbrev pages : ℕ
+  abbrev pub pages : ℕ
   pages = pages-for half m
 
-  abbrev size : ℕ → ℕ
+  abbrev pub size : ℕ → ℕ
   size i = page-entries m pages i
 
-  abbrev before : ℕ → ℕ
+  abbrev pub before : ℕ → ℕ
   before i = entries-before m pages i
 
 module _ {A : Type 0} (half : ℕ) (es : List A) where
@@ -86,6 +85,17 @@ map-in-page f half es i =
     ∙ ap (take (size half m i)) (map-drop f (before half m i) es)
     ∙ ap (λ n. take (size half n i) (drop (before half n i) (map f es))) (sym (length-map es f))
 
+-- what holds of each entry of a level holds of each in a page
+pub all-in-page : {A : Type 0} {Q : A → Type 0} (half : ℕ) (es : List A) (i : ℕ) → All Q es → All Q (in-page half es i)
+unfolding in-page
+all-in-page half es i a =
+    let m : ℕ = length es in
+    all-take (size half m i) (all-drop (before half m i) a)
+
+pub length-level : (half level : ℕ) (es : List Entry) → length (level-cells half level es) ≡ pages-for half (length es)
+unfolding level-cells
+length-level half level es = length-listed _ _
+
 pub length-above : (half first : ℕ) (es : List Entry) → length (entries-above half first es) ≡ pages-for half (length es)
 unfolding entries-above
 length-above half first es = length-listed _ _
@@ -112,6 +122,24 @@ module _ (half most level first : ℕ) (es : List Entry) where
   unfolding cells
   cells-more many = rw (lt-leb (pages-for half (length es)) 1 many)
 
+  -- a page of the level
+  pub cell-here : (i : ℕ) → i < pages-for half (length es)
+      → getD (cells half (suc most) level first es) i never-used ≡ tree level (in-page half es i)
+  unfolding cells level-cells
+  cell-here i lt =
+      List·getD-append (level-cells half level es) _ never-used i (omega (arith, length-level half level es))
+      ∙ getD-listed (pages-for half (length es)) (λ j. tree level (in-page half es j)) never-used i lt
+
+  -- a page of those above
+  pub cell-above : (i : ℕ) → 2 ≤ pages-for half (length es)
+      → getD (cells half (suc most) level first es) (pages-for half (length es) + i) never-used
+      ≡ getD (cells half most (suc level) (first + pages-for half (length es)) (entries-above half first es)) i never-used
+  cell-above i two =
+      let p : ℕ = pages-for half (length es) in
+      let here : List Cell = level-cells half level es in
+      let above : List Cell = cells half most (suc level) (first + p) (entries-above half first es) in
+      (λ j. getD (cells-more two j) (sym (length-level half level es) j + i) never-used) ∙ getD-append-add here above i never-used
+
 -- as many pages as the sizes add to
 pub length-cells : (half most level first : ℕ) (es : List Entry)
     → length (cells half most level first es) ≡ sum (λ p. p) (level-sizes half most (length es))
@@ -119,16 +147,13 @@ unfolding cells level-sizes sum
 length-cells half zero level first es = refl
 length-cells half (suc most) level first es =
     let p : ℕ = pages-for half (length es) in
-    let here : length (level-cells half level es) ≡ p = length-pages in
+    let here : length (level-cells half level es) ≡ p = length-level half level es in
     let rest : length (cells half most (suc level) (first + p) (entries-above half first es)) ≡ sum (λ q. q) (level-sizes half most p) =
     length-cells half most (suc level) (first + p) (entries-above half first es)
     ∙ ap (λ n. sum (λ q. q) (level-sizes half most n)) (length-above half first es) in
     length-append (level-cells half level es) (cond (leb p 1) [] (cells half most (suc level) (first + p) (entries-above half first es)))
     ∙ go (leb p 1) (cells half most (suc level) (first + p) (entries-above half first es)) (level-sizes half most p) here rest
   where
-    length-pages : length (level-cells half level es) ≡ pages-for half (length es)
-    length-pages = unfold level-cells in length-listed _ _
-
     go : (b : Bool) (xs : List Cell) (ns : List ℕ) {k p : ℕ} → k ≡ p → length xs ≡ sum (λ q. q) ns
         → k + length (cond b [] xs) ≡ p + sum (λ q. q) (cond b [] ns)
     go true xs ns e f = omega arith

@@ -84,10 +84,13 @@ pages-fewer half (suc (suc m)) some two =
 pages-fewer half (suc zero) some two = absurd (omega arith)
 pages-fewer half zero some two = absurd (omega arith)
 
--- fewer entries take no more pages
-pub pages-rise : (half m n : ℕ) → 1 ≤ half → m ≤ n → pages-for half m ≤ pages-for half n
-pages-rise half m n some le =
-    pages-least half m some (pages-for half n) (omega (arith, pages-enough half n some))
+-- where there are two pages there are two entries
+pub pages-several : (half m : ℕ) → 1 ≤ half → 2 ≤ pages-for half m → 2 ≤ m
+pages-several half m some two = go (decLe 2 m)
+  where
+    go : Dec (2 ≤ m) → 2 ≤ m
+    go (yes h) = h
+    go (no h) = absurd (omega (arith, pages-least half m some 1 (omega arith)))
 
 -- ---- how many entries each page has
 
@@ -181,6 +184,12 @@ module _ (half m : ℕ) (some : 1 ≤ half) (one : 1 ≤ m) where
       go : Dec (i < m % p) → m / p + cond (ltb i (m % p)) 1 0 ≤ capacity half
       go (yes h) = rw (lt-ltb i (m % p) h) (omega (arith, larger (omega arith)))
       go (no h) = rw (le-ltb i (m % p) (omega arith)) (omega (arith, smaller))
+
+  -- the first pages have no more entries than they have room for
+  pub before-room : (i : ℕ) → entries-before m p i ≤ i * capacity half
+  unfolding entries-before total
+  before-room zero = omega arith
+  before-room (suc i) = omega (arith, before-room i, page-most i, suc-mul i (capacity half))
 
   half-full : 2 ≤ p → half ≤ m / p
   half-full two = go (decLe half (m / p))

@@ -22,7 +22,7 @@ use Rattle.image.proofs.Cells.{tree-cell}
 use Rattle.tight.specs.Tight.{pages-for, page-entries, entries-before, in-page, pages-used, tight}
 use Rattle.tight.specs.Layout.{Laid-out}
 use Rattle.tight.proofs.Pages.{before-more, before-most, page-some, size-least, size-most, size-falls}
-use Rattle.tight.proofs.Levels.{length-in-page, at-in-page}
+use Rattle.tight.proofs.Levels.{length-in-page, at-in-page, all-in-page}
 use Rattle.soundness.proofs.Sound.{the-head, sound-facts}
 use Rattle.tree.specs.Tree.{Node, Subtree, Nodes, no-node, flat, Tree}
 use Rattle.tree.specs.Cut.{State, root-node}
@@ -33,7 +33,6 @@ use Rattle.refinement.proofs.Paths.{at-flat}
 use Rattle.invariant.proofs.To.Known.{root-inside}
 use Rattle.invariant.proofs.To.Sound.{page-written, read-back}
 use Rattle.tightness.specs.State.{leaf-nodes, tight-state, Suited}
-use Rattle.tightness.proofs.Laws.{all-in-page}
 use Rattle.tightness.proofs.Levels.{page-here}
 use Rattle.tightness.proofs.Structure.{leaf-level}
 use Rattle.tightness.proofs.Sound.{structure, tall, tight-sound, tight-head}

@@ -18,8 +18,8 @@ use Rattle.rule.specs.Time.{END, most-value}
 use Rattle.rule.proofs.Laws.{value-or-none-is}
 use Rattle.image.specs.Images.{Image, tree, never-used}
 use Rattle.tight.specs.Tight.{pages-for, in-page, level-sizes, cells}
-use Rattle.tight.proofs.Pages.{pages-fewer}
-use Rattle.tight.proofs.Levels.{map-in-page, sizes-more}
+use Rattle.tight.proofs.Pages.{pages-fewer, pages-several}
+use Rattle.tight.proofs.Levels.{map-in-page, all-in-page, sizes-more, cell-here, cell-above}
 use Rattle.tree.specs.Tree.{Nodes, flat, pair-under, Tree}
 use Rattle.tree.specs.Shape.{Seg, Shaped, Leaf, root-least}
 use Rattle.tree.specs.Conserved.{Path-bounded, times-below}
@@ -29,7 +29,6 @@ use Rattle.refinement.specs.Represents.{Stores}
 use Rattle.invariant.specs.Invariant.{Any-pair, Value-or-none, Bounds}
 use Rattle.tightness.specs.State.{page-node, nodes-above, tree-over}
 use Rattle.lists.proofs.All.{all-listed}
-use Rattle.tightness.proofs.Laws.{pages-several, all-in-page, cell-here, cell-above}
 use Rattle.tightness.proofs.Pages.{flat-above, below-above, spans-above, answers-above}
 
 -- ---- the pairs on every path

@@ -8,7 +8,7 @@ use lib.ListN.{length, take, drop, length-map, drop-of-length-le}
 use lib.Seq.{drop-drop}
 use Rattle.lists.specs.Lists.{listed, total, hit}
 use Rattle.lists.proofs.Listed.{listed-same}
-use Rattle.lists.proofs.Totals.{from}
+use Rattle.lists.proofs.Totals.{from, total-from}
 use Rattle.rule.specs.declared.Pair.{Pair}
 use Rattle.rule.specs.Pairs.{none}
 use Rattle.page.specs.declared.Entry.{Entry}
@@ -24,7 +24,6 @@ use Rattle.tree.proofs.Look.{look, look-append, look-early, pair-in-look}
 use Rattle.refinement.proofs.Below.{below-none, below-append, below-one, under-suc}
 use Rattle.tightness.specs.State.{page-node, nodes-above}
 use Rattle.lists.proofs.Edits.{map-listed}
-use Rattle.tightness.proofs.Laws.{total-from}
 
 -- ---- an entry without a pair
 

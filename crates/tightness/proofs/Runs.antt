@@ -6,18 +6,17 @@ use native.Mathlib.Omega.{arith}
 use lib.Dec.{leb}
 use lib.ListN.{length, take}
 use borrow.Author.Tests.{leb-false}
-use Rattle.lists.specs.Lists.{listed, total, All, all-none, all-more}
+use Rattle.lists.specs.Lists.{listed, concat-map, total, All, all-none, all-more}
+use Rattle.lists.proofs.All.{all-listed}
 use Rattle.lists.proofs.Choices.{cond-one}
 use Rattle.rule.specs.Pairs.{none}
 use Rattle.image.specs.Images.{Image}
 use Rattle.image.specs.Listing.{Run, run}
 use Rattle.tight.specs.Tight.{pages-for, entries-before, leaf-entry}
-use Rattle.tight.proofs.Levels.{in-page-more, in-page-all}
+use Rattle.tight.proofs.Levels.{in-page-more, in-page-all, all-in-page}
 use Rattle.tree.specs.Tree.{Node, Subtree, Nodes, Tree}
 use Rattle.tree.proofs.Seg.{least-one}
 use Rattle.tightness.specs.State.{leaf-nodes, page-node, nodes-above, tree-over}
-use Rattle.lists.proofs.All.{all-listed}
-use Rattle.tightness.proofs.Laws.{all-in-page}
 use Rattle.tightness.proofs.Levels.{Level, up}
 
 -- ---- lists one behind another

@@ -10,10 +10,11 @@ use Rattle.lists.proofs.Listed.{listed-same}
 use Rattle.fields.specs.Bytes.{patch}
 use Rattle.page.specs.Layout.{capacity, page-size, tree-bytes}
 use Rattle.tight.proofs.Pages.{pages-some, before-more, before-all, before-most, page-most}
+use Rattle.tight.proofs.Levels.{pages, size, before}
 use Rattle.rebuild.specs.Levels.{run-entry, run-entries, level-bytes}
 use Rattle.rebuild.proofs.Laws.Patches.{run-before}
 use Rattle.rebuild.proofs.Laws.Pieces.{behind, behind-all, back-none, back-more}
-use Rattle.rebuild.proofs.Laws.Pages.{pages, size, before, runs-room, page-of, piece, length-piece, level-pieces}
+use Rattle.rebuild.proofs.Laws.Pages.{runs-room, page-of, piece, length-piece, level-pieces}
 
 -- the bytes of the i-th leaf, of the runs that are listed in s
 abbrev leaf : ℕ → ℕ → List ℕ → ℕ → List ℕ

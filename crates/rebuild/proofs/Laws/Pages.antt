@@ -1,13 +1,13 @@
 -- The pages of a level as pieces of one size. Assumes nothing.
-use Prim.Native.Nat.{ℕ, zero, suc, _+_, _-_, _*_, _/_, _%_, _≤_, _<_}
+use Prim.Native.Nat.{ℕ, suc, _+_, _*_, _/_, _%_, _≤_, _<_}
 use mathlib.Core.Path.{_≡_, sym, ap, _∙_}
 use mathlib.Core.Bool.{cond}
 use mathlib.Core.List.{List}
-use native.Mathlib.Nat.{suc-mul, mul-comm, mul-assoc, mul-le-mul-right}
+use native.Mathlib.Nat.{mul-comm, mul-assoc, mul-le-mul-right}
 use native.Mathlib.Omega.{arith}
 use lib.ListN.{length, getD}
 use lib.Dec.{ltb}
-use Rattle.lists.specs.Lists.{listed, concat-map, total}
+use Rattle.lists.specs.Lists.{listed, concat-map}
 use Rattle.lists.proofs.Listed.{length-listed, getD-listed, listed-same, listed-getD}
 use Rattle.page.specs.declared.Entry.{Entry}
 use Rattle.page.specs.Entries.{no-entry}
@@ -15,45 +15,29 @@ use Rattle.page.specs.Layout.{capacity, page-size, tree-bytes}
 use Rattle.page.proofs.Laws.Trees.{length-tree}
 use Rattle.image.specs.Images.{tree, cell-bytes}
 use Rattle.image.proofs.Rows.{rows}
-use Rattle.tight.specs.Tight.{pages-for, page-entries, entries-before, in-page, level-cells}
-use Rattle.tight.proofs.Pages.{pages-some, before-more, before-most, page-most, size-least}
-use Rattle.tight.proofs.Levels.{length-in-page, at-in-page}
+use Rattle.tight.specs.Tight.{pages-for, page-entries, in-page, level-cells}
+use Rattle.tight.proofs.Pages.{pages-some, before-more, before-most, before-room, page-most, size-least}
+use Rattle.tight.proofs.Levels.{pages, size, before, length-in-page, at-in-page}
 use Rattle.rebuild.specs.Levels.{level-bytes}
 use Rattle.rebuild.proofs.Laws.Pieces.{joined-rows}
 
 module _ (half m : ℕ) where
-  -- how many pages, how many entries in the i-th and before it
-  abbrev pub pages : ℕ
-  pages = pages-for half m
-
-  abbrev pub size : ℕ → ℕ
-  size i = page-entries m pages i
-
-  abbrev pub before : ℕ → ℕ
-  before i = entries-before m pages i
-
-  -- the first pages have no more entries than they have room for
-  pub before-room : 1 ≤ half → 1 ≤ m → (i : ℕ) → before i ≤ i * capacity half
-  unfolding entries-before total
-  before-room some one zero = omega arith
-  before-room some one (suc i) =
-      omega (arith, before-room some one i, page-most half m some one i, suc-mul i (capacity half))
-
-  pub runs-room : 1 ≤ half → 1 ≤ m → (i : ℕ) → 16 * before i ≤ page-size half * i
+  -- the runs of the first pages take no more bytes than these
+  pub runs-room : 1 ≤ half → 1 ≤ m → (i : ℕ) → 16 * before half m i ≤ page-size half * i
   runs-room some one i =
       let k : ℕ = capacity half in
       let a : 16 * k * i ≤ page-size half * i = mul-le-mul-right i (omega arith) in
-      omega (arith, before-room some one i, mul-assoc 16 k i, mul-comm i k)
+      omega (arith, before-room half m some one i, mul-assoc 16 k i, mul-comm i k)
 
   -- what the code divides by
-  module _ {p : ℕ} (counted : p ≡ pages) where
+  module _ {p : ℕ} (counted : p ≡ pages half m) where
     pub some-pages : 1 ≤ half → 1 ≤ m → 1 ≤ p
     some-pages some one = omega (arith, pages-some half m some one)
 
     pub least-few : 1 ≤ half → 1 ≤ m → m / p ≤ capacity half
-    least-few some one = omega (arith, ap (λ q. m / q) counted, size-least m pages 0, page-most half m some one 0)
+    least-few some one = omega (arith, ap (λ q. m / q) counted, size-least m (pages half m) 0, page-most half m some one 0)
 
-    pub size-told : (i : ℕ) {n : ℕ} → n ≡ m / p + cond (ltb i (m % p)) 1 0 → n ≡ size i
+    pub size-told : (i : ℕ) {n : ℕ} → n ≡ m / p + cond (ltb i (m % p)) 1 0 → n ≡ size half m i
     unfolding page-entries
     size-told i e = e ∙ ap (λ q. m / q + cond (ltb i (m % q)) 1 0) counted
 

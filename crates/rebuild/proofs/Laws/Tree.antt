@@ -10,25 +10,24 @@ use lib.Dec.{leb}
 use lib.ListN.{length, length-append}
 use lib.Seq.{getD-append-add}
 use borrow.Author.Tests.{le-leb, lt-leb}
-use Rattle.lists.proofs.Edits.{map-listed}
-use Rattle.lists.proofs.All.{all-listed}
 use Rattle.lists.specs.Lists.{listed, concat-map, sum, All, all-none}
 use Rattle.lists.proofs.Listed.{length-listed, getD-listed, listed-same}
 use Rattle.lists.proofs.Concat.{concat-map-append}
-use Rattle.lists.proofs.All.{all-append}
+use Rattle.lists.proofs.Edits.{map-listed}
+use Rattle.lists.proofs.All.{all-append, all-listed}
 use Rattle.rule.specs.Pairs.{none}
 use Rattle.fields.specs.Bytes.{part, patch}
 use Rattle.fields.specs.Numbers.{u32-bytes}
 use Rattle.fields.proofs.Laws.Parts.{patch-patch-next}
 use Rattle.page.specs.declared.Entry.{Entry}
 use Rattle.page.specs.Entries.{entry, at}
-use Rattle.page.proofs.Laws.Concat.{length-sized}
 use Rattle.page.specs.Layout.{capacity, page-size, start-at, entry-bytes, tree-bytes}
+use Rattle.page.proofs.Laws.Concat.{length-sized}
 use Rattle.page.proofs.Laws.Trees.{length-tree}
 use Rattle.image.specs.Images.{Cell, tree, never-used, page-at, cell-bytes}
 use Rattle.tight.specs.Tight.{pages-for, in-page, level-cells, entries-above, level-sizes, sizes, pages-used, cells}
 use Rattle.tight.proofs.Pages.{pages-some, page-most, page-some}
-use Rattle.tight.proofs.Levels.{length-in-page, length-above, length-cells}
+use Rattle.tight.proofs.Levels.{length-in-page, length-level, length-above, length-cells}
 use Rattle.rebuild.specs.Levels.{run-entries, page-entry, page-entries-from, level-bytes}
 use Rattle.rebuild.proofs.Laws.Sizes.{fewer}
 use Rattle.rebuild.proofs.Laws.Sized.{patched-sized, first-start}
@@ -48,10 +47,6 @@ module _ (half level : ℕ) (es : List Entry) (some : 1 ≤ half) (one : 1 ≤ l
   unfolding level-cells cell-bytes
   level-sized = all-listed (pages-for half (length es)) (λ i. tree level (in-page half es i))
       (λ i h. length-tree half level (in-page half es i) (in-room i h))
-
-  length-level : length (level-cells half level es) ≡ pages-for half (length es)
-  unfolding level-cells
-  length-level = length-listed _ _
 
   -- the entries that lead to the pages of a level, as its bytes show them
   lead-same : (t : List ℕ) (below n : ℕ) → n ≡ pages-for half (length es)
@@ -182,12 +177,12 @@ module _ (half : ℕ) (s : List ℕ) (two : 2 ≤ half) where
           length-whole,
           length-append (g .done ++ here) (above half (g .most) n level below (g .es)),
           length-append (g .done) here,
-          length-level half level (g .es) half-some (g .filled),
+          length-level half level (g .es),
           g .counted,
           g .place,
           ap length (v .split),
           length-append up-cells rest,
-          length-level half (suc level) fs half-some (omega arith),
+          length-level half (suc level) fs,
           ap (pages-for half) lf,
         )
 
@@ -201,7 +196,7 @@ module _ (half : ℕ) (s : List ℕ) (two : 2 ≤ half) where
         let here : List Cell = level-cells half level (g .es) in
         let i : ℕ = length (g .done) + j in
         let e : below + j ≡ suc i = omega (arith, g .place) in
-        let ln : length here ≡ pages-for half (length (g .es)) = length-level half level (g .es) half-some (g .filled) in
+        let ln : length here ≡ pages-for half (length (g .es)) = length-level half level (g .es) in
         let inside : i < length (g .done ++ here) = omega (arith, length-append (g .done) here, g .counted) in
         (λ x. part (g .bytes x) (k * e x) k)
         ∙ patched-sized (cell-bytes half) k s never-used i
@@ -229,7 +224,7 @@ module _ (half : ℕ) (s : List ℕ) (two : 2 ≤ half) where
         let next : List Cell = level-cells half (suc level) fs in
         let ld : length done ≡ length (g .done) + n =
         length-append (g .done) here
-        ∙ ap (λ x. length (g .done) + x) (length-level half level (g .es) half-some (g .filled) ∙ sym (g .counted)) in
+        ∙ ap (λ x. length (g .done) + x) (length-level half level (g .es) ∙ sym (g .counted)) in
         let sized : All (Page-sized half) done = all-append (g .sized) (level-sized half level (g .es) half-some (g .filled)) in
         let place : below + n ≡ suc (length done) = omega (arith, g .place) in
         let behind : k + length (concat-map b done) ≡ k * (below + n) =

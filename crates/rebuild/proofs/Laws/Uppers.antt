@@ -15,10 +15,11 @@ use Rattle.page.proofs.Laws.Offsets.{page-within}
 use Rattle.image.proofs.Rows.{rows}
 use Rattle.tight.specs.Tight.{entries-before}
 use Rattle.tight.proofs.Pages.{pages-some, before-more, before-most, page-most}
+use Rattle.tight.proofs.Levels.{pages, size, before}
 use Rattle.rebuild.specs.Levels.{page-entry, page-entries-from, level-bytes}
 use Rattle.rebuild.proofs.Laws.Patches.{lead-before}
 use Rattle.rebuild.proofs.Laws.Pieces.{ahead-none, ahead-more}
-use Rattle.rebuild.proofs.Laws.Pages.{pages, size, before, page-of, piece, length-piece, level-pieces}
+use Rattle.rebuild.proofs.Laws.Pages.{page-of, piece, length-piece, level-pieces}
 
 -- the entries that lead to the pages from `below` on
 abbrev lead : ℕ → List ℕ → ℕ → ℕ → Entry

@@ -5,7 +5,8 @@ use mathlib.Core.Path.{sym}
 use native.Mathlib.Omega.{arith}
 use lib.ListN.{length}
 use Rattle.page.specs.Layout.{page-size}
-use Rattle.rebuild.proofs.Laws.Pages.{pages, some-pages, least-few, size-told}
+use Rattle.tight.proofs.Levels.{pages}
+use Rattle.rebuild.proofs.Laws.Pages.{some-pages, least-few, size-told}
 use Rattle.rebuild.proofs.Laws.Leaves.{Leaves, leaves-none, leaves-more, Next, leaves-next, leaves-all}
 use Rattle.rebuild.proofs.leaves.write_leaves.Statement.{statement}
 use Rattle.rebuild.proofs.leaves.write_leaves.Tie as tie

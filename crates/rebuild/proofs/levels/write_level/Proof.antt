@@ -5,7 +5,8 @@ use mathlib.Core.Path.{sym}
 use native.Mathlib.Omega.{arith}
 use lib.ListN.{length}
 use Rattle.page.specs.Layout.{page-size}
-use Rattle.rebuild.proofs.Laws.Pages.{pages, some-pages, least-few, size-told}
+use Rattle.tight.proofs.Levels.{pages}
+use Rattle.rebuild.proofs.Laws.Pages.{some-pages, least-few, size-told}
 use Rattle.rebuild.proofs.Laws.Uppers.{Upper, upper-none, upper-more, Above, upper-next, upper-all}
 use Rattle.rebuild.proofs.levels.write_level.Statement.{statement}
 use Rattle.rebuild.proofs.levels.write_level.Tie as tie
