@@ -1,7 +1,7 @@
 -- Below the entries of every level of a tight tree stand the runs, and no inner entry has a pair. Assumes nothing.
 use Prim.Native.Nat.{ℕ, zero, suc, _+_, _≤_}
 use mathlib.Core.Path.{_≡_, refl, sym, ap, _∙_}
-use mathlib.Core.List.{List, [], _∷_, _++_, append-assoc, append-nil}
+use mathlib.Core.List.{List, [], _∷_, _++_}
 use native.Mathlib.Omega.{arith}
 use lib.Dec.{leb}
 use lib.ListN.{length, take}
@@ -9,6 +9,7 @@ use borrow.Author.Tests.{leb-false}
 use Rattle.lists.specs.Lists.{listed, concat-map, total, All, all-none, all-more}
 use Rattle.lists.proofs.All.{all-listed}
 use Rattle.lists.proofs.Choices.{cond-one}
+use Rattle.lists.proofs.Concat.{concat-map-append, concat-map-more}
 use Rattle.rule.specs.Pairs.{none}
 use Rattle.image.specs.Images.{Image}
 use Rattle.image.specs.Listing.{Run, run}
@@ -19,37 +20,20 @@ use Rattle.tree.proofs.Seg.{least-one}
 use Rattle.tightness.specs.State.{leaf-nodes, page-node, nodes-above, tree-over}
 use Rattle.tightness.proofs.Levels.{Level, up}
 
--- ---- lists one behind another
-
--- f of each element; `concat-map` of `lists` gives lists of numbers alone
-unfoldable pub gather : {A B : Type 0} → (A → List B) → List A → List B
-gather f [] = []
-gather f (x ∷ xs) = f x ++ gather f xs
-
-module _ {A B : Type 0} (f : A → List B) where
-  pub gather-append : (xs ys : List A) → gather f (xs ++ ys) ≡ gather f xs ++ gather f ys
-  unfolding gather
-  gather-append [] ys = refl
-  gather-append (x ∷ xs) ys = ap (λ r. f x ++ r) (gather-append xs ys) ∙ sym (append-assoc (f x) (gather f xs) (gather f ys))
-
-  pub gather-more : (xs : List A) (x : A) → gather f (xs ++ (x ∷ [])) ≡ gather f xs ++ f x
-  unfolding gather
-  gather-more xs x = gather-append xs (x ∷ []) ∙ ap (λ r. gather f xs ++ r) (append-nil (f x))
-
 -- ---- what is below an entry
 
 -- its leaf entries, as runs
 unfoldable pub runs-under : (l : ℕ) → Node (Subtree l) → List Run
 runs-under zero x = run (x .entry .start) (x .entry .pair) ∷ []
-runs-under (suc l) x = gather (λ y. runs-under l y) (x .subtree)
+runs-under (suc l) x = concat-map (λ y. runs-under l y) (x .subtree)
 
 -- neither it nor an inner entry below it has a pair
 unfoldable pub Bare : (l : ℕ) → Node (Subtree l) → Type 0
 Bare zero x = Unit {0}
 Bare (suc l) x = (x .entry .pair ≡ none) × All (λ y. Bare l y) (x .subtree)
 
-pub runs-again : (runs : List Run) → gather (runs-under 0) (leaf-nodes runs) ≡ runs
-unfolding gather runs-under leaf-nodes leaf-entry
+pub runs-again : (runs : List Run) → concat-map (runs-under 0) (leaf-nodes runs) ≡ runs
+unfolding concat-map runs-under leaf-nodes leaf-entry
 runs-again [] = refl
 runs-again (r ∷ rs) = ap (λ rest. r ∷ rest) (runs-again rs)
 
@@ -61,20 +45,20 @@ leaves-bare (r ∷ rs) = all-more tt (leaves-bare rs)
 module _ (half first l : ℕ) (ns : Nodes l) where
   -- below the first i entries of the level above
   runs-first : (i : ℕ)
-      → gather (runs-under (suc l)) (listed i (page-node half first ns))
-      ≡ gather (runs-under l) (take (entries-before (length ns) (pages-for half (length ns)) i) ns)
-  unfolding listed total entries-before page-node gather runs-under
+      → concat-map (runs-under (suc l)) (listed i (page-node half first ns))
+      ≡ concat-map (runs-under l) (take (entries-before (length ns) (pages-for half (length ns)) i) ns)
+  unfolding listed total entries-before page-node concat-map runs-under
   runs-first zero = refl
   runs-first (suc i) =
       let before : List (Node (Subtree l)) = take (entries-before (length ns) (pages-for half (length ns)) i) ns in
-      gather-more (runs-under (suc l)) (listed i (page-node half first ns)) (page-node half first ns i)
+      concat-map-more (runs-under (suc l)) (page-node half first ns) i
       ∙ ap (λ r. r ++ runs-under (suc l) (page-node half first ns i)) (runs-first i)
-      ∙ sym (gather-append (runs-under l) before (page-node half first ns i .subtree))
-      ∙ sym (ap (gather (runs-under l)) (in-page-more half ns i))
+      ∙ sym (concat-map-append (runs-under l) before (page-node half first ns i .subtree))
+      ∙ sym (ap (concat-map (runs-under l)) (in-page-more half ns i))
 
-  runs-above : 1 ≤ half → 1 ≤ length ns → gather (runs-under (suc l)) (nodes-above half first ns) ≡ gather (runs-under l) ns
+  runs-above : 1 ≤ half → 1 ≤ length ns → concat-map (runs-under (suc l)) (nodes-above half first ns) ≡ concat-map (runs-under l) ns
   unfolding nodes-above
-  runs-above some one = runs-first (pages-for half (length ns)) ∙ ap (gather (runs-under l)) (in-page-all half ns some one)
+  runs-above some one = runs-first (pages-for half (length ns)) ∙ ap (concat-map (runs-under l)) (in-page-all half ns some one)
 
   bare-above : All (Bare l) ns → All (Bare (suc l)) (nodes-above half first ns)
   unfolding nodes-above page-node Bare
@@ -87,12 +71,12 @@ module _ (half : ℕ) (X : Image) (runs : List Run) where
   pub record Laid (most l first : ℕ) (ns : Nodes l) : Type 0 where
     pub holds : Level half X (leaf-nodes runs) most l first ns
     pub bare : All (Bare l) ns
-    pub below : gather (runs-under l) ns ≡ runs
+    pub below : concat-map (runs-under l) ns ≡ runs
 
   -- those of the root
   pub record Root-laid (T : Tree) : Type 0 where
     pub bare : All (Bare (T .level)) (T .nodes)
-    pub below : gather (runs-under (T .level)) (T .nodes) ≡ runs
+    pub below : concat-map (runs-under (T .level)) (T .nodes) ≡ runs
 
   module _ (some : 1 ≤ half) where
     -- one level up

@@ -7,8 +7,9 @@ use mathlib.Core.List.{List, [], _∷_, _++_, map}
 use native.Mathlib.Omega.{arith}
 use lib.ListN.{length, getD, length-map}
 use borrow.Author.Tests.{lt-ltb}
-use Rattle.lists.specs.Lists.{listed, All}
+use Rattle.lists.specs.Lists.{listed, concat-map, All}
 use Rattle.lists.proofs.All.{all-at}
+use Rattle.lists.proofs.Concat.{concat-map-more}
 use Rattle.lists.proofs.Listed.{listed-getD}
 use Rattle.rule.specs.declared.Pair.{Pair}
 use Rattle.rule.specs.Pairs.{none, combine}
@@ -28,7 +29,7 @@ use Rattle.soundness.proofs.Tree.{tree-parts, top-fit}
 use Rattle.tree.specs.Tree.{Node, Subtree, Nodes, no-node, flat}
 use Rattle.refinement.specs.Represents.{Stores}
 use Rattle.refinement.proofs.Paths.{at-flat}
-use Rattle.tightness.proofs.Runs.{gather, gather-more, runs-under, Bare}
+use Rattle.tightness.proofs.Runs.{runs-under, Bare}
 
 -- A page's bytes show a level and entries.
 pub record Shown (half : ℕ) (s : List ℕ) (l : ℕ) (es : List Entry) : Type 0 where
@@ -39,11 +40,11 @@ pub record Shown (half : ℕ) (s : List ℕ) (l : ℕ) (es : List Entry) : Type 
 -- ---- walks in turn
 
 turn-runs : {A : Type 0} (n : ℕ) (f : ℕ → Walked) (g : A → List Run) (a : ℕ → A) → ((i : ℕ) → i < n → f i .runs ≡ g (a i))
-    → in-turn n f .runs ≡ gather g (listed n a)
-unfolding in-turn then nothing gather listed
+    → in-turn n f .runs ≡ concat-map g (listed n a)
+unfolding in-turn then nothing concat-map listed
 turn-runs zero f g a h = refl
 turn-runs (suc n) f g a h =
-    (λ j. turn-runs n f g a (λ i l. h i (omega arith)) j ++ h n (omega arith) j) ∙ sym (gather-more g (listed n a) (a n))
+    (λ j. turn-runs n f g a (λ i l. h i (omega arith)) j ++ h n (omega arith) j) ∙ sym (concat-map-more g a n)
 
 -- an entry without a pair leaves the runs below it as they are
 under-none : (_⊕_ : Pair → Pair → Pair) → ((p : Pair) → _⊕_ none p ≡ p) → (p : Pair) (w : Walked) → p ≡ none
@@ -64,7 +65,7 @@ module _ (half : ℕ) (h : Head) (at : Page-context) (s : List ℕ) (fits : page
   -- every entry overlaps all time
   page-runs : (below : ℕ → Walked) (l : ℕ) (es : Nodes l) → entry-count s ≡ length es
       → ((i : ℕ) → i < length es → below i .runs ≡ runs-under l (getD es i (no-node l)))
-      → walk-page half h 0 END at s below .runs ≡ gather (runs-under l) es
+      → walk-page half h 0 END at s below .runs ≡ concat-map (runs-under l) es
   unfolding walk-page overlaps
   page-runs below l es n each =
       let picked : ℕ → Walked = λ i. cond (overlaps 0 END (start-at s i) (end-at s (at .hi) i)) (below i) nothing in
@@ -76,7 +77,7 @@ module _ (half : ℕ) (h : Head) (at : Page-context) (s : List ℕ) (fits : page
       let early : start-at s i < END = omega (arith, end-after fit i k, end-within fit i k) in
       let late : 0 < end-at s (at .hi) i = omega (arith, end-after fit i k) in
       (λ j. cond (lt-ltb (start-at s i) END early j && lt-ltb 0 (end-at s (at .hi) i) late j) (below i) nothing .runs) ∙ each i m)
-      ∙ ap (gather (runs-under l)) (listed-getD es (no-node l))
+      ∙ ap (concat-map (runs-under l)) (listed-getD es (no-node l))
 
 -- ---- from a page down
 
@@ -84,7 +85,7 @@ module _ (half : ℕ) (h : Head) (img : List ℕ) (pages : ℕ → Cell) (shown 
     → pages p ≡ tree l es → Shown half (page-at half img p) l es) where
   pub walk-runs : (l : ℕ) (at : Page-context) (p : ℕ) (es : Nodes l) → 1 ≤ p → p < h .pages → at .hi ≤ END
       → tree-fit half h img l at p ≡ true → pages p ≡ tree l (flat es) → All (λ x. Stores l pages x) es → All (λ x. Bare l x) es
-      → walk half h img 0 END l at p .runs ≡ gather (runs-under l) es
+      → walk half h img 0 END l at p .runs ≡ concat-map (runs-under l) es
   unfolding walk leaf-run runs-under Stores Bare entry-at context-below
   walk-runs zero at p es one small inside fits is stored bare =
       let s : List ℕ = page-at half img p in
