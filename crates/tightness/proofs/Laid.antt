@@ -26,8 +26,7 @@ use Rattle.tight.proofs.Levels.{length-in-page, at-in-page, all-in-page}
 use Rattle.soundness.proofs.Sound.{the-head, sound-facts}
 use Rattle.tree.specs.Tree.{Node, Subtree, Nodes, no-node, flat, Tree}
 use Rattle.tree.specs.Cut.{State, root-node}
-use Rattle.tree.specs.Shape.{Asked, Seg, done, more}
-use Rattle.tree.proofs.Seg.{least-one}
+use Rattle.tree.proofs.Seg.{seg-rises, least-one}
 use Rattle.refinement.specs.Represents.{Stores}
 use Rattle.refinement.proofs.Paths.{at-flat}
 use Rattle.invariant.proofs.To.Known.{root-inside}
@@ -39,22 +38,6 @@ use Rattle.tightness.proofs.Sound.{structure, tall, tight-sound, tight-
 use Rattle.tightness.proofs.Runs.{Bare, runs-again, leaves-bare, Laid, Root-laid, root-laid}
 use Rattle.tightness.proofs.Places.{Place, beside, Before, along, above, place, before}
 use Rattle.tightness.proofs.Walks.{Shown, walk-runs}
-
--- ---- the starts of consecutive entries rise
-
-module _ {A : Type 0} {Q : Asked A} (d : Node A) where
-  seg-low : {lo hi : ℕ} {es : List (Node A)} → Seg Q lo hi es → (k : ℕ) → k < length es → lo ≤ getD es k d .entry .start
-  seg-low done k l = absurd (omega arith)
-  seg-low (more e lt q r) zero l = omega arith
-  seg-low (more e lt q r) (suc k) l = omega (arith, seg-low r k (omega arith))
-
-  seg-rises : {lo hi : ℕ} {es : List (Node A)} → Seg Q lo hi es → (j k : ℕ) → j < k → k < length es
-      → getD es j d .entry .start < getD es k d .entry .start
-  seg-rises done j k lt l = absurd (omega arith)
-  seg-rises (more e m q r) zero zero lt l = absurd (omega arith)
-  seg-rises (more e m q r) zero (suc k) lt l = omega (arith, seg-low r k (omega arith))
-  seg-rises (more e m q r) (suc j) zero lt l = absurd (omega arith)
-  seg-rises (more e m q r) (suc j) (suc k) lt l = seg-rises r j k (omega arith) (omega arith)
 
 -- an inner entry without a pair
 bare-pair : (l : ℕ) (x : Node (Subtree l)) → l ≢ 0 → Bare l x → x .entry .pair ≡ none

@@ -1,4 +1,4 @@
--- Consecutive entries: appended, parted, mapped. Assumes nothing.
+-- Consecutive entries: appended, parted, mapped, and that their starts rise. Assumes nothing.
 use Prim.Native.Nat.{ℕ, zero, suc, _≤_, _<_}
 use mathlib.Core.Path.{_≡_, refl}
 use mathlib.Core.Logic.{_⊎_, inl, inr}
@@ -6,7 +6,7 @@ use mathlib.Core.Bool.{Bool, true, false, cond}
 use mathlib.Core.List.{List, [], _∷_, _++_}
 use native.Mathlib.Omega.{arith}
 use lib.Dec.{leb}
-use lib.ListN.{length, take, drop}
+use lib.ListN.{length, take, drop, getD}
 use borrow.Author.Tests.{leb-true, leb-false, le-leb, lt-leb}
 use Rattle.lists.specs.Lists.{All, all-none, all-more}
 use Rattle.page.specs.Entries.{at}
@@ -69,6 +69,21 @@ module _ {A : Type 0} {Q : Asked A} where
   seg-part (suc k) (more e lt q r) =
       let p = seg-part k r in
       record { mid = p .mid; front = more e lt q (p .front); back = p .back }
+
+-- the starts rise
+module _ {A : Type 0} {Q : Asked A} (d : Node A) where
+  seg-low : {lo hi : ℕ} {es : List (Node A)} → Seg Q lo hi es → (k : ℕ) → k < length es → lo ≤ getD es k d .entry .start
+  seg-low done k l = absurd (omega arith)
+  seg-low (more e lt q r) zero l = omega arith
+  seg-low (more e lt q r) (suc k) l = omega (arith, seg-low r k (omega arith))
+
+  pub seg-rises : {lo hi : ℕ} {es : List (Node A)} → Seg Q lo hi es → (j k : ℕ) → j < k → k < length es
+      → getD es j d .entry .start < getD es k d .entry .start
+  seg-rises done j k lt l = absurd (omega arith)
+  seg-rises (more e m q r) zero zero lt l = absurd (omega arith)
+  seg-rises (more e m q r) zero (suc k) lt l = omega (arith, seg-low r k (omega arith))
+  seg-rises (more e m q r) (suc j) zero lt l = absurd (omega arith)
+  seg-rises (more e m q r) (suc j) (suc k) lt l = seg-rises r j k (omega arith) (omega arith)
 
 -- within the same bounds, by what holds of each entry within them
 pub seg-map : {A : Type 0} {Q R : Asked A} {lo hi : ℕ} {es : List (Node A)}
