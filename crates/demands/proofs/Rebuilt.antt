@@ -21,7 +21,7 @@ use Rattle.tight.specs.Layout.{Laid-out}
 use Rattle.soundness.proofs.Sound.{sound-facts}
 use Rattle.invariant.proofs.From.Invariant.{pages-range}
 use Rattle.tightness.specs.State.{Suited}
-use Rattle.tightness.proofs.Sound.{tight-sound, tight-head, tight-bytes, tight-length, tight-look}
+use Rattle.tightness.proofs.Sound.{tight-sound, tight-head-read-back, tight-bytes, tight-length, tight-look}
 use Rattle.tightness.proofs.Laid.{tight-laid-out}
 use Rattle.calls.specs.Refusals.{borrowed}
 use Rattle.calls.specs.Calls.{head, full-runs, rebuilt-bytes, audit-input-rows, rebuild-status, rebuild}
@@ -74,7 +74,7 @@ module _ (half : ℕ) (source : List ℕ) (fits : sound half source ≡ true) (p
 
   pub rebuilt-head : head half img ≡ tight half pages (h .kind) (h .window) (h .changes) (full-runs half source) .head
   unfolding rebuilt-bytes head image-of
-  rebuilt-head = tight-head half pages (h .kind) (h .window) (h .changes) (full-runs half source) suited
+  rebuilt-head = tight-head-read-back half pages (h .kind) (h .window) (h .changes) (full-runs half source) suited
 
   pub rebuilt-laid-out : Laid-out half img (suc (pages-used half (length (full-runs half source)))) (full-runs half source)
   unfolding rebuilt-bytes

@@ -34,7 +34,7 @@ use Rattle.invariant.proofs.To.Sound.{page-written, read-back}
 use Rattle.tightness.specs.State.{leaf-nodes, tight-state, Suited}
 use Rattle.tightness.proofs.Levels.{page-here}
 use Rattle.tightness.proofs.Structure.{leaf-level}
-use Rattle.tightness.proofs.Sound.{structure, tall, tight-sound, tight-head}
+use Rattle.tightness.proofs.Sound.{structure, tall, tight-sound, tight-head-read-back}
 use Rattle.tightness.proofs.Runs.{Bare, runs-again, leaves-bare, Laid, Root-laid, root-laid}
 use Rattle.tightness.proofs.Places.{Place, beside, Before, along, above, place, before}
 use Rattle.tightness.proofs.Walks.{Shown, walk-runs}
@@ -88,7 +88,7 @@ module _ (half pages kind window changes : ℕ) (runs : List Run) (g : Suited ha
   unfolding walk-over tight-state root-context image-of Stores root-node
   tight-leaves =
       let h : Head = the-head half img in
-      let same : h ≡ X .head = tight-head half pages kind window changes runs g in
+      let same : h ≡ X .head = tight-head-read-back half pages kind window changes runs g in
       let st = structure half pages kind window changes runs g in
       let T : Tree = Y .tree in
       let level : h .height - 1 ≡ T .level = omega (arith, ap (λ (x : Head). x .height) same, st .shown .height) in

@@ -46,8 +46,8 @@ module _ (half pages kind window changes : ℕ) (runs : List Run) (g : Suited ha
   pub tight-sound : sound half (image-bytes half X) ≡ true
   tight-sound = invariant-sound half X Y some (tight-invariant half pages kind window changes runs g) tall
 
-  pub tight-head : image-of half (image-bytes half X) .head ≡ X .head
-  tight-head = head-read-back half X Y some structure tall
+  pub tight-head-read-back : image-of half (image-bytes half X) .head ≡ X .head
+  tight-head-read-back = head-read-back half X Y some structure tall
 
   pub tight-bytes : Bytes (image-bytes half X)
   tight-bytes = bytes-written half X
@@ -61,12 +61,12 @@ module _ (half pages kind window changes : ℕ) (runs : List Run) (g : Suited ha
   unfolding image-of
   tight-look t =
       let found = look-written half X Y some structure tall t .looked in
-      let k : image-of half (image-bytes half X) .head .kind ≡ kind = ap (λ (h : Head). h .kind) tight-head ∙ unfold tight in refl in
+      let k : image-of half (image-bytes half X) .head .kind ≡ kind = ap (λ (h : Head). h .kind) tight-head-read-back ∙ unfold tight in refl in
       record {
         fit = found .fit;
         pair =
             found .pair
             ∙ ap (λ n. pair-in (combine n) (Y .tree .level) t (Y .tree .nodes)) k
             ∙ tight-pair half pages kind window changes runs g (combine kind) (lawful kind .unit) t;
-        read = found .read ∙ ap (λ (h : Head). h .height) tight-head;
+        read = found .read ∙ ap (λ (h : Head). h .height) tight-head-read-back;
       }
