@@ -24,7 +24,7 @@ use Rattle.soundness.proofs.Sound.{the-head, the-tree, Sound-facts, sound-facts
 use Rattle.soundness.proofs.Used.{tree-level}
 use Rattle.soundness.proofs.Counting.{sound-counted}
 use Rattle.tight.specs.Counts.{pages-on, leaf-entries}
-use Rattle.fewest.proofs.Under.{on-above, on-top, on-below, walk-runs}
+use Rattle.fewest.proofs.Under.{on-above, on-top, on-below, leaves-room}
 use Rattle.fewest.proofs.Levels.{sizes-least}
 
 -- the root's level
@@ -60,9 +60,14 @@ module _ (half : ℕ) (img : List ℕ) (fits : sound half img ≡ true) where
   unfolding pages-on
   level-room l lt = on-below half h img l (top half img) (root-context h) (h .root) root-level (facts .fit .tree) lt
 
-  pub leaf-room : leaf-entries half img ≤ capacity half * pages-on half img 0
-  unfolding pages-on leaf-entries walk-over
-  leaf-room = walk-runs half h img 0 END (top half img) (root-context h) (h .root) root-level
+  -- and the leaves for the runs of every walk
+  pub leaf-room : (a b : ℕ) → length (walk-over half img a b .runs) ≤ capacity half * pages-on half img 0
+  unfolding pages-on walk-over
+  leaf-room a b = leaves-room half h img a b (top half img) (root-context h) (h .root) root-level
+
+  entries-room : (m : ℕ) → m ≤ leaf-entries half img → m ≤ capacity half * pages-on half img 0
+  unfolding leaf-entries
+  entries-room m entries = omega (arith, entries, leaf-room 0 END)
 
   -- all levels together have the tree's pages
   pub pages-total : (n : ℕ) → the-head half img .height ≤ n → total n (pages-on half img) ≡ length (the-tree half img)
@@ -70,16 +75,15 @@ module _ (half : ℕ) (img : List ℕ) (fits : sound half img ≡ true) where
   pages-total n le =
       sum-hits n (λ p. level-of (page-at half img p)) (the-tree half img) (λ p h. omega (arith, tree-level (facts .fit) p h))
 
-  -- ---- the fewest pages: with m leaf entries at least
+  -- ---- the fewest pages: with leaves that have room for m entries
 
-  module _ (m : ℕ) (entries : m ≤ leaf-entries half img) where
+  module _ (m : ℕ) (room : m ≤ capacity half * pages-on half img 0) where
     pub fewest-on : (l : ℕ) → getD (sizes half m) l 0 ≤ pages-on half img l
     unfolding sizes
     fewest-on l =
         let same : pages-on half img (0 + l) ≡ pages-on half img l = ap (pages-on half img) (omega arith) in
         let least : getD (sizes half m) l 0 ≤ pages-on half img (0 + l) =
-        sizes-least half some (top half img) (pages-on half img) (omega (arith, one-root)) level-room m m 0 (omega arith)
-        (omega (arith, leaf-room)) l in
+        sizes-least half some (top half img) (pages-on half img) (omega (arith, one-root)) level-room m m 0 (omega arith) room l in
         omega (arith, least, same)
 
     -- as many levels as it takes
@@ -91,8 +95,8 @@ module _ (half : ℕ) (img : List ℕ) (fits : sound half img ≡ true) where
     sizes-total l = sum-total (sizes half m) (levels l) (omega arith)
 
     -- and in all
-    pub fewest-used : pages-used half m ≤ length (the-tree half img)
-    fewest-used =
+    pub fewest-in-all : pages-used half m ≤ length (the-tree half img)
+    fewest-in-all =
         omega (
           arith,
           sizes-total 0,
@@ -110,6 +114,10 @@ module _ (half : ℕ) (img : List ℕ) (fits : sound half img ≡ true) where
         (all-same n (λ i. getD (sizes half m) i 0) (pages-on half img) (λ i lt. fewest-on i)
         (omega (arith, used, sizes-total (suc l), pages-total n (omega arith))) l (omega arith))
 
+  -- with m leaf entries at the least
+  pub fewest-used : (m : ℕ) → m ≤ leaf-entries half img → pages-used half m ≤ length (the-tree half img)
+  fewest-used m entries = fewest-in-all m (entries-room m entries)
+
 -- a full listing has no more runs than the image has leaf entries
 pub listing-few : (half : ℕ) (img : List ℕ) → length (join (walk-over half img 0 END .runs)) ≤ leaf-entries half img
 unfolding leaf-entries
@@ -122,7 +130,12 @@ module _ (half : ℕ) (img other : List ℕ) (fits : sound half img ≡ true) (f
     (mark : the-head half img .mark ≡ suc (pages-used half m)) where
   -- on no level more pages
   pub no-more-on : (l : ℕ) → pages-on half img l ≤ pages-on half other l
-  no-more-on l = omega (arith, exact-on half img fits m entries chain mark l, fewest-on half other fits′ m entries′ l)
+  no-more-on l =
+      omega (
+        arith,
+        exact-on half img fits m (entries-room half img fits m entries) chain mark l,
+        fewest-on half other fits′ m (entries-room half other fits′ m entries′) l,
+      )
 
   -- and no more levels
   pub no-higher : the-head half img .height ≤ the-head half other .height

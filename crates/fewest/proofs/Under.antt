@@ -1,27 +1,25 @@
 -- Below a page of a fit tree: how many pages there are of a level, itself included, and how many runs a walk finds. A page has no more
 -- entries than its capacity, and each leads to one page of the level below or is one run. By recursion on the level. Assumes nothing.
-use mathlib.Core.Path.{_≡_, refl, ap, _∙_}
-use mathlib.Core.Bool.{Bool, true, false, cond}
+use mathlib.Core.Path.{_≡_, ap, _∙_}
+use mathlib.Core.Bool.{true, cond}
 use mathlib.Core.List.{List}
 use Prim.Native.Nat.{ℕ, zero, suc, _+_, _*_, _≤_, _<_}
-use native.Mathlib.Nat.{mul-le-mul-left}
 use native.Mathlib.Omega.{arith}
 use native.Mathlib.Decide.{ℕ-discrete}
 use lib.ListN.{length}
 use Rattle.lists.specs.Lists.{hit, sum, total}
+use Rattle.lists.proofs.Choices.{either}
 use Rattle.lists.proofs.Concat.{sum-concat-map}
-use Rattle.lists.proofs.Totals.{total-none, total-most-times, total-ones, hit-self, hit-other}
-use Rattle.rule.specs.Pairs.{combine}
-use Rattle.rule.specs.Time.{overlaps}
+use Rattle.lists.proofs.Totals.{total-none, total-most-times, total-le, total-ones, hit-self, hit-other}
 use Rattle.page.specs.declared.Head.{Head}
-use Rattle.page.specs.Layout.{capacity, level-of, entry-count, start-at, pair-at, child-at, entry-at}
-use Rattle.page.specs.Fit.{Page-context, context-below, end-at, page-fit}
-use Rattle.fit.proofs.Laws.Pages.{PageFit, page-fit-is}
+use Rattle.page.specs.Layout.{capacity, level-of, entry-count, child-at, entry-at}
+use Rattle.page.specs.Fit.{Page-context, context-below}
+use Rattle.fit.proofs.Laws.Pages.{PageFit}
 use Rattle.image.specs.Images.{page-at}
 use Rattle.image.specs.Sound.{tree-fit, tree-pages}
-use Rattle.image.specs.Listing.{Walked, nothing, stopped, in-turn, under, leaf-run, walk-page, walk}
-use Rattle.image.proofs.Runs.{turn-le, picked-le, length-under}
+use Rattle.image.specs.Listing.{walk}
 use Rattle.soundness.proofs.Tree.{tree-parts, tree-top, tree-more}
+use Rattle.soundness.proofs.Runs.{meets, Counts, walk-most}
 
 -- ---- the page itself, and the pages below its entries
 
@@ -142,55 +140,22 @@ module _ (half : ℕ) (h : Head) (img : List ℕ) where
 -- ---- the runs of a walk: no more than the leaf pages have room for entries
 
 module _ (half : ℕ) (h : Head) (img : List ℕ) (a b : ℕ) where
-  pub walk-runs : (high : ℕ) (at : Page-context) (q : ℕ) → at .level ≡ high
+  leaf-pages : Counts half h img a b (λ high at q. under-on half img 0 high q)
+  leaf-pages =
+      record {
+        leaf = λ at q f e. omega (arith, on-leaf half img 0 q ∙ ap (hit 0) (f .level ∙ e));
+        inner =
+            λ high at q f.
+            let s : List ℕ = page-at half img q in
+            let leaves : ℕ → ℕ = λ i. under-on half img 0 high (child-at half s i) in
+            omega (
+              arith,
+              on-more half img 0 high q (f .most),
+              total-le (entry-count s) (λ i. cond (meets a b at s i) (leaves i) 0) leaves
+                  (λ i l. either (λ n. n ≤ leaves i) (omega arith) (omega arith) (meets a b at s i)),
+            );
+      }
+
+  pub leaves-room : (high : ℕ) (at : Page-context) (q : ℕ) → at .level ≡ high
       → length (walk half h img a b high at q .runs) ≤ capacity half * under-on half img 0 high q
-  unfolding walk walk-page context-below stopped leaf-run
-  walk-runs zero at q e = go (page-fit half h at (page-at half img q)) refl
-    where
-      s : List ℕ
-      s = page-at half img q
-
-      found : ℕ → Walked
-      found i = cond (overlaps a b (start-at s i) (end-at s (at .hi) i)) (leaf-run a (start-at s i) (pair-at half s i)) nothing
-
-      go : (c : Bool) → page-fit half h at s ≡ c
-          → length (cond c (in-turn (entry-count s) found) stopped .runs) ≤ capacity half * under-on half img 0 0 q
-      go true f =
-          let k : PageFit half h at s = page-fit-is half h at s .0 f in
-          let few : length (in-turn (entry-count s) found .runs) ≤ 1 * total (entry-count s) (λ _. 1) =
-          turn-le (entry-count s) found (λ _. 1) 1
-          (λ i.
-          picked-le (overlaps a b (start-at s i) (end-at s (at .hi) i)) (leaf-run a (start-at s i) (pair-at half s i)) 1 (omega arith)) in
-          let here : under-on half img 0 0 q ≡ 1 = on-leaf half img 0 q ∙ ap (hit 0) (k .level ∙ e) in
-          omega (arith, few, total-ones (entry-count s) (λ _. 1) (λ i l. refl), k .most, ap (λ n. capacity half * n) here)
-      go false f = omega arith
-  walk-runs (suc high) at q e =
-      go (λ i. walk-runs high (context-below half (page-at half img q) at i) (child-at half (page-at half img q) i) (omega arith))
-      (page-fit half h at (page-at half img q)) refl
-    where
-      s : List ℕ
-      s = page-at half img q
-
-      down : ℕ → Walked
-      down i = under (combine (h .kind)) (pair-at half s i) (walk half h img a b high (context-below half s at i) (child-at half s i))
-
-      found : ℕ → Walked
-      found i = cond (overlaps a b (start-at s i) (end-at s (at .hi) i)) (down i) nothing
-
-      leaves : ℕ → ℕ
-      leaves i = under-on half img 0 high (child-at half s i)
-
-      go : ((i : ℕ)
-          → length (walk half h img a b high (context-below half s at i) (child-at half s i) .runs) ≤ capacity half * leaves i)
-          → (c : Bool) → page-fit half h at s ≡ c
-          → length (cond c (in-turn (entry-count s) found) stopped .runs) ≤ capacity half * under-on half img 0 (suc high) q
-      go r true f =
-          let k : PageFit half h at s = page-fit-is half h at s .0 f in
-          let all : length (in-turn (entry-count s) found .runs) ≤ capacity half * total (entry-count s) leaves =
-          turn-le (entry-count s) found leaves (capacity half)
-          (λ i.
-          picked-le (overlaps a b (start-at s i) (end-at s (at .hi) i)) (down i) (capacity half * leaves i) (rw length-under (r i))) in
-          let more : capacity half * total (entry-count s) leaves ≤ capacity half * under-on half img 0 (suc high) q =
-          mul-le-mul-left (capacity half) (omega (arith, on-more half img 0 high q (k .most))) in
-          omega (arith, all, more)
-      go r false f = omega arith
+  leaves-room = walk-most half h img a b leaf-pages

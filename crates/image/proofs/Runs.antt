@@ -20,10 +20,10 @@ turn-le zero f g k h = omega arith
 turn-le (suc n) f g k h =
     rw (mul-add k (total n g) (g n)) (omega (arith, length-append (in-turn n f .runs) (f n .runs), turn-le n f g k h, h n))
 
-pub picked-le : (t : Bool) (w : Walked) (m : ℕ) → length (w .runs) ≤ m → length (cond t w nothing .runs) ≤ m
+pub picked-le : (t : Bool) (w : Walked) (k m : ℕ) → length (w .runs) ≤ k * m → length (cond t w nothing .runs) ≤ k * cond t m 0
 unfolding nothing
-picked-le true w m e = e
-picked-le false w m e = omega arith
+picked-le true w k m e = e
+picked-le false w k m e = omega arith
 
 pub length-under : (comb : Pair → Pair → Pair) (p : Pair) (w : Walked) → length (under comb p w .runs) ≡ length (w .runs)
 unfolding under

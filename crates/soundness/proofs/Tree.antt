@@ -11,17 +11,15 @@ use lib.ListN.{length}
 use Rattle.fields.proofs.Laws.Tests.{every-all}
 use Rattle.page.specs.declared.Head.{Head}
 use Rattle.page.specs.Layout.{capacity, level-of, entry-count, start-at, child-at, entry-at, entries-of}
-use Rattle.lists.specs.Lists.{listed, concat-map}
 use Rattle.page.specs.Fit.{Page-context, context-below, end-at, page-fit}
 use Rattle.image.specs.Images.{page-at}
 use Rattle.image.specs.Sound.{tree-fit, tree-pages}
-use Rattle.lists.specs.Lists.{times}
 use Rattle.image.specs.Trail.{Visit, each-in-turn, finds-fit, visits, every-entry}
 use Rattle.image.specs.Looks.{found-fit}
-use Rattle.lists.specs.Lists.{hit, total}
+use Rattle.lists.specs.Lists.{listed, concat-map, hit, times, total}
 use Rattle.lists.proofs.Totals.{hit-same, hit-other, Held, total-held, total-some}
 use Rattle.lists.proofs.Concat.{concat-map-more, concat-map-length}
-use Rattle.lists.proofs.Times.{times-cons, times-append, times-concat-map, short-of-once}
+use Rattle.lists.proofs.Times.{times-cons, times-concat-map, short-of-once}
 use Rattle.fit.proofs.Laws.Pages.{PageFit, page-fit-is}
 use Rattle.fit.proofs.Laws.Spans.{bound, bound-next, bound-in, bound-past, bound-rises, first-low, span-some}
 
@@ -108,19 +106,7 @@ module _ (half : ℕ) (h : Head) (img : List ℕ) where
       go true r = ap (λ z. v .page ∷ z) r
       go false r = r
 
-  found-times : (n : ℕ) (f : ℕ → List Visit) (p : ℕ)
-      → times p (found-fit half h img (each-in-turn n f)) ≡ total n (λ i. times p (found-fit half h img (f i)))
-  unfolding each-in-turn found-fit times total
-  found-times zero f p = refl
-  found-times (suc n) f p =
-      omega (
-        arith,
-        ap (times p) (found-append (each-in-turn n f) (f n)),
-        times-append p (found-fit half h img (each-in-turn n f)) (found-fit half h img (f n)),
-        found-times n f p,
-      )
-
-  found-joined : {A : Type 0} (n : ℕ) (f : ℕ → List Visit) (g : A → List ℕ) (e : ℕ → A)
+  pub found-joined : {A : Type 0} (n : ℕ) (f : ℕ → List Visit) (g : A → List ℕ) (e : ℕ → A)
       → ((i : ℕ) → i < n → found-fit half h img (f i) ≡ g (e i)) → found-fit half h img (each-in-turn n f) ≡ concat-map g (listed n e)
   unfolding each-in-turn found-fit concat-map listed
   found-joined zero f g e r = refl
@@ -128,6 +114,12 @@ module _ (half : ℕ) (h : Head) (img : List ℕ) where
       found-append (each-in-turn n f) (f n)
       ∙ (λ j. found-joined n f g e (λ i l. r i (omega arith)) j ++ r n (omega arith) j)
       ∙ sym (concat-map-more g e n)
+
+  found-times : (n : ℕ) (f : ℕ → List Visit) (p : ℕ)
+      → times p (found-fit half h img (each-in-turn n f)) ≡ total n (λ i. times p (found-fit half h img (f i)))
+  found-times n f p =
+      ap (times p) (found-joined n f (λ i. found-fit half h img (f i)) (λ i. i) (λ i l. refl))
+      ∙ times-concat-map (λ i. found-fit half h img (f i)) (λ i. i) n p
 
 -- ---- one page with what stands below it
 
