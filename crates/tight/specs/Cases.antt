@@ -9,10 +9,10 @@ use lib.IntN.{pos}
 use Rattle.lists.specs.Lists.{listed}
 use Rattle.rule.specs.Pairs.{pair, none}
 use Rattle.page.specs.Entries.{entry}
-use Rattle.image.specs.Images.{Cell, tree, never-used, page-at, image-bytes, fresh}
+use Rattle.image.specs.Images.{tree, never-used, image-bytes, fresh}
 use Rattle.image.specs.Sound.{sound}
 use Rattle.image.specs.Listing.{Run, run, walk-over}
-use Rattle.tight.specs.Tight.{page-entries, sizes, pages-used, tight-cells, tight, too-small}
+use Rattle.tight.specs.Tight.{page-entries, sizes, tight-cells, tight, too-small}
 use Rattle.tight.specs.Counts.{pages-on, leaf-entries}
 
 -- m runs: the i-th starts at 10 × i, with a pair of its own
