@@ -4,6 +4,7 @@ use mathlib.Core.Path.{_≡_, refl, sym, ap, _∙_}
 use mathlib.Core.Bool.{Bool, true, false, cond}
 use mathlib.Core.List.{List, [], _∷_, _++_, map}
 use native.Mathlib.Omega.{arith}
+use native.Mathlib.Decide.{decLe}
 use lib.ListN.{length, length-map, length-append, length-take, length-drop, getD, List·getD-append, take, drop}
 use lib.Seq.{take-add, take-all, getD-take, getD-drop, getD-append-add}
 use borrow.Author.Tests.{le-leb, lt-leb}
@@ -15,7 +16,8 @@ use Rattle.lists.proofs.Edits.{map-take, map-drop}
 use Rattle.page.specs.declared.Entry.{Entry}
 use Rattle.image.specs.Images.{Cell, tree, never-used}
 use Rattle.tight.specs.Tight.{pages-for, page-entries, entries-before, in-page, level-cells, entries-above, level-sizes, cells}
-use Rattle.tight.proofs.Pages.{pages-some, before-more, before-all, before-most}
+use Rattle.tight.specs.Tight.{sizes, pages-used}
+use Rattle.tight.proofs.Pages.{pages-some, pages-half, before-more, before-all, before-most}
 
 -- ---- the pages of a level
 
@@ -158,3 +160,33 @@ length-cells half (suc most) level first es =
         → k + length (cond b [] xs) ≡ p + sum (λ q. q) (cond b [] ns)
     go true xs ns e f = omega arith
     go false xs ns e f = omega arith
+
+-- ---- all levels together
+
+-- the leaves are among all pages
+pub leaves-used : (half m : ℕ) → 1 ≤ m → pages-for half m ≤ pages-used half m
+unfolding pages-used sizes level-sizes sum
+leaves-used half zero one = absurd (omega arith)
+leaves-used half (suc m) one = omega arith
+
+-- with four entries to a page there are no more pages than entries
+sizes-few : (half most m : ℕ) → 2 ≤ half → 1 ≤ m → sum (λ p. p) (level-sizes half most m) ≤ m
+unfolding level-sizes sum
+sizes-few half zero m two one = omega arith
+sizes-few half (suc most) m two one = go (decLe (pages-for half m) 1) (sizes-few half most (pages-for half m) two)
+  where
+    go : Dec (pages-for half m ≤ 1)
+        → (1 ≤ pages-for half m → sum (λ p. p) (level-sizes half most (pages-for half m)) ≤ pages-for half m)
+        → sum (λ p. p) (level-sizes half (suc most) m) ≤ m
+    go (yes few) above = omega (arith, ap (sum (λ p. p)) (sizes-one half most m few))
+    go (no many) above =
+        omega (
+          arith,
+          ap (sum (λ p. p)) (sizes-more half most m (omega arith)),
+          above (omega arith),
+          pages-half half m two (omega arith),
+        )
+
+pub used-few : (half m : ℕ) → 2 ≤ half → 1 ≤ m → pages-used half m ≤ m
+unfolding pages-used sizes
+used-few half m two one = sizes-few half m m two one

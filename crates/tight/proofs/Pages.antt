@@ -2,7 +2,7 @@
 use Prim.Native.Nat.{ℕ, zero, suc, _+_, _*_, _-_, _/_, _%_, _≤_, _<_, min}
 use mathlib.Core.Path.{_≡_, refl, sym, ap, _∙_}
 use mathlib.Core.Bool.{Bool, true, false, cond}
-use native.Mathlib.Nat.{div-add-mod', mod-lt, zero-mul, one-mul, two-mul, mul-add, suc-mul, mul-comm, mul-le-mul-right, div-one}
+use native.Mathlib.Nat.{div-add-mod', mod-lt, zero-mul, one-mul, two-mul, mul-add, suc-mul, mul-comm, mul-le-mul-left, mul-le-mul-right, div-one}
 use native.Mathlib.Omega.{arith}
 use native.Mathlib.Decide.{decLe, decLt}
 use lib.Dec.{ltb}
@@ -37,21 +37,6 @@ module _ (k m : ℕ) (some : 1 ≤ k) where
           let e : up * k ≡ 0 = ap (λ n. n * k) z ∙ zero-mul k in
           absurd (omega (arith, up-enough))
 
--- rounded up, less than the number itself where there are two at the least
-up-fewer : (k m : ℕ) → 2 ≤ k → (m + 2 + (k - 1)) / k < m + 2
-up-fewer k m two = go (decLt u (m + 2))
-  where
-    u : ℕ
-    u = (m + 2 + (k - 1)) / k
-
-    go : Dec (u < m + 2) → u < m + 2
-    go (yes h) = h
-    go (no h) =
-        let a : (m + 2) * k ≤ u * k = mul-le-mul-right k (omega arith) in
-        let b : m * 1 ≤ m * k = rw (mul-comm m 1, mul-comm m k) (mul-le-mul-right m (omega arith)) in
-        let e : (m + 2) * k ≡ m * k + k + k = omega (arith, suc-mul (suc m) k, suc-mul m k) in
-        absurd (omega (arith, up-tight k (m + 2) (omega arith)))
-
 module _ (half m : ℕ) (some : 1 ≤ half) where
   pub pages-enough : m ≤ pages-for half m * capacity half
   unfolding pages-for
@@ -77,12 +62,9 @@ module _ (half m : ℕ) (some : 1 ≤ half) where
 
 -- a level has fewer pages than entries, but where there is one
 pub pages-fewer : (half m : ℕ) → 1 ≤ half → 2 ≤ m → pages-for half m < m
-unfolding pages-for
-pages-fewer half (suc (suc m)) some two =
-    let e : suc (suc m) ≡ m + 2 = omega arith in
-    rw e (up-fewer (capacity half) m (omega arith))
-pages-fewer half (suc zero) some two = absurd (omega arith)
-pages-fewer half zero some two = absurd (omega arith)
+pages-fewer half m some two =
+    let room : (m - 1) * 2 ≤ (m - 1) * capacity half = mul-le-mul-left (m - 1) (omega arith) in
+    omega (arith, pages-least half m some (m - 1) (omega arith))
 
 -- where there are two pages there are two entries
 pub pages-several : (half m : ℕ) → 1 ≤ half → 2 ≤ pages-for half m → 2 ≤ m
@@ -91,6 +73,13 @@ pages-several half m some two = go (decLe 2 m)
     go : Dec (2 ≤ m) → 2 ≤ m
     go (yes h) = h
     go (no h) = absurd (omega (arith, pages-least half m some 1 (omega arith)))
+
+-- and with four entries to a page twice as many as pages
+pub pages-half : (half m : ℕ) → 2 ≤ half → 2 ≤ pages-for half m → 2 * pages-for half m ≤ m
+pages-half half m two many =
+    let some : 2 ≤ m = pages-several half m (omega arith) many in
+    let room : m / 2 * 4 ≤ m / 2 * capacity half = mul-le-mul-left (m / 2) (omega arith) in
+    omega (arith, pages-least half m (omega arith) (m / 2) (omega arith))
 
 -- ---- how many entries each page has
 

@@ -23,9 +23,8 @@ use Rattle.image.proofs.Rows.{rows}
 use Rattle.image.proofs.Sizes.{sized}
 use Rattle.tight.specs.Tight.{pages-for, entries-before, level-sizes, sizes, pages-used, cells, leaf-entry, tight-cells, tight-head, tight, too-small}
 use Rattle.tight.proofs.Pages.{pages-some, before-all}
-use Rattle.tight.proofs.Levels.{length-cells}
+use Rattle.tight.proofs.Levels.{length-cells, leaves-used}
 use Rattle.rebuild.specs.Levels.{run-entries}
-use Rattle.rebuild.proofs.Laws.Sizes.{leaves-used}
 use Rattle.rebuild.proofs.Laws.Pieces.{joined-rows}
 use Rattle.rebuild.proofs.Laws.Pages.{runs-room}
 use Rattle.rebuild.proofs.Laws.Coded.{cells-same}

@@ -1,18 +1,18 @@
 -- How many pages a level has, as the code counts them, and the levels one above another. Assumes nothing.
-use Prim.Native.Nat.{ℕ, zero, suc, _+_, _-_, _*_, _/_, _≤_, _<_}
+use Prim.Native.Nat.{ℕ, zero, suc, _+_, _-_, _/_, _≤_, _<_}
 use mathlib.Core.Path.{_≡_, sym, ap, _∙_}
 use mathlib.Core.Bool.{cond}
 use mathlib.Core.List.{List, [], _∷_}
-use native.Mathlib.Nat.{add-div-right, suc-mul, mul-le-mul-left}
+use native.Mathlib.Nat.{add-div-right}
 use native.Mathlib.Omega.{arith}
-use native.Mathlib.Decide.{decLe}
 use lib.ListN.{length}
 use lib.Dec.{leb}
 use borrow.Author.Tests.{le-leb, lt-leb}
 use Rattle.lists.specs.Lists.{sum}
 use Rattle.page.specs.Layout.{capacity}
 use Rattle.tight.specs.Tight.{pages-for, level-sizes, sizes, pages-used}
-use Rattle.tight.proofs.Pages.{pages-some, pages-tight}
+use Rattle.tight.proofs.Pages.{pages-some, pages-half}
+use Rattle.tight.proofs.Levels.{used-few}
 use Rattle.rebuild.specs.declared.TreeSize.{TreeSize}
 use Rattle.rebuild.specs.Levels.{tree-size}
 
@@ -22,39 +22,6 @@ unfolding pages-for
 pages-counted half m some one e =
     let d : m - 1 + capacity half ≡ m + (capacity half - 1) = omega arith in
     ap (λ n. (m - 1) / n + 1) e ∙ sym (add-div-right (m - 1) (omega arith)) ∙ ap (λ n. n / capacity half) d
-
--- ---- all levels together have no more pages than there are entries
-
-unfoldable all : List ℕ → ℕ
-all ps = sum (λ p. p) ps
-
--- two pages have twice as many entries
-pages-half : (half m : ℕ) → 2 ≤ half → 2 ≤ pages-for half m → 2 * pages-for half m ≤ m
-pages-half half m two many =
-    let k : ℕ = capacity half in
-    let p : ℕ = pages-for half m in
-    let x : ℕ = p - 1 in
-    let e : p ≡ suc x = omega arith in
-    let filled : p * k ≡ x * k + k = ap (λ n. n * k) e ∙ suc-mul x k in
-    let four : x * 4 ≤ x * k = mul-le-mul-left x (omega arith) in
-    omega (arith, pages-tight half m (omega arith))
-
-sizes-few : (half most m : ℕ) → 2 ≤ half → 1 ≤ m → all (level-sizes half most m) ≤ m
-unfolding level-sizes sum all
-sizes-few half zero m two one = omega arith
-sizes-few half (suc most) m two one =
-    go (decLe (pages-for half m) 1) (pages-some half m (omega arith) one) (sizes-few half most (pages-for half m) two)
-  where
-    go : Dec (pages-for half m ≤ 1) → 1 ≤ pages-for half m
-        → (1 ≤ pages-for half m → all (level-sizes half most (pages-for half m)) ≤ pages-for half m)
-        → pages-for half m + all (cond (leb (pages-for half m) 1) [] (level-sizes half most (pages-for half m))) ≤ m
-    go (yes h) some above = rw (le-leb (pages-for half m) 1 h) (omega arith)
-    go (no h) some above =
-        rw (lt-leb (pages-for half m) 1 (omega arith)) (omega (arith, above some, pages-half half m two (omega arith)))
-
-pub used-few : (half m : ℕ) → 2 ≤ half → 1 ≤ m → pages-used half m ≤ m
-unfolding pages-used sizes all
-used-few half m two one = sizes-few half m m two one
 
 -- ---- the levels counted so far, the last of them with p pages
 
@@ -122,9 +89,3 @@ module _ (half : ℕ) (two : 2 ≤ half) where
       let a : n ≡ pages-used half m = omega (arith, c .pages, ap (sum (λ r. r)) none) in
       let b : h ≡ length (sizes half m) = omega (arith, c .height, ap length none) in
       λ j. record { pages = a j; height = b j }
-
--- the leaves are among all pages
-pub leaves-used : (half m : ℕ) → 1 ≤ m → pages-for half m ≤ pages-used half m
-unfolding pages-used sizes level-sizes sum
-leaves-used half zero one = absurd (omega arith)
-leaves-used half (suc m) one = omega arith

@@ -10,8 +10,8 @@ use Rattle.fields.specs.Bytes.{patch}
 use Rattle.page.specs.Layout.{page-size}
 use Rattle.tight.specs.Tight.{pages-for, pages-used}
 use Rattle.tight.proofs.Pages.{pages-fewer}
+use Rattle.tight.proofs.Levels.{leaves-used}
 use Rattle.rebuild.specs.Levels.{run-entries, level-bytes}
-use Rattle.rebuild.proofs.Laws.Sizes.{leaves-used}
 use Rattle.rebuild.proofs.Laws.Tree.{Grown, grown-none, grown-room, grown-more, grown-all}
 use Rattle.rebuild.proofs.trees.write_tree.Statement.{statement}
 use Rattle.rebuild.proofs.trees.write_tree.Tie as tie
