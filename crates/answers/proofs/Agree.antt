@@ -18,7 +18,7 @@ use Rattle.image.specs.Instant.{look-up}
 use Rattle.image.specs.Listing.{Run, walk-over}
 use Rattle.calls.specs.Refusals.{first}
 use Rattle.calls.specs.Calls.{head-ok, instant, Listed, runs-over, too-short, written, listing-status, listing}
-use Rattle.calls.specs.Book.{runs-of, listing-of}
+use Rattle.book.specs.Book.{runs-of, listing-of}
 use Rattle.answers.proofs.Tiles.{Tiles, tiles-at, join-tiles, runs-of-same}
 use Rattle.answers.proofs.Look.{Found, half-some}
 use Rattle.answers.proofs.Walk.{within, walk-top, walk-tiles}

@@ -23,9 +23,9 @@ use Rattle.calls.specs.Refusals.{first}
 use Rattle.calls.specs.Calls.{Instant, Averaged, Listed}
 use Rattle.calls.specs.Calls.{head, head-ok, instant, instant-status, average-at, listing}
 use Rattle.calls.specs.Index.{index-instant, index-average, index-listing}
-use Rattle.calls.specs.Demands.{Demand-1}
+use Rattle.claims.specs.Demands.{Demand-1}
 use Rattle.calls.proofs.Judged.{by-judge}
-use Rattle.calls.proofs.Steps.{index-book-keeps, index-format-keeps, index-rebuild-keeps}
+use Rattle.claims.proofs.Steps.{index-book-keeps, index-format-keeps, index-rebuild-keeps}
 use Rattle.fit.proofs.Laws.Heads.{fit-ranges}
 use Rattle.fit.proofs.Laws.Pages.{Paired}
 use Rattle.answers.proofs.Rows.{kept}

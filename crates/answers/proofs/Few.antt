@@ -15,7 +15,7 @@ use Rattle.image.specs.Listing.{walk-over}
 use Rattle.image.proofs.Runs.{join-few}
 use Rattle.calls.specs.Refusals.{first}
 use Rattle.calls.specs.Calls.{head-ok, runs-over, too-short, listing-status, listing}
-use Rattle.calls.specs.Walks.{Few-runs}
+use Rattle.claims.specs.Walks.{Few-runs}
 use Rattle.soundness.proofs.Runs.{walked-few}
 
 -- ---- the runs shown

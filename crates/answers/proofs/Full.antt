@@ -13,7 +13,7 @@ use Rattle.image.specs.Sound.{sound}
 use Rattle.image.specs.Instant.{look-up}
 use Rattle.image.specs.Listing.{Run}
 use Rattle.calls.specs.Calls.{head, full-runs}
-use Rattle.calls.specs.Book.{runs-of}
+use Rattle.book.specs.Book.{runs-of}
 use Rattle.answers.proofs.Tiles.{Tiles, tiles-of-runs, tiles-all}
 use Rattle.answers.proofs.Agree.{runs-agree}
 use Rattle.answers.proofs.Sound.{sound-walk, sound-answered}

@@ -16,7 +16,7 @@ use Rattle.image.specs.Images.{page-at, pages-in}
 use Rattle.image.specs.Trail.{Visit, each-in-turn, visits, trail, entry-of, entries-over, instant-trail, listing-trail}
 use Rattle.image.specs.Looks.{pages-of}
 use Rattle.calls.specs.Calls.{head, head-ok, listing-status}
-use Rattle.calls.specs.Walks.{Short-walk, Short-walks, listing-looks}
+use Rattle.claims.specs.Walks.{Short-walk, Short-walks, listing-looks}
 use Rattle.fit.proofs.Laws.Heads.{fit-ranges}
 use Rattle.soundness.proofs.Sound.{the-head}
 use Rattle.soundness.proofs.Trails.{length-pages, up-to-fewer, all-visits, trail-once, trail-in, trail-short, trail-fit-short, audit-short}

@@ -11,7 +11,7 @@ use Rattle.image.specs.Sound.{sound}
 use Rattle.image.specs.Instant.{look-up}
 use Rattle.image.specs.Listing.{walk-over}
 use Rattle.calls.specs.Calls.{head-ok, instant, listing}
-use Rattle.calls.specs.Book.{listing-of}
+use Rattle.book.specs.Book.{listing-of}
 use Rattle.soundness.proofs.Tree.{top-fit}
 use Rattle.soundness.proofs.Sound.{the-head, sound-facts, sound-whole}
 use Rattle.answers.proofs.Look.{half-some, look-fit}

@@ -10,7 +10,7 @@ use Rattle.rule.specs.declared.Pair.{Pair}
 use Rattle.rule.specs.Pairs.{same-pair}
 use Rattle.rule.proofs.Laws.{same-pair-is}
 use Rattle.image.specs.Listing.{Run, join-after, join}
-use Rattle.calls.specs.Book.{runs-after, runs-of}
+use Rattle.book.specs.Book.{runs-after, runs-of}
 
 -- The runs of [a, b): the first starts at a, each ends where the next one starts and the last at b, and every instant of a run has its pair
 -- by Q.

@@ -21,7 +21,7 @@ use Rattle.image.specs.Trail.{instant-trail, Leaf-entry}
 use Rattle.image.proofs.Leaf.{instant-leaf}
 use Rattle.calls.specs.Calls.{Instant, head, instant, instant-status}
 use Rattle.calls.specs.Index.{index-instant}
-use Rattle.calls.specs.Until.{Instant-before, before-by, instant-before, index-instant-before, Holds-until, Until-when}
+use Rattle.claims.specs.Until.{Instant-before, before-by, instant-before, index-instant-before, Holds-until, Until-when}
 use Rattle.calls.proofs.Judged.{by-judge, judged-own, judged-refused}
 use Rattle.answers.proofs.Look.{half-some, leaf-is, inner-is, look-top, look-below, inside}
 use Rattle.answers.proofs.Calls.{Answered, answered, instant-is}

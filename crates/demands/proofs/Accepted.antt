@@ -18,7 +18,7 @@ use Rattle.calls.specs.Changes.{Side, effect}
 use Rattle.image.specs.Images.{half-of}
 use Rattle.calls.specs.Calls.{Booked, Instant, head, book, instant}
 use Rattle.calls.specs.Index.{index-book, index-instant}
-use Rattle.calls.specs.Accepted.{Accepted-change, Every-change}
+use Rattle.claims.specs.Accepted.{Accepted-change, Every-change}
 use Rattle.calls.proofs.Judged.{by-judge}
 use Rattle.answers.proofs.Sound.{sound-status, sound-pair}
 use Rattle.answers.proofs.Own.{Own, sound-own, judged-half, own-instant}

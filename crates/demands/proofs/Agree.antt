@@ -25,8 +25,8 @@ use Rattle.calls.specs.Refusals.{first, borrowed, scratch-ok, cleared, scratch-
 use Rattle.calls.specs.Calls.{head, book-input-rows, book-status, book, instant-status, instant, average-at, audit-input-rows, audit}
 use Rattle.calls.specs.Calls.{Instant, listing, full-runs, rebuilt-bytes, rebuild-status, rebuild}
 use Rattle.calls.specs.Index.{index-book, index-instant, index-average, index-listing, index-audit, index-rebuild}
-use Rattle.calls.specs.Book.{Book, book-pair, runs-of, listing-of}
-use Rattle.calls.specs.Demands.{fixed-status, rebuild-of, As-the-book}
+use Rattle.book.specs.Book.{Book, book-pair, runs-of, listing-of}
+use Rattle.claims.specs.Demands.{fixed-status, rebuild-of, As-the-book}
 use Rattle.soundness.proofs.Sound.{sound-whole}
 use Rattle.answers.proofs.Sound.{sound-status, sound-pair, sound-listing}
 use Rattle.answers.proofs.Own.{Own, sound-own, own-book, own-instant, own-average, own-listing, own-audit, own-rebuild}

@@ -28,7 +28,7 @@ use Rattle.steps.specs.Change.{change, change-names}
 use Rattle.calls.specs.Refusals.{borrowed}
 use Rattle.calls.specs.Changes.{Side, effect}
 use Rattle.calls.specs.Calls.{head, changed, book}
-use Rattle.calls.specs.Accepted.{named}
+use Rattle.claims.specs.Accepted.{named}
 use Rattle.calls.proofs.Changes.{effective}
 use Rattle.tree.specs.Tree.{pair-at}
 use Rattle.tree.specs.Cut.{State}

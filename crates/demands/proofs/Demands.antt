@@ -10,12 +10,12 @@ use Rattle.calls.specs.Changes.{Change}
 use Rattle.image.specs.Sound.{sound}
 use Rattle.calls.specs.Calls.{Instant, head}
 use Rattle.calls.specs.Index.{index-instant, index-listing}
-use Rattle.calls.specs.Book.{Book, book-of, book-pair}
-use Rattle.calls.specs.Aggregate.{aggregate}
-use Rattle.calls.specs.Trace.{Trace, formatted, formatted-before, extended, rebuilt, Throughout}
-use Rattle.calls.specs.Demands.{Demand-2, Demand-3-list, Same-changes, Headed, The-demands}
+use Rattle.book.specs.Book.{Book, book-of, book-pair}
+use Rattle.book.specs.Aggregate.{aggregate}
+use Rattle.claims.specs.Trace.{Trace, formatted, formatted-before, extended, rebuilt, Throughout}
+use Rattle.claims.specs.Demands.{Demand-2, Demand-3-list, Same-changes, Headed, The-demands}
 use Rattle.calls.proofs.Tables.{turned-back}
-use Rattle.calls.proofs.Steps.{steps}
+use Rattle.claims.proofs.Steps.{steps}
 use Rattle.answers.proofs.Demand.{demand-1}
 use Rattle.answers.proofs.Until.{until-when}
 use Rattle.answers.proofs.Own.{sound-own}

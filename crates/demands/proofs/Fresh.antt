@@ -19,7 +19,7 @@ use Rattle.image.specs.Images.{Image, capacity-field, pages-in, length-ok, imag
 use Rattle.lists.specs.Lists.{times}
 use Rattle.image.specs.Sound.{sound}
 use Rattle.calls.specs.Calls.{head, format-status, format}
-use Rattle.calls.specs.Book.{empty-book, items-pair, book-pair}
+use Rattle.book.specs.Book.{empty-book, items-pair, book-pair}
 use Rattle.tree.specs.Tree.{Node, Subtree, node-of, pair-under, pair-in, pages-under}
 use Rattle.tree.specs.Shape.{done, more, Shaped, Leaf, root-least, Formed}
 use Rattle.tree.specs.Conserved.{Path-bounded, times-below, times-spare, held}

@@ -14,7 +14,7 @@ use Rattle.image.specs.Instant.{look-up}
 use Rattle.calls.specs.Refusals.{borrowed}
 use Rattle.calls.specs.Changes.{Side, effect}
 use Rattle.calls.specs.Calls.{head, book}
-use Rattle.calls.specs.Book.{Book, entered, book-pair}
+use Rattle.book.specs.Book.{Book, entered, book-pair}
 use Rattle.demands.proofs.Book.Books.{entered-onto}
 use Rattle.demands.proofs.Booked.{booked}
 

@@ -28,7 +28,7 @@ use Rattle.calls.specs.Refusals.{borrowed}
 use Rattle.calls.specs.Calls.{Instant, Rebuilt, head, instant, average-at, listing, runs-over, audit-input-rows, full-runs, rebuilt-bytes}
 use Rattle.calls.specs.Calls.{rebuild-status, rebuild}
 use Rattle.calls.specs.Index.{judge, index-rebuild}
-use Rattle.calls.specs.Rebuild.{Head-left, Answers-kept, No-fewer, Rebuilt-from, Every-rebuild}
+use Rattle.claims.specs.Rebuild.{Head-left, Answers-kept, No-fewer, Rebuilt-from, Every-rebuild}
 use Rattle.calls.proofs.Rows.{first-later, first-last}
 use Rattle.calls.proofs.Judged.{by-judge, judge-not}
 use Rattle.answers.proofs.Tiles.{runs-of-same}

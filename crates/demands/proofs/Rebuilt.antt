@@ -25,7 +25,7 @@ use Rattle.tightness.proofs.Sound.{tight-sound, tight-head-read-back, tight-byt
 use Rattle.tightness.proofs.Laid.{tight-laid-out}
 use Rattle.calls.specs.Refusals.{borrowed}
 use Rattle.calls.specs.Calls.{head, full-runs, rebuilt-bytes, audit-input-rows, rebuild-status, rebuild}
-use Rattle.calls.specs.Book.{Book}
+use Rattle.book.specs.Book.{Book}
 use Rattle.answers.proofs.Own.{sound-own}
 use Rattle.answers.proofs.Full.{full-tiles, full-paired}
 use Rattle.calls.proofs.Rows.{first-none}

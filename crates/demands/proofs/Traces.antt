@@ -15,8 +15,8 @@ use Rattle.page.proofs.Laws.Capacities.{capacity-is, own-field}
 use Rattle.image.specs.Images.{capacity-field}
 use Rattle.calls.specs.Calls.{Formatted, Booked, Rebuilt, format}
 use Rattle.calls.specs.Index.{index-format, format-before, index-rebuild}
-use Rattle.calls.specs.Book.{Book, empty-book, entered, entered-all, book-of}
-use Rattle.calls.specs.Trace.{Step, kept, accepted, Trace, formatted, formatted-before, extended, rebuilt}
+use Rattle.book.specs.Book.{Book, empty-book, entered, entered-all, book-of}
+use Rattle.claims.specs.Trace.{Step, kept, accepted, Trace, formatted, formatted-before, extended, rebuilt}
 use Rattle.answers.proofs.Own.{sound-own, own-book, own-rebuild}
 use Rattle.demands.specs.Items.{Spanned, Sided}
 use Rattle.demands.proofs.Book.Books.{entered-all-append, book-is}

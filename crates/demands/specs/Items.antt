@@ -7,7 +7,7 @@ use lib.Dec.{eqb}
 use Rattle.rule.specs.declared.Pair.{Pair}
 use Rattle.rule.specs.Time.{span-ok, effect-end}
 use Rattle.calls.specs.Changes.{withdraws, effect, Change}
-use Rattle.calls.specs.Book.{Item}
+use Rattle.book.specs.Book.{Item}
 
 -- the pair that a change adds, whenever it counts
 unfoldable pub effect-of : Change → Pair

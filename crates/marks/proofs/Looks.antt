@@ -2,7 +2,7 @@
 use mathlib.Core.Path.{refl}
 use Rattle.image.specs.Trail.{each-in-turn, finds-fit, up-to-unfit, visits, trail, entries-over, listing-trail}
 use Rattle.image.specs.Looks.{pages-of}
-use Rattle.calls.specs.Walks.{listing-looks}
+use Rattle.claims.specs.Walks.{listing-looks}
 use Rattle.marks.specs.Looks.{Looks}
 use Rattle.marks.proofs.Opened.{all-definitions}
 

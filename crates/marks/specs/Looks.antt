@@ -3,7 +3,7 @@ use mathlib.Core.Path.{_≡_}
 use mathlib.Core.List.{[], _∷_}
 use lib.ListN.{replicate}
 use Rattle.rule.specs.Time.{END}
-use Rattle.calls.specs.Walks.{listing-looks}
+use Rattle.claims.specs.Walks.{listing-looks}
 use Rattle.marks.specs.Cases.{grown-root, hurt-leaf}
 
 pub record Looks : Type 0 where

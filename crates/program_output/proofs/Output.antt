@@ -25,12 +25,12 @@ use Rattle.image.specs.Sound.{sound}
 use Rattle.calls.specs.Refusals.{borrowed}
 use Rattle.calls.specs.Calls.{head, format, book, runs-over, written, listing}
 use Rattle.marks.proofs.Opened.{all-definitions}
-use Rattle.calls.specs.Book.{Book, empty-book}
+use Rattle.book.specs.Book.{Book, empty-book}
 use Rattle.calls.specs.Program.{Line, booking, unread, ran-line, runs-text, program}
 use Rattle.print.specs.Written.{runs-line}
 use Rattle.runs.proofs.Laws.Entries.{length-runs-bytes}
 use Rattle.soundness.proofs.Sound.{the-head, sound-facts, sound-whole}
-use Rattle.calls.proofs.Steps.{book-keeps}
+use Rattle.claims.proofs.Steps.{book-keeps}
 use Rattle.answers.proofs.Sound.{sound-head, sound-walk}
 use Rattle.demands.proofs.Booked.{booked}
 use Rattle.demands.proofs.Invariant.{Trace-invariant, kept-accepted}

@@ -9,11 +9,11 @@ use Rattle.image.specs.Images.{half-of, pages-in}
 use Rattle.calls.specs.Changes.{Side}
 use Rattle.calls.specs.Calls.{Booked, Instant, Averaged, Audited}
 use Rattle.calls.specs.Index.{index-book, index-instant, index-average, index-listing, index-audit, index-rebuild}
-use Rattle.calls.specs.Accepted.{Accepted-change}
-use Rattle.calls.specs.Trace.{Step, change-made}
-use Rattle.calls.specs.Book.{book-of}
-use Rattle.calls.specs.Demands.{fixed-status}
-use Rattle.calls.proofs.Steps.{booking-step}
+use Rattle.claims.specs.Accepted.{Accepted-change}
+use Rattle.claims.specs.Trace.{Step, change-made}
+use Rattle.book.specs.Book.{book-of}
+use Rattle.claims.specs.Demands.{fixed-status}
+use Rattle.claims.proofs.Steps.{booking-step}
 use Rattle.demands.proofs.Agree.{as-the-book}
 use Rattle.demands.proofs.Traces.{reached}
 use Rattle.luwhenoka.specs.declared.InstantAnswer.{InstantAnswer}

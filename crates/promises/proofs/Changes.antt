@@ -8,7 +8,7 @@ use Rattle.rule.specs.Pairs.{combine}
 use Rattle.image.specs.Images.{half-of}
 use Rattle.calls.specs.Changes.{Side, effect}
 use Rattle.calls.specs.Calls.{Booked, head}
-use Rattle.calls.specs.Accepted.{Accepted-change, Every-change}
+use Rattle.claims.specs.Accepted.{Accepted-change, Every-change}
 use Rattle.demands.proofs.Accepted.{every-change}
 use Rattle.promises.specs.Changes.{Change-promised, Every-change-promised}
 use Rattle.promises.proofs.Answers.{answer-status, answer-pair}

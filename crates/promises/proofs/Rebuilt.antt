@@ -3,8 +3,8 @@ use Prim.Native.Nat.{ℕ}
 use mathlib.Core.Path.{sym, ap, _∙_}
 use mathlib.Core.List.{List}
 use Rattle.calls.specs.Calls.{Listed}
-use Rattle.calls.specs.Trace.{rebuilt}
-use Rattle.calls.specs.Rebuild.{Answers-kept, Rebuilt-from}
+use Rattle.claims.specs.Trace.{rebuilt}
+use Rattle.claims.specs.Rebuild.{Answers-kept, Rebuilt-from}
 use Rattle.demands.proofs.Rebuilds.{every-rebuild}
 use Rattle.luwhenoka.specs.Answers.{averaged-answer, listing-answer}
 use Rattle.luwhenoka.specs.Promises.{Rebuilds}

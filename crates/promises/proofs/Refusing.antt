@@ -12,7 +12,7 @@ use Rattle.calls.specs.Changes.{entering}
 use Rattle.calls.specs.Calls.{Formatted, Booked, Listed, Audited, Rebuilt}
 use Rattle.calls.specs.Index.{index-average}
 use Rattle.calls.specs.Scratch.{Left-at, Left-by-rebuild}
-use Rattle.calls.specs.Demands.{Demand-1}
+use Rattle.claims.specs.Demands.{Demand-1}
 use Rattle.answers.proofs.Demand.{demand-1}
 use Rattle.luwhenoka.specs.declared.AverageAnswer.{AverageAnswer}
 use Rattle.luwhenoka.specs.Answers.{average-answer, averaged-answer, listing-answer}

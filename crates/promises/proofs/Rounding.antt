@@ -12,8 +12,8 @@ use Rattle.rule.specs.Pairs.{pair}
 use Rattle.rule.specs.Averages.{most-sum, hundredths, average, The-nearest}
 use Rattle.rule.proofs.Nearest.{hundredths-nearest}
 use Rattle.rule.proofs.Rounding.{no-average, average-beyond, average-shown}
-use Rattle.calls.specs.Aggregate.{aggregate}
-use Rattle.calls.specs.Demands.{The-demands}
+use Rattle.book.specs.Aggregate.{aggregate}
+use Rattle.claims.specs.Demands.{The-demands}
 use Rattle.demands.proofs.Demands.{the-demands}
 use Rattle.luwhenoka.specs.declared.AverageAnswer.{AverageAnswer}
 use Rattle.luwhenoka.specs.Answers.{average-answer, averaged-answer, pair-of}

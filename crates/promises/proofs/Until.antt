@@ -5,7 +5,7 @@ use mathlib.Core.List.{List}
 use native.Mathlib.Omega.{arith}
 use Rattle.calls.specs.Calls.{Instant}
 use Rattle.calls.specs.Index.{index-instant}
-use Rattle.calls.specs.Until.{Until-when}
+use Rattle.claims.specs.Until.{Until-when}
 use Rattle.answers.proofs.Until.{until-when}
 use Rattle.demands.proofs.Agree.{as-the-book}
 use Rattle.demands.proofs.Traces.{reached}

@@ -12,9 +12,9 @@ use Rattle.rule.specs.Averages.{average}
 use Rattle.image.specs.Images.{half-of, pages-in}
 use Rattle.calls.specs.Refusals.{first, borrowed, scratch-ok}
 use Rattle.calls.specs.Changes.{Side, Change}
-use Rattle.calls.specs.Book.{Book, book-of, book-pair, listing-of}
-use Rattle.calls.specs.Trace.{Trace}
-use Rattle.calls.specs.Demands.{fixed-status, rebuild-of}
+use Rattle.book.specs.Book.{Book, book-of, book-pair, listing-of}
+use Rattle.claims.specs.Trace.{Trace}
+use Rattle.claims.specs.Demands.{fixed-status, rebuild-of}
 use Rattle.luwhenoka.specs.declared.InstantAnswer.{InstantAnswer}
 use Rattle.luwhenoka.specs.declared.AverageAnswer.{AverageAnswer}
 use Rattle.luwhenoka.specs.declared.ListingAnswer.{ListingAnswer}

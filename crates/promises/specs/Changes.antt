@@ -10,7 +10,7 @@ use Rattle.fields.specs.Bytes.{Bytes}
 use Rattle.image.specs.Images.{half-of}
 use Rattle.calls.specs.Changes.{Side, effect}
 use Rattle.calls.specs.Calls.{head}
-use Rattle.calls.specs.Accepted.{Accepted-change}
+use Rattle.claims.specs.Accepted.{Accepted-change}
 use Rattle.luwhenoka.specs.declared.InstantAnswer.{InstantAnswer}
 use Rattle.luwhenoka.specs.Answers.{pair-of}
 use Rattle.luwhenoka.specs.Promises.{Books, Answers}

@@ -4,7 +4,7 @@
 -- (b) so its call is a step of a list, on the image that it is handed: the other clauses there;
 -- (c) the demands hold of every list of such steps, at every capacity: `The-demands`.
 -- The demands that speak of one call's answer alone are told in the words of these promises besides. Assumes nothing.
-use Rattle.calls.specs.Demands.{The-demands}
+use Rattle.claims.specs.Demands.{The-demands}
 use Rattle.promises.specs.Refusing.{Refusing}
 use Rattle.promises.specs.Tables.{By-status}
 use Rattle.promises.specs.Changes.{Every-change-promised}

@@ -4,8 +4,8 @@ use mathlib.Core.Path.{_≡_}
 use mathlib.Core.List.{List}
 use Rattle.page.specs.Layout.{capacity-named}
 use Rattle.calls.specs.Changes.{Change}
-use Rattle.calls.specs.Trace.{Trace}
-use Rattle.calls.specs.Rebuild.{Rebuilt-from}
+use Rattle.claims.specs.Trace.{Trace}
+use Rattle.claims.specs.Rebuild.{Rebuilt-from}
 use Rattle.luwhenoka.specs.declared.InstantAnswer.{InstantAnswer}
 use Rattle.luwhenoka.specs.declared.AverageAnswer.{AverageAnswer}
 use Rattle.luwhenoka.specs.declared.ListingAnswer.{ListingAnswer}

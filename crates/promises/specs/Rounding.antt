@@ -8,8 +8,8 @@ use Rattle.rule.specs.Time.{END}
 use Rattle.rule.specs.Averages.{most-sum, The-nearest}
 use Rattle.fields.specs.Numbers.{u32-at}
 use Rattle.calls.specs.Changes.{Change}
-use Rattle.calls.specs.Aggregate.{aggregate}
-use Rattle.calls.specs.Trace.{Trace}
+use Rattle.book.specs.Aggregate.{aggregate}
+use Rattle.claims.specs.Trace.{Trace}
 use Rattle.luwhenoka.specs.declared.InstantAnswer.{InstantAnswer}
 use Rattle.luwhenoka.specs.declared.AverageAnswer.{AverageAnswer}
 use Rattle.luwhenoka.specs.Promises.{Answers, Averages, Averages-of}

@@ -5,8 +5,8 @@ use mathlib.Core.List.{List}
 use Rattle.rule.specs.Time.{END}
 use Rattle.image.specs.Images.{half-of}
 use Rattle.image.specs.Trail.{instant-trail, Leaf-entry}
-use Rattle.calls.specs.Book.{Book, book-pair}
-use Rattle.calls.specs.Until.{index-instant-before}
+use Rattle.book.specs.Book.{Book, book-pair}
+use Rattle.claims.specs.Until.{index-instant-before}
 use Rattle.luwhenoka.specs.declared.InstantAnswer.{InstantAnswer}
 use Rattle.luwhenoka.specs.Answers.{pair-of}
 use Rattle.luwhenoka.specs.Promises.{Answers}

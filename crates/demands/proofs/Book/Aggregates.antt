@@ -11,9 +11,9 @@ use Rattle.rule.specs.Time.{END}
 use Rattle.rule.specs.Pairs.{none, entry-effect, opposite, same-number, same-pair, added, greater, lesser, better, combine}
 use Rattle.rule.proofs.Laws.{lawful, same-pair-is}
 use Rattle.calls.specs.Changes.{withdraws, effect, Change}
-use Rattle.calls.specs.Book.{book-of, book-pair}
-use Rattle.calls.specs.Aggregate.{counts-at, counting, signed, sum-of, count-of, best-of, best-pair, aggregate-of, aggregate, Matched}
-use Rattle.calls.specs.Aggregate.{live-from}
+use Rattle.book.specs.Book.{book-of, book-pair}
+use Rattle.book.specs.Aggregate.{counts-at, counting, signed, sum-of, count-of, best-of, best-pair, aggregate-of, aggregate, Matched}
+use Rattle.book.specs.Aggregate.{live-from}
 use Rattle.demands.specs.Items.{effect-of, Spanned, Enters, Sided}
 use Rattle.demands.proofs.Book.Spans.{span-is, overlap-is}
 use Rattle.demands.proofs.Book.Totals.{total, total-same, unit-right, cond-unit}

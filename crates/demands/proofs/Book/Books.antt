@@ -12,9 +12,9 @@ use Rattle.rule.specs.Time.{effect-end, covers}
 use Rattle.rule.specs.Pairs.{combine}
 use Rattle.rule.proofs.Laws.{lawful}
 use Rattle.calls.specs.Changes.{Side, effect, Change}
-use Rattle.calls.specs.Book.{Item, Book, empty-book, entered, entered-all, book-of, items-pair, book-pair}
-use Rattle.calls.specs.Trace.{change-made}
-use Rattle.calls.specs.Demands.{Same-changes}
+use Rattle.book.specs.Book.{Item, Book, empty-book, entered, entered-all, book-of, items-pair, book-pair}
+use Rattle.claims.specs.Trace.{change-made}
+use Rattle.claims.specs.Demands.{Same-changes}
 use Rattle.demands.specs.Items.{effect-of, item-of, items-onto, items-of, Sided}
 use Rattle.demands.proofs.Book.Totals.{total, between, unit-right, cond-unit}
 use Rattle.demands.proofs.Book.Struck.{same-changes-total}

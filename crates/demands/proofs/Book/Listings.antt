@@ -3,10 +3,10 @@ use Prim.Native.Nat.{ℕ}
 use mathlib.Core.Path.{_≡_}
 use mathlib.Core.List.{List}
 use Rattle.lists.specs.Lists.{All}
-use Rattle.calls.specs.Book.{book-of, book-pair, listing-of}
-use Rattle.calls.specs.Aggregate.{aggregate}
+use Rattle.book.specs.Book.{book-of, book-pair, listing-of}
+use Rattle.book.specs.Aggregate.{aggregate}
 use Rattle.calls.specs.Changes.{Change}
-use Rattle.calls.specs.Demands.{Same-changes}
+use Rattle.claims.specs.Demands.{Same-changes}
 use Rattle.demands.specs.Items.{Spanned, Sided}
 use Rattle.demands.proofs.Book.Books.{book-same-changes}
 use Rattle.demands.proofs.Book.Aggregates.{book-aggregate}

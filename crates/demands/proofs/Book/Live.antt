@@ -10,8 +10,8 @@ use Rattle.rule.specs.Pairs.{none, same-number, Lawful}
 use Rattle.rule.proofs.Tests.{both}
 use Rattle.rule.proofs.Signed.{same-number-is}
 use Rattle.calls.specs.Changes.{entering, withdraws, Change}
-use Rattle.calls.specs.Aggregate.{same-booking, without, live-has, live-after, live-from, Matched}
-use Rattle.calls.specs.Demands.{Booking}
+use Rattle.book.specs.Aggregate.{same-booking, without, live-has, live-after, live-from, Matched}
+use Rattle.claims.specs.Demands.{Booking}
 use Rattle.demands.specs.Items.{Enters}
 use Rattle.demands.proofs.Book.Totals.{total, left-comm, between}
 use Rattle.demands.proofs.Book.Struck.{entry, withdrawal, by-side, Undone}

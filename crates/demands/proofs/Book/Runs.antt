@@ -7,7 +7,7 @@ use native.Mathlib.Omega.{arith}
 use Rattle.rule.specs.declared.Pair.{Pair}
 use Rattle.rule.specs.Time.{END, span-ok}
 use Rattle.calls.specs.Refusals.{first}
-use Rattle.calls.specs.Book.{runs-after, runs-of, listing-of}
+use Rattle.book.specs.Book.{runs-after, runs-of, listing-of}
 use Rattle.demands.proofs.Book.Spans.{span-is}
 
 module _ (f g : ℕ → Pair) where

@@ -11,7 +11,7 @@ use Rattle.rule.specs.declared.Pair.{Pair}
 use Rattle.rule.specs.Pairs.{none, combine, opposite, entry-effect}
 use Rattle.rule.proofs.Laws.{lawful, invertible}
 use Rattle.calls.specs.Changes.{withdraws, effect, Change}
-use Rattle.calls.specs.Demands.{Booking}
+use Rattle.claims.specs.Demands.{Booking}
 use Rattle.demands.specs.Items.{effect-of, Enters, Sided}
 use Rattle.demands.proofs.Book.Struck.{entry, withdrawal, Undone}
 

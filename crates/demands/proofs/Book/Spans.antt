@@ -9,7 +9,7 @@ use borrow.Author.Tests.{leb-true, le-leb, lt-leb, ltb-true, lt-ltb, le-ltb}
 use Rattle.rule.specs.Time.{END, Span, span-ok, effect-end, covers, Counts}
 use Rattle.rule.proofs.Tests.{both, one-test}
 use Rattle.calls.specs.Changes.{Change}
-use Rattle.calls.specs.Aggregate.{counts-at}
+use Rattle.book.specs.Aggregate.{counts-at}
 
 pub span-is : (s e : ℕ) → span-ok s e ≡ true → Span s e
 unfolding span-ok

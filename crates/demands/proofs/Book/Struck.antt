@@ -7,7 +7,7 @@ use Rattle.lists.specs.Lists.{All, all-more}
 use Rattle.rule.specs.declared.Pair.{Pair}
 use Rattle.rule.specs.Pairs.{none, Lawful}
 use Rattle.calls.specs.Changes.{Side, entering, withdrawing, withdraws, Change}
-use Rattle.calls.specs.Demands.{Booking, couples, Reordered, Same-changes}
+use Rattle.claims.specs.Demands.{Booking, couples, Reordered, Same-changes}
 use Rattle.demands.proofs.Book.Totals.{total, total-reordered, all-reordered}
 
 abbrev pub entry : Booking → Change

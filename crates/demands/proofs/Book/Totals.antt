@@ -6,7 +6,7 @@ use Rattle.lists.specs.Lists.{All, all-none, all-more}
 use Rattle.rule.specs.declared.Pair.{Pair}
 use Rattle.rule.specs.Pairs.{none, Lawful}
 use Rattle.calls.specs.Changes.{Change}
-use Rattle.calls.specs.Demands.{Reordered, same, next, swap, then}
+use Rattle.claims.specs.Demands.{Reordered, same, next, swap, then}
 
 unfoldable pub total : (Pair → Pair → Pair) → (Change → Pair) → List Change → Pair
 total rule share [] = none

@@ -1,6 +1,6 @@
 -- `promises::audit` meets its contract: `luw_audit` promises the answer, and an image that is lent for reading is kept. Assumes nothing.
 use borrow.Author.Needs.{needs}
-use Rattle.calls.specs.Trace.{kept}
+use Rattle.claims.specs.Trace.{kept}
 use Rattle.promises.proofs.AfterLists.{audit-as}
 use Rattle.promises.proofs.audit.Statement.{statement}
 use Rattle.promises.proofs.audit.Tie as tie

@@ -1,7 +1,7 @@
 -- `promises::average_at` meets its contract: `luw_average` promises the answer, and an image that is lent for reading is kept. Assumes
 -- nothing.
 use borrow.Author.Needs.{needs}
-use Rattle.calls.specs.Trace.{kept}
+use Rattle.claims.specs.Trace.{kept}
 use Rattle.luwhenoka.specs.Answers.{averaged-answer}
 use Rattle.promises.proofs.AfterLists.{average-as}
 use Rattle.promises.proofs.average_at.Statement.{statement}

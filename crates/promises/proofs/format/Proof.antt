@@ -1,8 +1,8 @@
 -- `promises::format` meets its contract: `luw_format` promises what a format leaves; accepted it begins a list, refused it is a step.
 -- Assumes nothing.
 use borrow.Author.Needs.{needs}
-use Rattle.calls.specs.Trace.{formatted}
-use Rattle.calls.proofs.Steps.{steps}
+use Rattle.claims.specs.Trace.{formatted}
+use Rattle.claims.proofs.Steps.{steps}
 use Rattle.promises.proofs.format.Statement.{statement}
 use Rattle.promises.proofs.format.Tie as tie
 

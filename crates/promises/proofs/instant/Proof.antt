@@ -3,7 +3,7 @@
 use mathlib.Core.Path.{ap}
 use borrow.Author.Needs.{needs}
 use Rattle.calls.specs.Calls.{Instant}
-use Rattle.calls.specs.Trace.{kept}
+use Rattle.claims.specs.Trace.{kept}
 use Rattle.luwhenoka.specs.declared.InstantAnswer.{InstantAnswer}
 use Rattle.luwhenoka.specs.Answers.{instant-answer, pair-of}
 use Rattle.promises.proofs.AfterLists.{instant-as}

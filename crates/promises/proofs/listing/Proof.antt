@@ -1,7 +1,7 @@
 -- `promises::listing` meets its contract: `luw_listing` promises the answer, and an image that is lent for reading is kept. Assumes
 -- nothing.
 use borrow.Author.Needs.{needs}
-use Rattle.calls.specs.Trace.{kept}
+use Rattle.claims.specs.Trace.{kept}
 use Rattle.luwhenoka.specs.Answers.{listing-answer}
 use Rattle.promises.proofs.AfterLists.{listing-as}
 use Rattle.promises.proofs.listing.Statement.{statement}

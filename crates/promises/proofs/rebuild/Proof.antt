@@ -1,8 +1,8 @@
 -- `promises::rebuild` meets its contract: `luw_rebuild` promises every byte of target and scratch, and an image that is lent for reading is
 -- kept. Assumes nothing.
 use borrow.Author.Needs.{needs}
-use Rattle.calls.specs.Trace.{kept}
-use Rattle.calls.proofs.Steps.{steps}
+use Rattle.claims.specs.Trace.{kept}
+use Rattle.claims.proofs.Steps.{steps}
 use Rattle.promises.proofs.AfterLists.{rebuild-as}
 use Rattle.promises.proofs.Rebuilt.{left-so, goes-on}
 use Rattle.promises.proofs.rebuild.Statement.{statement}

@@ -17,7 +17,7 @@ use Rattle.access.specs.declared.HeadCheck.the-variants.{Unfit}
 use Rattle.access.specs.Access.{Open-image, head-check}
 use Rattle.access.proofs.Laws.{shut}
 use Rattle.calls.specs.Calls.{head, head-ok, full-runs, rebuilt-bytes}
-use Rattle.calls.specs.Book.{runs-after, runs-of}
+use Rattle.book.specs.Book.{runs-after, runs-of}
 use Rattle.answers.proofs.Sound.{sound-head, sound-walk}
 use Rattle.answers.proofs.Full.{full-is}
 use Rattle.rebuild.specs.Rebuild.{Rebuildable, Fills}

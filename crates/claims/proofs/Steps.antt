@@ -11,12 +11,12 @@ use borrow.Author.Tests.{ne-eqb}
 use Rattle.lists.proofs.Choices.{cond-one}
 use Rattle.page.specs.Layout.{capacity-ok}
 use Rattle.image.specs.Images.{half-of, pages-in, image-bytes, fresh}
 use Rattle.calls.specs.Refusals.{borrowed}
 use Rattle.calls.specs.Changes.{Side, Change}
 use Rattle.calls.specs.Calls.{Formatted, Booked, Rebuilt, format, changed, book, rebuilt-bytes, rebuild}
 use Rattle.calls.specs.Index.{index-format, index-book, index-rebuild}
-use Rattle.calls.specs.Trace.{Step, kept, accepted, formatted, formatted-before, rebuilt, change-made, Steps}
+use Rattle.claims.specs.Trace.{Step, kept, accepted, formatted, formatted-before, rebuilt, change-made, Steps}
 use Rattle.calls.proofs.Judged.{by-judge}
 
 -- a call that left the image as it was
 pub stays : {img after : List ℕ} → after ≡ img → Step img [] after

@@ -6,8 +6,8 @@ use mathlib.Core.Bool.{true, false}
 use mathlib.Core.List.{List, [], _∷_, map}
 use lib.IntN.{ℤ, pos, negsuc}
 use Rattle.rule.specs.Pairs.{pair, none}
 use Rattle.calls.specs.Changes.{entering, withdrawing, Change}
-use Rattle.calls.specs.Aggregate.{counts-at, aggregate, live-from, Matched}
+use Rattle.book.specs.Aggregate.{counts-at, aggregate, live-from, Matched}
 
 abbrev pub entry : ℤ → ℕ → ℕ → Change
 entry v s e = record { side = entering; v = v; s = s; e = e }

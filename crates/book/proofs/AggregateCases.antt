@@ -1,10 +1,10 @@
 -- The aggregate's cases hold: each is computed. Assumes nothing.
 use mathlib.Core.Path.{refl}
 use mathlib.Core.Bool.{false≢true}
-use Rattle.calls.specs.Aggregate.{counts-at, counting, signed, sum-of, count-of, best-of, best-pair, aggregate-of, aggregate}
-use Rattle.calls.specs.Aggregate.{same-booking, without, live-has, live-after, live-from, Matched}
-use Rattle.calls.specs.AggregateCases.{prescription, again, twice, three, Aggregate-cases}
+use Rattle.book.specs.Aggregate.{counts-at, counting, signed, sum-of, count-of, best-of, best-pair, aggregate-of, aggregate}
+use Rattle.book.specs.Aggregate.{same-booking, without, live-has, live-after, live-from, Matched}
+use Rattle.book.specs.AggregateCases.{prescription, again, twice, three, Aggregate-cases}
 use Rattle.calls.proofs.Opened.{every-call}
 
 pub aggregate-cases : Aggregate-cases
 unfolding every-call counts-at counting signed sum-of count-of best-of best-pair aggregate-of aggregate same-booking without live-has live-after live-from Matched prescription again twice three

@@ -1,11 +1,11 @@
 -- The book's cases hold: each is computed. Assumes nothing.
 use mathlib.Core.Path.{refl}
-use Rattle.calls.specs.Book.{empty-book, entered, items-pair, book-pair, runs-after, runs-of, listing-of}
-use Rattle.calls.specs.BookCases.{prescribed, one, windowed, two, below-zero, Book-cases}
+use Rattle.book.specs.Book.{empty-book, entered, entered-all, book-of, items-pair, book-pair, runs-after, runs-of, listing-of}
+use Rattle.book.specs.BookCases.{prescribed, one, windowed, two, below-zero, Book-cases}
 use Rattle.calls.proofs.Opened.{every-call}
 
 pub book-cases : Book-cases
-unfolding every-call empty-book entered items-pair book-pair runs-after runs-of listing-of prescribed one windowed two below-zero
+unfolding every-call empty-book entered entered-all book-of items-pair book-pair runs-after runs-of listing-of prescribed one windowed two below-zero
 book-cases =
     record {
       totals = refl;
@@ -31,6 +31,7 @@ book-cases =
       equal-sums = refl;
       equal-counts = refl;
       equal-pairs = refl;
+      fed = refl;
       listing-11 = (refl, refl);
       listing-15 = refl;
       listing-0 = refl;

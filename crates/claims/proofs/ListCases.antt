@@ -8,19 +8,19 @@ use native.Mathlib.Omega.{arith}
 use lib.ListN.{length, length-append, replicate}
 use lib.IntN.{pos}
 use Rattle.rule.specs.Time.{END}
 use Rattle.calls.specs.Refusals.{first, borrowed, scratch-ok}
 use Rattle.calls.specs.Changes.{entering, withdrawing, Change}
 use Rattle.calls.specs.Calls.{Booked, head}
 use Rattle.calls.specs.Index.{index-book}
-use Rattle.calls.specs.Book.{empty-book, entered, entered-all, book-of, items-pair, book-pair, runs-after, runs-of, listing-of}
-use Rattle.calls.specs.Trace.{Step, kept, accepted, Trace, formatted, formatted-before, extended, rebuilt, Throughout, change-made}
-use Rattle.calls.specs.Demands.{fixed-status, rebuild-of, Booking, couples, Reordered, same, next, swap, then, Same-changes}
-use Rattle.calls.specs.BookCases.{one, windowed}
-use Rattle.calls.specs.AggregateCases.{entry, withdrawal}
-use Rattle.calls.specs.ListCases.{fresh-image, before-image, after-one, after-two, after-three, three-changes, greatest-one, greatest-book, struck}
-use Rattle.calls.specs.ListCases.{struck-too, roomier, withdrawn-there, after-season, List-cases}
+use Rattle.book.specs.Book.{empty-book, entered, items-pair, book-pair, runs-after, runs-of, listing-of}
+use Rattle.claims.specs.Trace.{Step, kept, accepted, Trace, formatted, formatted-before, extended, rebuilt, Throughout, change-made}
+use Rattle.claims.specs.Demands.{fixed-status, rebuild-of, Booking, couples, Reordered, same, next, swap, then, Same-changes}
+use Rattle.book.specs.BookCases.{one, windowed}
+use Rattle.book.specs.AggregateCases.{entry, withdrawal}
+use Rattle.calls.specs.CallCases.{fresh-image, before-image, after-one, after-two, after-three, greatest-one}
+use Rattle.claims.specs.ListCases.{three-changes, greatest-book, struck, struck-too, roomier, withdrawn-there, after-season, List-cases}
 use Rattle.calls.proofs.Opened.{every-call}
-use Rattle.calls.proofs.Steps.{stayed, steps}
+use Rattle.claims.proofs.Steps.{stayed, steps}
 
 -- a day of calls: behind the first booking one that is refused, a format that is refused and a reading call
 refused-step : Step after-one [] after-one
@@ -102,22 +102,10 @@ differs S =
     )
 
 pub list-cases : List-cases
-unfolding every-call empty-book entered entered-all book-of book-pair items-pair runs-after runs-of listing-of one windowed fixed-status couples fresh-image before-image after-one after-two after-three three-changes greatest-one greatest-book change-made Throughout a-day roomier withdrawn-there after-season in-four in-five a-season rebuild-of
+unfolding every-call empty-book entered book-pair items-pair runs-after runs-of listing-of one windowed fixed-status couples fresh-image before-image after-one after-two after-three three-changes greatest-one greatest-book change-made Throughout a-day roomier withdrawn-there after-season in-four in-five a-season rebuild-of
 list-cases =
     record {
-      fits-at-first = refl;
-      fits-no-more = refl;
       fixed = (refl, refl, refl, refl);
-      refused-statuses = (refl, refl, refl, refl, refl, refl, refl);
-      bad-capacity = refl;
-      refused-leaves = (refl, refl);
-      left-one = refl;
-      not-left = refl;
-      left-twice = refl;
-      left-two = refl;
-      left-three = refl;
-      averaged = (refl, refl, refl);
-      averaged-greatest = (refl, refl);
       made-by-status = (refl, refl);
       day = a-day;
       before-day = extended (formatted-before (replicate (512 * 2) 0) refl) (accepted (7 ∷ 7 ∷ []) refl);
@@ -133,7 +121,6 @@ list-cases =
       all-day = ((((((omega arith, omega arith), omega arith), omega arith), omega arith), omega arith), omega arith);
       last-of-day = λ h. omega (arith, h .1);
       first-of-day = λ h. omega (arith, h .0 .0 .0 .0 .0 .0);
-      fed = refl;
       claimed = λ h. (
         h .instant-end END (omega arith),
         h .instants 39 (omega arith) .1,

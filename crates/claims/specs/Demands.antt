@@ -18,18 +18,18 @@ use Rattle.page.specs.Fit.{most-changes}
 use Rattle.image.specs.Images.{capacity-field, half-of, pages-in, length-ok, image-bytes}
 use Rattle.image.specs.Sound.{sound}
 use Rattle.tight.specs.Tight.{tight, too-small}
 use Rattle.calls.specs.Refusals.{Row, first, borrowed, scratch-ok, scratch-after}
 use Rattle.calls.specs.Changes.{Side, entering, withdrawing, withdraws, Change}
 use Rattle.calls.specs.Calls.{Rebuilt, head}
 use Rattle.calls.specs.Index.{index-format, index-book, index-instant, index-average, index-listing, index-audit, index-rebuild}
 use Rattle.calls.specs.Tables.{Turned-back}
 use Rattle.calls.specs.Scratch.{Left-at, Left-by-rebuild}
-use Rattle.calls.specs.Book.{Book, entered, book-of, book-pair, runs-of, listing-of}
-use Rattle.calls.specs.Trace.{Trace, Throughout, change-made, Steps}
-use Rattle.calls.specs.Aggregate.{aggregate, Matched, live-from}
-use Rattle.calls.specs.Accepted.{Every-change}
-use Rattle.calls.specs.Until.{Until-when}
-use Rattle.calls.specs.Rebuild.{Every-rebuild}
+use Rattle.book.specs.Book.{Book, entered, book-of, book-pair, runs-of, listing-of}
+use Rattle.claims.specs.Trace.{Trace, Throughout, change-made, Steps}
+use Rattle.book.specs.Aggregate.{aggregate, Matched, live-from}
+use Rattle.claims.specs.Accepted.{Every-change}
+use Rattle.claims.specs.Until.{Until-when}
+use Rattle.claims.specs.Rebuild.{Every-rebuild}
 
 -- Demand 1. "A caller may hand any public call any image, span, value or output buffer, unchecked; the call returns, and what
 -- document 01 turns back is refused by its number there, with image and output as before." That a call returns is part of every

@@ -1,0 +1,3 @@
+-- `BookCases` and `AggregateCases` have the cases that compute.
+pub mod BookCases
+pub mod AggregateCases

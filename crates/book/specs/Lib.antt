@@ -1,0 +1,4 @@
+pub mod Book
+pub mod Aggregate
+pub mod BookCases
+pub mod AggregateCases
