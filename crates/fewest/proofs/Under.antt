@@ -18,8 +18,9 @@ use Rattle.fit.proofs.Laws.Pages.{PageFit}
 use Rattle.image.specs.Images.{page-at}
 use Rattle.image.specs.Sound.{tree-fit, tree-pages}
 use Rattle.image.specs.Listing.{walk}
+use Rattle.image.specs.Trail.{entries-over}
 use Rattle.soundness.proofs.Tree.{tree-parts, tree-top, tree-more}
-use Rattle.soundness.proofs.Runs.{meets, Counts, walk-most}
+use Rattle.soundness.proofs.Runs.{Counts-pages, walk-most}
 
 -- ---- the page itself, and the pages below its entries
 
@@ -140,7 +141,7 @@ module _ (half : ℕ) (h : Head) (img : List ℕ) where
 -- ---- the runs of a walk: no more than the leaf pages have room for entries
 
 module _ (half : ℕ) (h : Head) (img : List ℕ) (a b : ℕ) where
-  leaf-pages : Counts half h img a b (λ high at q. under-on half img 0 high q)
+  leaf-pages : Counts-pages half h img a b (λ high at q. under-on half img 0 high q)
   leaf-pages =
       record {
         leaf = λ at q f e. omega (arith, on-leaf half img 0 q ∙ ap (hit 0) (f .level ∙ e));
@@ -151,8 +152,8 @@ module _ (half : ℕ) (h : Head) (img : List ℕ) (a b : ℕ) where
             omega (
               arith,
               on-more half img 0 high q (f .most),
-              total-le (entry-count s) (λ i. cond (meets a b at s i) (leaves i) 0) leaves
-                  (λ i l. either (λ n. n ≤ leaves i) (omega arith) (omega arith) (meets a b at s i)),
+              total-le (entry-count s) (λ i. cond (entries-over a b at s i) (leaves i) 0) leaves
+                  (λ i l. either (λ n. n ≤ leaves i) (omega arith) (omega arith) (entries-over a b at s i)),
             );
       }
 

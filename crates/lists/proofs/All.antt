@@ -53,9 +53,9 @@ all-weaken h all-none = all-none
 all-weaken h (all-more {x} q r) = all-more (h x q) (all-weaken h r)
 
 -- of any list, where it holds of whatever there is
-pub all-each : {A : Type 0} {Q : A → Type 0} → ((x : A) → Q x) → (es : List A) → All Q es
-all-each h [] = all-none
-all-each h (x ∷ xs) = all-more (h x) (all-each h xs)
+pub all-always : {A : Type 0} {Q : A → Type 0} → ((x : A) → Q x) → (es : List A) → All Q es
+all-always h [] = all-none
+all-always h (x ∷ xs) = all-more (h x) (all-always h xs)
 
 -- of a list by index
 pub all-listed : {A : Type 0} {Q : A → Type 0} (n : ℕ) (f : ℕ → A) → ((i : ℕ) → i < n → Q (f i)) → All Q (listed n f)

@@ -45,22 +45,22 @@ times-concat-map f g n p =
 -- ---- each element once
 
 -- what adds to 1 over the numbers below n for each element adds to the length for all
-once-each : (n : ℕ) (f : ℕ → ℕ → ℕ) (ps : List ℕ) → ((p : ℕ) → 1 ≤ times p ps → total n (λ i. f i p) ≡ 1)
+ones-length : (n : ℕ) (f : ℕ → ℕ → ℕ) (ps : List ℕ) → ((p : ℕ) → 1 ≤ times p ps → total n (λ i. f i p) ≡ 1)
     → total n (λ i. sum (f i) ps) ≡ length ps
 unfolding sum
-once-each n f [] h = total-zeros n
-once-each n f (p ∷ ps) h =
+ones-length n f [] h = total-zeros n
+ones-length n f (p ∷ ps) h =
     omega (
       arith,
       total-add n (λ i. f i p) (λ i. sum (f i) ps),
       h p (omega (arith, times-same p p ps refl)),
-      once-each n f ps (λ q l. h q (omega (arith, times-cons q p ps))),
+      ones-length n f ps (λ q l. h q (omega (arith, times-cons q p ps))),
     )
 
 -- the elements at place i, for all places, are all elements
 pub sum-hits : (n : ℕ) (place : ℕ → ℕ) (ps : List ℕ) → ((p : ℕ) → 1 ≤ times p ps → place p < n)
     → total n (λ i. sum (λ p. hit i (place p)) ps) ≡ length ps
-sum-hits n place ps h = once-each n (λ i p. hit i (place p)) ps (λ p l. total-hits n (place p) (h p l))
+sum-hits n place ps h = ones-length n (λ i p. hit i (place p)) ps (λ p l. total-hits n (place p) (h p l))
 
 -- ---- the counting argument
 
@@ -71,7 +71,7 @@ Within m xs = (p : ℕ) → 1 ≤ times p xs → (1 ≤ p) × (p ≤ m)
 length-total : (m : ℕ) (xs : List ℕ) → Within m xs → total m (λ i. times (suc i) xs) ≡ length xs
 length-total m xs w =
     (λ j. total m (λ i. times-is (suc i) xs j))
-    ∙ once-each m (λ i. hit (suc i)) xs (λ p l. total-one m p (w p l .0) (w p l .1))
+    ∙ ones-length m (λ i. hit (suc i)) xs (λ p l. total-one m p (w p l .0) (w p l .1))
 
 pub short-of-once : (m : ℕ) (xs : List ℕ) → Within m xs → ((p : ℕ) → times p xs ≤ 1) → length xs ≤ m
 short-of-once m xs w h = omega (arith, length-total m xs w, total-most m (λ i. times (suc i) xs) (λ i l. h (suc i)))

@@ -8,7 +8,7 @@ use native.Mathlib.Omega.{arith}
 use lib.ListN.{length, getD, length-append}
 use lib.Dec.{lit<}
 use Rattle.lists.specs.Lists.{listed, concat-map, splice, All, all-none, all-more}
-use Rattle.lists.proofs.All.{all-each}
+use Rattle.lists.proofs.All.{all-always}
 use Rattle.lists.proofs.Listed.{length-listed}
 use Rattle.lists.proofs.Concat.{concat-map-more}
 use Rattle.fields.specs.Bytes.{Bytes, part, patch, unused}
@@ -53,10 +53,10 @@ module _ {A : Type 0} (f : A → List ℕ) (k : ℕ) where
 -- where each that there is has so many
 module _ {A : Type 0} (f : A → List ℕ) (k : ℕ) (each : (x : A) → length (f x) ≡ k) where
   pub length-joined : (xs : List A) → length (concat-map f xs) ≡ k * length xs
-  length-joined xs = length-sized f k (all-each each xs)
+  length-joined xs = length-sized f k (all-always each xs)
 
   pub part-joined : (xs : List A) (ys : List ℕ) (d : A) (i : ℕ) → i < length xs → part (concat-map f xs ++ ys) (k * i) k ≡ f (getD xs i d)
-  part-joined xs ys d i h = part-sized f k ys d i (all-each each xs) h
+  part-joined xs ys d i h = part-sized f k ys d i (all-always each xs) h
 
   -- the bytes of what stands at n slots, one after the other, are the bytes of those slots
   pub joined-parts : (s : List ℕ) (o n : ℕ) (x : ℕ → A) → ((i : ℕ) → i < n → f (x i) ≡ part s (o + k * i) k)
