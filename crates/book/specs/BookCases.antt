@@ -13,7 +13,7 @@ use Rattle.image.specs.Listing.{run}
 use Rattle.calls.specs.Changes.{entering, withdrawing}
 use Rattle.calls.specs.Calls.{Listed}
 use Rattle.book.specs.Book.{Book, empty-book, entered, book-of, book-pair, runs-of, listing-of}
-use Rattle.book.specs.AggregateCases.{entry, withdrawal}
+use Rattle.book.specs.AggregateCases.{entry}
 
 -- 000, Table 1: Amy 2 on [10, 40), Ben 3 on [10, 30), Cal 1 on [20, 40), Dan 2 on [5, 15), Eve 4 on [35, 45), Fay 1 on [10, 50)
 unfoldable pub prescribed : ℕ → ℕ → Book
@@ -123,7 +123,7 @@ pub record Book-cases : Type 0 where
       runs-of (book-pair (entered 0 entering (pos 6) 40 50 one)) 9 52 ≡ run 9 none ∷ run 10 (pair (pos 6) (pos 1)) ∷ run 50 none ∷ []
   -- The book of a list of changes: each is entered, the first one first.
   pub fed :
-      book-of 1 0 (entry (pos 6) 10 40 ∷ withdrawal (pos 6) 10 40 ∷ entry (pos 3) 20 50 ∷ []) .items
+      book-of 1 0 (entry (pos 6) 10 40 ∷ record { side = withdrawing; v = pos 6; s = 10; e = 40 } ∷ entry (pos 3) 20 50 ∷ []) .items
       ≡ record { s = 20; e = 50; pair = pair (pos 3) (pos 1) }
       ∷ record { s = 10; e = 40; pair = pair (negsuc 5) (negsuc 0) }
       ∷ record { s = 10; e = 40; pair = pair (pos 6) (pos 1) }
