@@ -1,6 +1,6 @@
 -- The full listing of a sound image: its runs tile all time with what instants answer, and each pair is one that the image's pages can show.
 -- Assumes nothing.
-use Prim.Native.Nat.{ℕ, _<_}
+use Prim.Native.Nat.{ℕ}
 use mathlib.Core.Path.{_≡_, sym, subst⁻¹}
 use mathlib.Core.Bool.{true}
 use mathlib.Core.List.{List}

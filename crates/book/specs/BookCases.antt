@@ -121,13 +121,18 @@ pub record Book-cases : Type 0 where
       ≡ run 9 none ∷ run 10 (pair (pos 6) (pos 1)) ∷ run 40 (pair (pos 3) (pos 1)) ∷ []
   pub equal-pairs :
       runs-of (book-pair (entered 0 entering (pos 6) 40 50 one)) 9 52 ≡ run 9 none ∷ run 10 (pair (pos 6) (pos 1)) ∷ run 50 none ∷ []
-  -- The book of a list of changes: each is entered, the first one first.
+  -- The book of a list of changes: of its kind and window, and each change is entered, the first one first.
   pub fed :
-      book-of 1 0 (entry (pos 6) 10 40 ∷ record { side = withdrawing; v = pos 6; s = 10; e = 40 } ∷ entry (pos 3) 20 50 ∷ []) .items
-      ≡ record { s = 20; e = 50; pair = pair (pos 3) (pos 1) }
-      ∷ record { s = 10; e = 40; pair = pair (negsuc 5) (negsuc 0) }
-      ∷ record { s = 10; e = 40; pair = pair (pos 6) (pos 1) }
-      ∷ []
+      book-of 2 20 (entry (pos 6) 10 40 ∷ record { side = withdrawing; v = pos 6; s = 10; e = 40 } ∷ entry (pos 3) 20 50 ∷ [])
+      ≡ record {
+        kind = 2;
+        window = 20;
+        items =
+            record { s = 20; e = 70; pair = pair (pos 3) (pos 1) }
+            ∷ record { s = 10; e = 60; pair = pair (negsuc 5) (negsuc 0) }
+            ∷ record { s = 10; e = 60; pair = pair (pos 6) (pos 1) }
+            ∷ [];
+      }
   -- "a listing 11 if a ≥ b, else 15 if the output is shorter than the book's runs, else 0, their number, and an output that begins
   -- with them and keeps the rest".
   pub listing-11 :

@@ -37,7 +37,7 @@ use Rattle.calls.specs.Tables.{judge-cases, book-cases, instant-cases, l
 use Rattle.calls.proofs.Reflects.{Reflects, passes, fails, fails-by, restated, is-less, is-most, is-equal, is-true, is-false, is-not, is-above}
 use Rattle.calls.proofs.Reflects.{is-least, both, either-fails, chosen, other}
 use Rattle.calls.proofs.Cases.{Tested, no-row, next-row, third-case}
-use Rattle.calls.proofs.Judged.{by-judge, judged-own, judged-part, judge-then, goes-on, judge-passes}
+use Rattle.calls.proofs.Judged.{by-judge, judged-part, judge-then, judge-passes}
 
 -- ---- each row's test
 

@@ -106,8 +106,12 @@ pub record Rebuild-cases : Type 0 where
   pub target-empty : rebuilds worn [] ≡ refused 16 [] 0
   pub source-21 : rebuilds hurt (target 2 ++ (9 ∷ [])) ≡ refused 21 (target 2 ++ (9 ∷ [])) 0
   pub target-unread : rebuilds worn (patch (target 2) 36 (5 ∷ 0 ∷ 0 ∷ 0 ∷ [])) .status ≡ 0
-  -- 17, 16 and a bad capacity of the source: the scratch is untouched
+  -- 17, 16 and a bad capacity of the source, and one too short to name any: the scratch is untouched
   pub source-17 : index-rebuild worn (target 2) [] ≡ record { status = 17; target = target 2; scratch = [] }
+  pub source-17-kept :
+      index-rebuild (index-format 1 0 4 (replicate (112 * 9) 0) .image) [] (7 ∷ [])
+      ≡ record { status = 17; target = []; scratch = 7 ∷ [] }
+  pub source-none : rebuilds [] (target 2) ≡ refused 16 (target 2) 7
   pub source-16 : rebuilds (worn ++ (255 ∷ [])) [] ≡ refused 16 [] 7
   pub bad-capacity : rebuilds (patch worn 36 (5 ∷ [])) [] ≡ refused 21 [] 7
   -- a byte of scratch for each page, as before (vi), is more than there is

@@ -12,14 +12,14 @@ use Rattle.calls.specs.Refusals.{first, borrowed, scratch-ok}
 use Rattle.calls.specs.Changes.{entering, withdrawing, Change}
 use Rattle.calls.specs.Calls.{Booked, head}
 use Rattle.calls.specs.Index.{index-book}
+use Rattle.calls.specs.CallCases.{fresh-image, before-image, after-one, after-two, after-three, greatest-one}
+use Rattle.calls.proofs.Opened.{every-call}
 use Rattle.book.specs.Book.{empty-book, entered, items-pair, book-pair, runs-after, runs-of, listing-of}
-use Rattle.claims.specs.Trace.{Step, kept, accepted, Trace, formatted, formatted-before, extended, rebuilt, Throughout, change-made}
-use Rattle.claims.specs.Demands.{fixed-status, rebuild-of, Booking, couples, Reordered, same, next, swap, then, Same-changes}
 use Rattle.book.specs.BookCases.{one, windowed}
 use Rattle.book.specs.AggregateCases.{entry, withdrawal}
-use Rattle.calls.specs.CallCases.{fresh-image, before-image, after-one, after-two, after-three, greatest-one}
+use Rattle.claims.specs.Trace.{Step, kept, accepted, Trace, formatted, formatted-before, extended, rebuilt, Throughout, change-made}
+use Rattle.claims.specs.Demands.{fixed-status, rebuild-of, Booking, couples, Reordered, same, next, swap, then, Same-changes}
 use Rattle.claims.specs.ListCases.{three-changes, greatest-book, struck, struck-too, roomier, withdrawn-there, after-season, List-cases}
-use Rattle.calls.proofs.Opened.{every-call}
 use Rattle.claims.proofs.Steps.{stayed, steps}
 
 -- a day of calls: behind the first booking one that is refused, a format that is refused and a reading call

@@ -1,6 +1,6 @@
--- The three demands, over the calls as Index.antt defines them, at every capacity, and the lists that Trace.antt makes of them: what each
--- function of the index promises is that it does what its definition there does, so what holds of the definitions holds of the index.
--- Assumes nothing.
+-- The three demands, over the calls as Index.antt of `calls` defines them, at every capacity, and the lists that Trace.antt makes of them:
+-- what each function of the index promises is that it does what its definition there does, so what holds of the definitions holds of the
+-- index. Assumes nothing.
 use Prim.Native.Nat.{ℕ, _≤_, _<_}
 use mathlib.Core.Path.{_≡_}
 use mathlib.Core.Logic.{_≢_, _⊎_}
@@ -25,16 +25,16 @@ use Rattle.calls.specs.Index.{index-format, index-book, index-instant, index-av
 use Rattle.calls.specs.Tables.{Turned-back}
 use Rattle.calls.specs.Scratch.{Left-at, Left-by-rebuild}
 use Rattle.book.specs.Book.{Book, entered, book-of, book-pair, runs-of, listing-of}
-use Rattle.claims.specs.Trace.{Trace, Throughout, change-made, Steps}
 use Rattle.book.specs.Aggregate.{aggregate, Matched, live-from}
+use Rattle.claims.specs.Trace.{Trace, Throughout, change-made, Steps}
 use Rattle.claims.specs.Accepted.{Every-change}
 use Rattle.claims.specs.Until.{Until-when}
 use Rattle.claims.specs.Rebuild.{Every-rebuild}
 
 -- Demand 1. "A caller may hand any public call any image, span, value or output buffer, unchecked; the call returns, and what
 -- document 01 turns back is refused by its number there, with image and output as before." That a call returns is part of every
--- function's proof; that its status is that of the first row that turns it back is `Turned-back` (Tables.antt). What is left to say:
--- "A refusal returns its number and zeros (instant: the pages read too). Image and output keep their bytes".
+-- function's proof; that its status is that of the first row that turns it back is `Turned-back` (Tables.antt of `calls`). What is left to
+-- say: "A refusal returns its number and zeros (instant: the pages read too). Image and output keep their bytes".
 pub record Demand-1 : Type 0 where
   pub of-format :
       (kind window k : ℕ) (img : List ℕ) → index-format kind window k img .status ≢ 0 → index-format kind window k img .image ≡ img

@@ -13,10 +13,10 @@ use Rattle.calls.specs.Changes.{entering, withdrawing, Change}
 use Rattle.calls.specs.Index.{index-format, index-instant, index-average, index-listing, index-audit, index-rebuild}
 use Rattle.calls.specs.CallCases.{fresh-image, before-image, enters, withdraws, after-one, after-two, after-three, greatest-one}
 use Rattle.book.specs.Book.{Book, empty-book, entered}
-use Rattle.claims.specs.Trace.{Step, Trace, Throughout, change-made}
-use Rattle.claims.specs.Demands.{fixed-status, rebuild-of, As-the-book, Booking, couples, Same-changes, The-demands}
 use Rattle.book.specs.BookCases.{one, windowed, listed-30-41}
 use Rattle.book.specs.AggregateCases.{entry, withdrawal}
+use Rattle.claims.specs.Trace.{Step, Trace, Throughout, change-made}
+use Rattle.claims.specs.Demands.{fixed-status, rebuild-of, As-the-book, Booking, couples, Same-changes, The-demands}
 
 -- a rebuild with scratch enough, into so many pages of some other content
 abbrev pub rebuilt-into : ℕ → List ℕ → List ℕ

@@ -1,5 +1,5 @@
 -- Document 02, (iii): what an accepted rebuild leaves in its target, whichever image the source is, with a list from a format or without.
--- Every byte of it is a definition (`rebuilt-bytes`, Calls.antt); here is what that means. Assumes nothing.
+-- Every byte of it is a definition (`rebuilt-bytes`, Calls.antt of `calls`); here is what that means. Assumes nothing.
 use Prim.Native.Nat.{ℕ, suc, _+_, _≤_, _<_}
 use mathlib.Core.Path.{_≡_}
 use mathlib.Core.Bool.{true}

@@ -10,8 +10,8 @@ use mathlib.Core.Bool.{cond}
 use mathlib.Core.List.{List, [], _∷_, _++_}
 use lib.Dec.{eqb}
 use lib.IntN.{ℤ}
-use Rattle.calls.specs.Changes.{Side, Change}
 use Rattle.page.specs.Layout.{no-field, capacity-named}
+use Rattle.calls.specs.Changes.{Side, Change}
 use Rattle.calls.specs.Index.{index-format, format-before, index-book, index-rebuild}
 
 -- One call on an image: the image before it, the changes that it made, the image that it left. A call that only reads keeps the image,

@@ -68,5 +68,5 @@ cases =
       instant-right = refl;
       instant-root = refl;
       apart = refl;
-      alike = refl;
+      alike = (refl, refl);
     }

@@ -172,8 +172,9 @@ pub record Cases : Type 0 where
   pub instant-left : pages-of (instant-trail 2 14 (hurt 2 whole)) ≡ 3 ∷ 1 ∷ []
   pub instant-right : pages-of (instant-trail 2 15 (hurt 1 whole)) ≡ 3 ∷ 2 ∷ []
   pub instant-root : pages-of (instant-trail 2 15 (hurt 3 whole)) ≡ 3 ∷ []
-  -- Neighbours differ in their sum or in their count; two that are alike may stand apart.
+  -- Neighbours differ in their sum or in their count, and not by their starts; two that are alike may stand apart.
   pub apart : map differing ([] ∷ ((1, 1) ∷ []) ∷ ((1, 1) ∷ (2, 1) ∷ (1, 1) ∷ []) ∷ ((1, 1) ∷ (1, 2) ∷ []) ∷ []) ≡ true ∷ true ∷ true ∷ true ∷ []
   pub alike :
-      map differing (((1, 1) ∷ (1, 1) ∷ []) ∷ ((1, 1) ∷ (1, 1) ∷ (2, 1) ∷ []) ∷ ((2, 1) ∷ (1, 1) ∷ (1, 1) ∷ []) ∷ [])
-      ≡ false ∷ false ∷ false ∷ []
+      (map differing (((1, 1) ∷ (1, 1) ∷ []) ∷ ((1, 1) ∷ (1, 1) ∷ (2, 1) ∷ []) ∷ ((2, 1) ∷ (1, 1) ∷ (1, 1) ∷ []) ∷ [])
+      ≡ false ∷ false ∷ false ∷ [])
+      × (neighbours-differ (run 0 none ∷ run 10 none ∷ []) ≡ false)

@@ -4,7 +4,7 @@ use mathlib.Core.Path.{_≡_, refl, sym, ap, _∙_}
 use mathlib.Core.Bool.{false, cond}
 use mathlib.Core.List.{List, [], _∷_}
 use Prim.Native.Nat.{ℕ, zero, suc, _+_, _*_, _≤_, _<_}
-use native.Mathlib.Nat.{add-zero, zero-add, mul-add}
+use native.Mathlib.Nat.{add-zero, mul-add}
 use native.Mathlib.Omega.{arith}
 use native.Mathlib.Decide.{ℕ-discrete, decLe, decLt}
 use lib.ListN.{length, getD}
@@ -142,13 +142,6 @@ total-from p m zero = omega (arith, ap (λ k. from k p) (add-zero m))
 total-from p m (suc n) =
     let e : m + suc n ≡ suc (m + n) = omega arith in
     omega (arith, total-from p m n, hit-from p (m + n), ap (λ k. from k p) e)
-
--- p lies below m, or it is m or more
-pub total-or-from : (p m : ℕ) → total m (hit p) + from m p ≡ 1
-total-or-from p m =
-    (λ j. total m (λ i. hit p (sym (zero-add i) j)) + from (sym (zero-add m) j) p)
-    ∙ total-from p 0 m
-    ∙ ap (λ t. cond t 1 0) (leb·zero p)
 
 -- ---- spans one after the other
 

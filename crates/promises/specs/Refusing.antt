@@ -34,7 +34,8 @@ pub record Refusing : Type 0 where
       (a b : ℕ) (img out : List ℕ) (r : ListingAnswer) (after : List ℕ) → Lists a b img out r after → r .status ≢ 0
       → (after ≡ out) × (r .runs ≡ 0)
   pub of-audit : (img scratch : List ℕ) (r : ℕ) (left : List ℕ) → Audits img scratch r left → Left-at img scratch r left
-  -- document 02, (iii): the target keeps its bytes, and what is left of the scratch goes by the source: "then 16 of the target (scratch 0)"
+  -- document 02, (iii): the target keeps its bytes, and what is left of the scratch goes by source and scratch: "then 16 of the target
+  -- (scratch 0)"
   pub of-rebuild :
       (source target scratch : List ℕ) (r : ℕ) (after left : List ℕ) → Rebuilds source target scratch r after left
       → (r ≢ 0 → after ≡ target) × Left-by-rebuild source scratch left

@@ -23,17 +23,17 @@ ghost use Rattle.rebuild.specs.Rebuild.{Rebuildable};
 
 // "the chain is empty, the high mark follows the last page used; kind, window and changes are kept", h being the source's head. "A rebuild
 // keeps K .. and writes the field".
-fn tight_head(half: usize, pages: u32, size: TreeSize, h: Head) -> Head
-    requires { ⌜ (half ≤ 12) × (size .pages < 4294967295) ⌝ }
-    ensures { λ r. ⌜ r ≡ tight-head half pages (h .kind) (h .window) (h .changes) (size .pages) (size .height) ⌝ }
+fn tight_head(half: usize, pages: u32, tree: TreeSize, h: Head) -> Head
+    requires { ⌜ (half ≤ 12) × (tree .pages < 4294967295) ⌝ }
+    ensures { λ r. ⌜ r ≡ tight-head half pages (h .kind) (h .window) (h .changes) (tree .pages) (tree .height) ⌝ }
 {
     Head {
         pages,
-        height: size.height,
-        root: size.pages,
+        height: tree.height,
+        root: tree.pages,
         free: 0,
         chain: 0,
-        mark: size.pages + 1,
+        mark: tree.pages + 1,
         kind: h.kind,
         window: h.window,
         changes: h.changes,
@@ -42,7 +42,7 @@ fn tight_head(half: usize, pages: u32, size: TreeSize, h: Head) -> Head
 }
 
 // Writes FF behind the last page used, "From the high mark on, pages are all FF", and then the head over the front of the listing. The head
-// comes last: as long as the listing stands there, a fit head doesn't, since its first number, the start 0, is no number of pages.
+// comes last: until it is begun no fit head stands there, since the listing's first number, the start 0, is no number of pages.
 fn write_ends(half: usize, img: &mut [u8], h: Head)
     requires { ⌜ (1 ≤ half) × (half ≤ 12) × (1 ≤ h .mark) × (page-size half * h .mark ≤ length (now img)) ⌝ }
     ensures { λ _. ⌜ now (img .exit)
@@ -64,13 +64,13 @@ pub fn write_tight(
     h: Head,
     target: &mut [u8],
     runs: u32,
-    size: TreeSize,
+    tree: TreeSize,
 )
-    requires { ⌜ Rebuildable half (now source) h (now target) runs × (size ≡ tree-size half runs) ⌝ }
+    requires { ⌜ Rebuildable half (now source) h (now target) runs × (tree ≡ tree-size half runs) ⌝ }
     ensures { λ _. ⌜ now (target .exit) ≡ rebuilt-bytes half (now (source .entry)) (pages-in half (now (target .entry))) ⌝ }
 {
     write_runs(half, source, h, 0, END, target);
     write_tree(half, target, runs);
     let pages = page_count(half, target) as u32;
-    write_ends(half, target, tight_head(half, pages, size, h));
+    write_ends(half, target, tight_head(half, pages, tree, h));
 }

@@ -24,10 +24,10 @@ pub fn fill_target(half: usize, source: &[u8], target: &mut [u8]) -> bool
         return false;
     };
     let runs = count_known_runs(half, source, h, 0, END);
-    let size = tree_size(half, runs);
-    if page_count(half, target) <= size.pages as usize {
+    let tree = tree_size(half, runs);
+    if page_count(half, target) <= tree.pages as usize {
         return false;
     }
-    write_tight(half, source, h, target, runs, size);
+    write_tight(half, source, h, target, runs, tree);
     true
 }

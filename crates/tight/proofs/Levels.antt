@@ -114,10 +114,6 @@ module _ (half most m : ℕ) where
   sizes-more many = rw (lt-leb (pages-for half m) 1 many)
 
 module _ (half most level first : ℕ) (es : List Entry) where
-  pub cells-one : pages-for half (length es) ≤ 1 → cells half (suc most) level first es ≡ level-cells half level es ++ []
-  unfolding cells
-  cells-one few = rw (le-leb (pages-for half (length es)) 1 few)
-
   pub cells-more : 2 ≤ pages-for half (length es)
       → cells half (suc most) level first es
       ≡ level-cells half level es ++ cells half most (suc level) (first + pages-for half (length es)) (entries-above half first es)

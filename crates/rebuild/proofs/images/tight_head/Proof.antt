@@ -8,14 +8,14 @@ returns : tie.Need-returns
 returns c =
     let args = c .before .before .args in
     let h = args .h in
-    let size = args .size in
+    let tree = args .tree in
     λ j. record {
       pages = args .pages;
-      height = size .height;
-      root = size .pages;
+      height = tree .height;
+      root = tree .pages;
       free = 0;
       chain = 0;
-      mark = add-one (size .pages) j;
+      mark = add-one (tree .pages) j;
       kind = h .kind;
       window = h .window;
       changes = h .changes;

@@ -1,6 +1,6 @@
 -- `rebuild::images::write_tight` meets its contract: the runs at the front, the tree, head and unused bytes are the tight image. Assumes
 -- nothing.
-use Prim.Native.Nat.{suc, _*_, _-_, _/_}
+use Prim.Native.Nat.{suc, _*_, _/_}
 use mathlib.Core.Path.{_≡_, ap, _∙_}
 use native.Mathlib.Omega.{arith}
 use lib.ListN.{length}

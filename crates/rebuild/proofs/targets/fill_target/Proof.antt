@@ -1,11 +1,11 @@
 -- `rebuild::targets::fill_target` meets its contract: a law for each way out. Assumes nothing.
-use Prim.Native.Nat.{_≤_, _<_}
+use Prim.Native.Nat.{_<_}
 use mathlib.Core.Path.{_≡_, sym, ap, _∙_}
 use mathlib.Core.Bool.{true}
 use native.Mathlib.Omega.{arith}
 use lib.ListN.{length}
 use borrow.Author.Needs.{needs}
-use Rattle.image.specs.Images.{pages-in, length-ok}
+use Rattle.image.specs.Images.{pages-in}
 use Rattle.image.specs.Sound.{sound}
 use Rattle.soundness.proofs.Sound.{sound-whole}
 use Rattle.tight.specs.Tight.{pages-used}
