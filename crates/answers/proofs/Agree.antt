@@ -19,7 +19,8 @@ use Rattle.image.specs.Listing.{Run, walk-over}
 use Rattle.calls.specs.Refusals.{first}
 use Rattle.calls.specs.Calls.{head-ok, instant, Listed, runs-over, too-short, written, listing-status, listing}
 use Rattle.book.specs.Book.{runs-of, listing-of}
-use Rattle.answers.proofs.Tiles.{Tiles, tiles-at, join-tiles, runs-of-same}
+use Rattle.image.proofs.Tiles.{Tiles, tiles-at}
+use Rattle.answers.proofs.Tiles.{join-tiles, runs-of-same}
 use Rattle.answers.proofs.Look.{Found, half-some}
 use Rattle.answers.proofs.Walk.{within, walk-top, walk-tiles}
 use Rattle.answers.proofs.Calls.{Answered, instant-pair}

@@ -9,17 +9,18 @@ use Rattle.lists.specs.Lists.{All}
 use Rattle.rule.specs.Time.{END}
 use Rattle.page.specs.Fit.{root-context}
 use Rattle.fit.proofs.Laws.Pages.{Paired}
-use Rattle.image.specs.Sound.{sound}
+use Rattle.image.specs.Sound.{sound-before}
 use Rattle.image.specs.Instant.{look-up}
 use Rattle.image.specs.Listing.{Run}
 use Rattle.calls.specs.Calls.{head, full-runs}
 use Rattle.book.specs.Book.{runs-of}
-use Rattle.answers.proofs.Tiles.{Tiles, tiles-of-runs, tiles-all}
+use Rattle.image.proofs.Tiles.{Tiles}
+use Rattle.answers.proofs.Tiles.{tiles-of-runs, tiles-all}
 use Rattle.answers.proofs.Agree.{runs-agree}
 use Rattle.answers.proofs.Sound.{sound-walk, sound-answered}
 use Rattle.answers.proofs.Demand.{look-up-paired}
 
-module _ (half : ℕ) (img : List ℕ) (fits : sound half img ≡ true) where
+module _ (half : ℕ) (img : List ℕ) (fits : sound-before half img ≡ true) where
   pub full-is : full-runs half img ≡ runs-of (λ t. look-up half img t .pair) 0 END
   unfolding full-runs
   full-is = runs-agree half img 0 END (record { before = omega arith; within = omega arith }) (sound-walk half img fits 0 END)

@@ -11,7 +11,7 @@ use lib.IntN.{ℤ}
 use borrow.Author.Tests.{le-ltb}
 use Rattle.page.specs.Layout.{page-size}
 use Rattle.image.specs.Images.{half-of, pages-in, page-at}
-use Rattle.image.specs.Sound.{sound}
+use Rattle.image.specs.Sound.{sound-before}
 use Rattle.image.proofs.Sizes.{sized}
 use Rattle.image.proofs.Capacity.{Half, own-half, fit-half}
 use Rattle.soundness.proofs.Sound.{sound-whole, sound-facts}
@@ -26,7 +26,7 @@ pub record Own (half : ℕ) (img : List ℕ) : Type 0 where
   pub named : Half half img
   pub passes : judge img ≡ 0
 
-pub sound-own : (half : ℕ) (img : List ℕ) → sound half img ≡ true → Own half img
+pub sound-own : (half : ℕ) (img : List ℕ) → sound-before half img ≡ true → Own half img
 unfolding names-capacity
 sound-own half img fits =
     let z = sized half img (sound-whole half img fits) in

@@ -7,7 +7,7 @@ use Rattle.rule.specs.Time.{END}
 use Rattle.page.specs.declared.Head.{Head}
 use Rattle.page.specs.Fit.{root-context}
 use Rattle.image.specs.Images.{page-at}
-use Rattle.image.specs.Sound.{sound}
+use Rattle.image.specs.Sound.{sound-before}
 use Rattle.image.specs.Instant.{look-up}
 use Rattle.image.specs.Listing.{walk-over}
 use Rattle.calls.specs.Calls.{head-ok, instant, listing}
@@ -19,7 +19,7 @@ use Rattle.answers.proofs.Walk.{walk-fit}
 use Rattle.answers.proofs.Calls.{Answered, answers, instant-pair}
 use Rattle.answers.proofs.Agree.{listing-answered}
 
-module _ (half : ℕ) (img : List ℕ) (fits : sound half img ≡ true) where
+module _ (half : ℕ) (img : List ℕ) (fits : sound-before half img ≡ true) where
   pub sound-head : head-ok half img ≡ true
   unfolding head-ok
   sound-head = sound-facts half img fits .fit .head-fits

@@ -1,4 +1,4 @@
--- Runs that tile a span, and what they come to when joined: the runs of the span's instants. Assumes nothing.
+-- What runs that tile a span come to when joined: the runs of the span's instants. Assumes nothing.
 use Prim.Native.Nat.{ℕ, zero, suc, _+_, _-_, _≤_, _<_}
 use mathlib.Core.Path.{_≡_, refl, sym, ap, _∙_, subst, subst⁻¹}
 use mathlib.Core.Bool.{Bool, true, false, cond}
@@ -10,47 +10,8 @@ use Rattle.rule.specs.declared.Pair.{Pair}
 use Rattle.rule.specs.Pairs.{same-pair}
 use Rattle.rule.proofs.Laws.{same-pair-is}
 use Rattle.image.specs.Listing.{Run, join-after, join}
+use Rattle.image.proofs.Tiles.{Tiles, done, more, tiles-one, tiles-le}
 use Rattle.book.specs.Book.{runs-after, runs-of}
-
--- The runs of [a, b): the first starts at a, each ends where the next one starts and the last at b, and every instant of a run has its pair
--- by Q.
-pub data Tiles (Q : ℕ → Pair → Type 0) : ℕ → ℕ → List Run → Type 0 where
-  done : {a : ℕ} → Tiles Q a a []
-  more : {a m b : ℕ} {r : Run} {rs : List Run} → r .start ≡ a → a < m → ((t : ℕ) → a ≤ t → t < m → Q t (r .pair)) → Tiles Q m b rs
-      → Tiles Q a b (r ∷ rs)
-
-module _ {Q : ℕ → Pair → Type 0} where
-  pub tiles-none : {a b : ℕ} → a ≡ b → Tiles Q a b []
-  tiles-none {a} {b} e = subst (λ (x : ℕ). Tiles Q a x []) e done
-
-  pub tiles-one : {a b : ℕ} {r : Run} → r .start ≡ a → a < b → ((t : ℕ) → a ≤ t → t < b → Q t (r .pair)) → Tiles Q a b (r ∷ [])
-  tiles-one s l q = more s l q done
-
-  pub tiles-append : {a m b : ℕ} {xs ys : List Run} → Tiles Q a m xs → Tiles Q m b ys → Tiles Q a b (xs ++ ys)
-  tiles-append done v = v
-  tiles-append (more s l q u) v = more s l q (tiles-append u v)
-
-  pub tiles-le : {a b : ℕ} {rs : List Run} → Tiles Q a b rs → a ≤ b
-  tiles-le done = omega arith
-  tiles-le (more s l q u) = let k = tiles-le u in omega arith
-
-  -- every instant of the span is in a run
-  pub tiles-at : {a b : ℕ} {rs : List Run} → Tiles Q a b rs → (t : ℕ) → a ≤ t → t < b → (p : Pair) × Q t p
-  tiles-at done t l g = absurd (omega arith)
-  tiles-at (more {m = m} {b = b} {r = r} s k q u) t l g = here (decLt t m) (tiles-at u t)
-    where
-      here : Dec (t < m) → (m ≤ t → t < b → (p : Pair) × Q t p) → (p : Pair) × Q t p
-      here (yes c) rest = (r .pair, q t l c)
-      here (no c) rest = rest (omega arith) g
-
-  -- another pair at each instant
-  pub tiles-map : {R : ℕ → Pair → Type 0} (g : Pair → Pair) {a b : ℕ} {rs : List Run} → Tiles Q a b rs
-      → ((t : ℕ) (p : Pair) → a ≤ t → t < b → Q t p → R t (g p))
-      → Tiles R a b (map (λ r. record { start = r .start; pair = g (r .pair) }) rs)
-  tiles-map g done f = done
-  tiles-map g (more s l q u) f =
-      let k = tiles-le u in
-      more s l (λ t x y. f t _ x (omega arith) (q t x y)) (tiles-map g u (λ t p x y. f t p (omega arith) y))
 
 -- ---- the runs of instants
 

@@ -22,7 +22,7 @@ use Rattle.image.specs.Listing.{Walked, nothing, stopped, then, in-turn, under,
 use Rattle.fit.proofs.Laws.Spans.{bound, bound-next, bound-in, bound-past, bound-rises, found-only}
 use Rattle.soundness.proofs.Tree.{tree-parts}
 use Rattle.fit.proofs.Laws.Pages.{PageFit, page-fit-is}
-use Rattle.answers.proofs.Tiles.{Tiles, done, tiles-none, tiles-one, tiles-append, tiles-map}
+use Rattle.image.proofs.Tiles.{Tiles, done, tiles-none, tiles-one, tiles-append, tiles-map}
 use Rattle.answers.proofs.Look.{Found, found-leaf, found-inner}
 
 -- the instant of [a, b] nearest to x

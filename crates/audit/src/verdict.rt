@@ -1,4 +1,4 @@
-// Is an image sound?
+// Is an image sound, by document 01's rule?
 use super::PageCount;
 use super::free::chain_ends;
 use super::unused::never_used;
@@ -10,7 +10,7 @@ ghost use mathlib.Core.Bool.{true};
 ghost use Prim.Native.Nat.{_+_, _*_, _-_, _≤_};
 ghost use lib.Dec.{eqb};
 ghost use Rattle.image.specs.Images.{length-ok};
-ghost use Rattle.image.specs.Sound.{sound};
+ghost use Rattle.image.specs.Sound.{sound-before};
 
 // Whether tree and chain have as many pages as lie below the high mark but the head: any number may stand as the chain's length.
 fn adds_up(tree: u32, chain: u32, mark: u32) -> bool
@@ -23,9 +23,9 @@ fn adds_up(tree: u32, chain: u32, mark: u32) -> bool
 // "An image is sound if head and all tree pages are fit, each page below the high mark except 0 is once in the tree or once in
 // the chain, the chain length is true, and free and never used pages read as above." A sound image's length is in range too, which
 // every call has tested (16) before this.
-pub fn sound(half: usize, img: &[u8]) -> bool
+pub fn sound_before(half: usize, img: &[u8]) -> bool
     requires { ⌜ (2 ≤ half) × (half ≤ 12) × (length-ok half (now img) ≡ true) ⌝ }
-    ensures { λ r. ⌜ r ≡ sound half (now (img .entry)) ⌝ }
+    ensures { λ r. ⌜ r ≡ sound-before half (now (img .entry)) ⌝ }
 {
     let HeadCheck::Fit(h) = open_head(half, img) else {
         return false;

@@ -1,11 +1,11 @@
 // "Turned back by the state": the rows that need the whole image.
 use crate::StateCheck;
 use access::pages::page_at;
-use audit::verdict::sound;
 use calls::refusals::CHANGES_FULL;
 use calls::refusals::PAGES_LACKING;
 use calls::refusals::UNSOUND;
 use calls::refusals::WITHDRAWAL_KIND;
+use neighbours::verdict::sound;
 use page::heads::read_head;
 use page_need::verdict::lacks_pages;
 use rule::limits::MOST_CHANGES;

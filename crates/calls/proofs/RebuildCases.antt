@@ -8,6 +8,11 @@ unfolding every-call worn-cell worn-by worn worn-five hurt target
 rebuild-cases =
     record {
       worn-sound = (refl, refl);
+      worn-changed = refl;
+      worn-audited = refl;
+      worn-answers = (refl, refl, refl);
+      worn-mended = refl;
+      five-sound = (refl, refl);
       worn-runs = refl;
       worn-status = (refl, refl);
       worn-head = refl;

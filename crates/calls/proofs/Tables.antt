@@ -15,7 +15,7 @@ use Rattle.page.specs.declared.Head.{Head}
 use Rattle.page.specs.Layout.{capacity-ok, no-field, capacity-named, page-size, head-of}
 use Rattle.page.specs.Fit.{head-fit}
 use Rattle.image.specs.Images.{Image, capacity-field, half-of, page-at, pages-in, length-ok, image-of}
-use Rattle.image.specs.Sound.{sound}
+use Rattle.image.specs.Sound.{sound-before, sound}
 use Rattle.image.specs.Instant.{look-up}
 use Rattle.image.specs.Listing.{walk-over, join}
 use Rattle.image.specs.Trail.{Visit, finds-fit, all-fit, instant-trail, listing-trail}
@@ -183,7 +183,7 @@ module _ (half : ℕ) where
   rebuild-tested short source target scratch =
       (next-row 16 (is-not (whole-pages half source))
       (next-row 17 (short .reflects (pages-in half source) scratch)
-      (next-row 21 (is-false (sound half source))
+      (next-row 21 (is-false (sound-before half source))
       (next-row 16 (is-not (whole-pages half target))
       (next-row 24 (small-target half source target) no-row))))) .exactly
 

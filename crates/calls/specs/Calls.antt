@@ -20,7 +20,7 @@ use Rattle.page.specs.Layout.{head-of}
 use Rattle.lists.specs.Lists.{concat-map}
 use Rattle.page.specs.Fit.{head-fit, most-changes}
 use Rattle.image.specs.Images.{page-at, pages-in, length-ok, image-of, image-bytes, fresh}
-use Rattle.image.specs.Sound.{sound}
+use Rattle.image.specs.Sound.{sound-before, sound}
 use Rattle.image.specs.Instant.{look-up}
 use Rattle.image.specs.Listing.{Run, walk-over, join, run-bytes}
 use Rattle.tight.specs.Tight.{tight, too-small}
@@ -225,7 +225,7 @@ rebuilt-bytes half source pages =
 -- the target its length alone is looked at.
 abbrev pub rebuild-state-rows : ℕ → List ℕ → List ℕ → List Row
 rebuild-state-rows half source target =
-    (21, not (sound half source))
+    (21, not (sound-before half source))
     ∷ (16, not (length-ok half target))
     ∷ (24, too-small half (pages-in half target) (length (full-runs half source)))
     ∷ []

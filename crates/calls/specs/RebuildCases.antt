@@ -1,7 +1,7 @@
 -- Cases of a rebuild that compute, worked out by hand, on pages of four entries (half of which is 2). Assumes nothing.
 use Prim.Native.Nat.{ℕ, _*_, _+_}
 use mathlib.Core.Path.{_≡_}
-use mathlib.Core.Bool.{true, cond}
+use mathlib.Core.Bool.{true, false, cond}
 use mathlib.Core.List.{List, [], _∷_, _++_, map}
 use lib.ListN.{replicate}
 use lib.IntN.{pos, negsuc}
@@ -12,10 +12,12 @@ use Rattle.fields.specs.Bytes.{patch}
 use Rattle.page.specs.Entries.{entry}
 use Rattle.page.specs.Layout.{head-of, entries-of}
 use Rattle.image.specs.Images.{Cell, tree, free, never-used, page-at, image-bytes}
-use Rattle.image.specs.Sound.{sound}
+use Rattle.image.specs.Sound.{sound-before, sound}
 use Rattle.image.specs.Listing.{run}
 use Rattle.calls.specs.Calls.{Rebuilt, full-runs}
-use Rattle.calls.specs.Index.{index-format, format-before, index-rebuild, index-rebuild-bytewise}
+use Rattle.calls.specs.Changes.{entering}
+use Rattle.calls.specs.Index.{index-format, format-before, index-book, index-instant, index-listing, index-audit, index-rebuild}
+use Rattle.calls.specs.Index.{index-rebuild-bytewise}
 
 -- A worn image of seven pages, of kind 1, window 7, after 9 changes: two leaves below the root on page 3, pages 5 and 4 in the chain. With
 -- the pair named at 15 the totals of its leaf entries are (0, 0), (6, 2), that pair, (6, 1) and (0, 0).
@@ -71,7 +73,17 @@ abbrev pub refused : ℕ → List ℕ → ℕ → Rebuilt
 refused number into byte = record { status = number; target = into; scratch = byte ∷ 7 ∷ [] }
 
 pub record Rebuild-cases : Type 0 where
-  pub worn-sound : (sound 2 worn ≡ true) × (sound 2 worn-five ≡ true)
+  -- The totals at 10 and at 15 are the same where a page ends, as document 01's heal left them: sound by its rule, and not by document 02's,
+  -- (iv). "Older images that break this get 21 on change and pass through the rebuild"; an instant and a listing answer.
+  pub worn-sound : (sound-before 2 worn ≡ true) × (sound 2 worn ≡ false)
+  pub worn-changed : index-book entering (pos 1) 20 30 worn (7 ∷ 7 ∷ []) ≡ record { status = 21; image = worn; scratch = 0 ∷ 7 ∷ [] }
+  pub worn-audited : index-audit worn (7 ∷ 7 ∷ []) ≡ record { status = 21; scratch = 0 ∷ 7 ∷ [] }
+  pub worn-answers :
+      (index-instant 15 worn .status ≡ 0)
+      × (index-instant 15 worn .pair ≡ pair (pos 6) (pos 2))
+      × (index-listing 5 12 worn (replicate 32 0) .runs ≡ 2)
+  pub worn-mended : sound 2 (rebuilds worn (target 2) .target) ≡ true
+  pub five-sound : (sound-before 2 worn-five ≡ true) × (sound 2 worn-five ≡ true)
   pub worn-runs :
       full-runs 2 worn ≡ run 0 none ∷ run 10 (pair (pos 6) (pos 2)) ∷ run 20 (pair (pos 6) (pos 1)) ∷ run 25 none ∷ []
   -- Four runs fill one page, so two pages are enough: n is the target's, kind, window and changes are the source's.

@@ -14,7 +14,7 @@ use Rattle.page.specs.declared.Head.{Head}
 use Rattle.page.specs.Layout.{page-size, head-of}
 use Rattle.page.specs.Fit.{head-fit}
 use Rattle.image.specs.Images.{Image, half-of, page-at, pages-in, image-of}
-use Rattle.image.specs.Sound.{sound}
+use Rattle.image.specs.Sound.{sound-before, sound}
 use Rattle.image.specs.Listing.{walk-over, join}
 use Rattle.image.specs.Trail.{Visit, finds-fit, Ends-unfit, instant-trail, listing-trail}
 use Rattle.tight.specs.Tight.{pages-used}
@@ -149,7 +149,7 @@ module _ (half : ℕ) where
   rebuild-cases Short source target scratch =
       (16 when ¬ Whole-pages half source)
       ∷ (17 when Short (pages-in half source) scratch)
-      ∷ (21 when sound half source ≡ false)
+      ∷ (21 when sound-before half source ≡ false)
       ∷ (16 when ¬ Whole-pages half target)
       ∷ (24 when Too-small half source target)
       ∷ []

@@ -4,4 +4,5 @@ pub mod Accepted
 pub mod Rebuild
 pub mod Trace
 pub mod Demands
+pub mod Neighbours
 pub mod ListCases

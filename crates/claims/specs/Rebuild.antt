@@ -9,7 +9,7 @@ use Rattle.rule.specs.Time.{END}
 use Rattle.fields.specs.Bytes.{Bytes}
 use Rattle.page.specs.Layout.{capacity}
 use Rattle.image.specs.Images.{capacity-field, half-of, pages-in}
-use Rattle.image.specs.Sound.{sound}
+use Rattle.image.specs.Sound.{sound-before, sound}
 use Rattle.image.specs.Listing.{walk-over, neighbours-differ}
 use Rattle.tight.specs.Tight.{sizes, pages-used}
 use Rattle.tight.specs.Counts.{pages-on}
@@ -60,7 +60,7 @@ pub record Rebuilt-from (source target img : List ℕ) : Type 0 where
   pub neighbours : neighbours-differ (walk-over (half-of source) img 0 END .runs) ≡ true
   pub fewest :
       (other : List ℕ)
-      → sound (half-of source) other ≡ true
+      → sound-before (half-of source) other ≡ true
       → full-runs (half-of source) other ≡ full-runs (half-of source) source
       → No-fewer source img other
 
@@ -74,7 +74,7 @@ pub record Every-rebuild : Type 0 where
   pub of-24 :
       (source target scratch other : List ℕ)
       → index-rebuild source target scratch .status ≡ 24
-      → sound (half-of source) other ≡ true
+      → sound-before (half-of source) other ≡ true
       → full-runs (half-of source) other ≡ full-runs (half-of source) source
       → pages-in (half-of source) target + head (half-of source) other .chain < head (half-of source) other .mark
   -- The source is one of them: as many pages as it uses are always enough, and so are as many as it has.

@@ -1,5 +1,6 @@
 -- Document 02, (viii), "Tell until when a total holds": what the start and the end of an instant's answer say, and that all else in it is
--- what it was before. They are the leaf entry's: the total may have held before, and may hold for longer. Assumes nothing.
+-- what it was before. They are the leaf entry's. For kinds 2 and 3, and in images of kind 1 from before request (iv), the total may have held
+-- before and may hold for longer. Assumes nothing.
 use Prim.Native.Nat.{ℕ, _≤_, _<_}
 use mathlib.Core.Path.{_≡_}
 use mathlib.Core.Bool.{cond, not, _&&_}

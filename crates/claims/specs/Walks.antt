@@ -11,7 +11,7 @@ use lib.Dec.{eqb}
 use Rattle.page.specs.Layout.{capacity}
 use Rattle.page.specs.Fit.{Page-context, root-context}
 use Rattle.image.specs.Images.{pages-in}
-use Rattle.image.specs.Sound.{tree-fit, tree-pages, sound}
+use Rattle.image.specs.Sound.{tree-fit, tree-pages, sound-before}
 use Rattle.lists.specs.Lists.{times}
 use Rattle.image.specs.Trail.{Visit, all-fit, trail, instant-trail, listing-trail, audit-trail}
 use Rattle.image.specs.Looks.{pages-of, found-fit, audit-looks}
@@ -51,7 +51,7 @@ pub record Short-walks (half : ℕ) : Type 0 where
   pub of-inside : (img : List ℕ) → head-ok half img ≡ true
       → (p : ℕ) → 1 ≤ times p (audit-looks half img) → (1 ≤ p) × (p < pages-in half img)
   -- and if the image is sound, one at each page.
-  pub of-sound : (img : List ℕ) → sound half img ≡ true
+  pub of-sound : (img : List ℕ) → sound-before half img ≡ true
       → (p : ℕ) → 1 ≤ p → p < pages-in half img → times p (audit-looks half img) ≡ 1
   -- "head and all tree pages are fit": the looks of an audit at the tree tell whether it is, and they are then at its pages in turn.
   pub of-tree : (img : List ℕ)

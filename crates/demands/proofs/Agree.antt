@@ -15,7 +15,8 @@ use Rattle.rule.specs.Pairs.{none}
 use Rattle.rule.specs.Averages.{average}
 use Rattle.page.specs.Fit.{most-changes}
 use Rattle.image.specs.Images.{half-of, pages-in, length-ok, image-of, image-bytes}
-use Rattle.image.specs.Sound.{sound}
+use Rattle.image.specs.Sound.{sound-before}
+use Rattle.soundness.proofs.Sound.{sound-old}
 use Rattle.image.specs.Instant.{look-up}
 use Rattle.image.specs.Listing.{Run}
 use Rattle.tight.specs.Tight.{tight, too-small}
@@ -70,7 +71,7 @@ rebuilding b17 c16 b24 e16 e21 = first-off 16 _ e16 ∙ first-without ((17, b17)
 
 -- ---- END, and what lies past it
 
-pub instant-end : (half : ℕ) (img : List ℕ) → sound half img ≡ true → (t : ℕ) → END ≤ t
+pub instant-end : (half : ℕ) (img : List ℕ) → sound-before half img ≡ true → (t : ℕ) → END ≤ t
     → (instant half t img .status ≡ 12) × (instant half t img .pair ≡ none)
 unfolding instant
 instant-end half img fits t l =
@@ -80,7 +81,7 @@ instant-end half img fits t l =
 
 module _ {half : ℕ} {img : List ℕ} {B : Book} (K : Trace-invariant half img B) where
   passes-16 : not (length-ok half img) ≡ false
-  passes-16 = ap not (sound-whole half img (K .sound))
+  passes-16 = ap not (sound-whole half img (sound-old half img (K .sound)))
 
   booking-is : (side : Side) (v : ℤ) (s e : ℕ) (scratch : List ℕ)
       → let number = book borrowed half side v s e img scratch .status in
@@ -96,12 +97,12 @@ module _ {half : ℕ} {img : List ℕ} {B : Book} (K : Trace-invariant half img 
   -- ---- an instant, and an average
 
   instant-is : (t : ℕ) → t < END → (instant half t img .status ≡ 0) × (instant half t img .pair ≡ book-pair B t)
-  instant-is t l = (sound-status half img (K .sound) t l, sound-pair half img (K .sound) t l ∙ K .pairs t l)
+  instant-is t l = (sound-status half img (sound-old half img (K .sound)) t l, sound-pair half img (sound-old half img (K .sound)) t l ∙ K .pairs t l)
 
   average-end : (t : ℕ) → END ≤ t → average-at half t img ≡ record { status = 12; average = Nothing }
   unfolding average-at
   average-end t l =
-      let n = instant-end half img (K .sound) t l .0 in
+      let n = instant-end half img (sound-old half img (K .sound)) t l .0 in
       λ i.
       record {
         status = n i;
@@ -131,14 +132,14 @@ module _ {half : ℕ} {img : List ℕ} {B : Book} (K : Trace-invariant half img 
 
   listing-is : (a b : ℕ) (out : List ℕ) → listing half a b img out ≡ listing-of (book-pair B) a b out
   listing-is a b out =
-      sound-listing half img (K .sound) a b out
+      sound-listing half img (sound-old half img (K .sound)) a b out
       ∙ listing-same (λ t. instant half t img .pair) (book-pair B) a b out (λ t l h below. instant-is t below .1)
 
   -- ---- a rebuild
 
   runs-are : full-runs half img ≡ runs-of (book-pair B) 0 END
   runs-are =
-      full-is half img (K .sound)
+      full-is half img (sound-old half img (K .sound))
       ∙ runs-of-same (λ t. look-up half img t .pair) (book-pair B) 0 END (omega arith) (λ t l g. K .pairs t g)
 
   rebuild-is : (target scratch : List ℕ) → rebuild borrowed half img target scratch ≡ rebuild-of half (pages-in half img) B target scratch
@@ -148,7 +149,7 @@ module _ {half : ℕ} {img : List ℕ} {B : Book} (K : Trace-invariant half img 
       let short : Bool = not (scratch-ok borrowed (pages-in half img) scratch) in
       let whole : Bool = not (length-ok half target) in
       let number =
-      rebuilding short whole (too-small half n (length (full-runs half img))) passes-16 (ap not (K .sound))
+      rebuilding short whole (too-small half n (length (full-runs half img))) passes-16 (ap not (sound-old half img (K .sound)))
       ∙ ap (λ (rs : List Run). first ((17, short) ∷ (16, whole) ∷ (24, too-small half n (length rs)) ∷ [])) runs-are in
       let early = first-off 16 ((17, short) ∷ []) passes-16 in
       λ i.
@@ -161,7 +162,7 @@ module _ {half : ℕ} {img : List ℕ} {B : Book} (K : Trace-invariant half img 
   -- ---- all of them, by the capacity that the image names
 
   abbrev o : Own half img
-  o = sound-own half img (K .sound)
+  o = sound-own half img (sound-old half img (K .sound))
 
   pub instant-told : (t : ℕ) → t < END → (index-instant t img .status ≡ 0) × (index-instant t img .pair ≡ book-pair B t)
   instant-told t l =
@@ -192,7 +193,7 @@ module _ {half : ℕ} {img : List ℕ} {B : Book} (K : Trace-invariant half img 
   pub as-the-book : As-the-book img B
   as-the-book =
       record {
-        instant-end = λ t l. ap (λ (a : Instant). a .status) (own-instant o t) ∙ instant-end half img (K .sound) t l .0;
+        instant-end = λ t l. ap (λ (a : Instant). a .status) (own-instant o t) ∙ instant-end half img (sound-old half img (K .sound)) t l .0;
         instants = instant-told;
         average-end = λ t l. own-average o t ∙ average-end t l;
         averages = average-told;

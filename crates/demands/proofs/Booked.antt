@@ -23,7 +23,7 @@ use Rattle.page.specs.Fit.{most-changes, most-height}
 use Rattle.image.specs.Images.{Image, capacity-field, page-at, cell-bytes, image-of, image-bytes}
 use Rattle.image.specs.Sound.{sound}
 use Rattle.image.specs.Instant.{look-up}
-use Rattle.soundness.proofs.Sound.{the-head, sound-facts}
+use Rattle.soundness.proofs.Sound.{the-head, sound-facts, sound-old}
 use Rattle.steps.specs.Change.{change, change-names}
 use Rattle.calls.specs.Refusals.{borrowed}
 use Rattle.calls.specs.Changes.{Side, effect}
@@ -122,7 +122,7 @@ module _ {half : ℕ} (two : 2 ≤ half) (side : Side) (v : ℤ) (s e : ℕ) (im
 
   -- the bytes that it had before are those of its cells
   was : image-bytes half X ≡ img
-  was = canonical half img some b (a .whole)
+  was = canonical half img some b (sound-old half img (a .whole))
 
   tall : X .head .height ≤ most-height
   tall = height-most X Y (g .structure) two
@@ -165,7 +165,7 @@ module _ {half : ℕ} (two : 2 ≤ half) (side : Side) (v : ℤ) (s e : ℕ) (im
       let k : the-head half (image-bytes half Z) .kind ≡ X .head .kind =
       ap (λ (h : Head). h .kind) (head-read-back half Z U some (g′ .structure) tall′) ∙ c .kind in
       let before : look-up half img t .pair ≡ pair-at (combine (X .head .kind)) (Y .tree) t =
-      look-invariant half img some (sound-facts half img (a .whole)) Y (g .structure .shown) t .looked .pair in
+      look-invariant half img some (sound-facts half img (sound-old half img (a .whole))) Y (g .structure .shown) t .looked .pair in
       look-written half Z U some (g′ .structure) tall′ t .looked .pair
       ∙ ap (λ n. pair-at (combine n) (U .tree) t) k
       ∙ next-pairs two s end added g t below

@@ -18,6 +18,7 @@ use Rattle.calls.proofs.Tables.{turned-back}
 use Rattle.claims.proofs.Steps.{steps}
 use Rattle.answers.proofs.Demand.{demand-1}
 use Rattle.answers.proofs.Until.{until-when}
+use Rattle.soundness.proofs.Sound.{sound-old}
 use Rattle.answers.proofs.Own.{sound-own}
 use Rattle.demands.proofs.Book.Books.{book-fed, book-is, items-length}
 use Rattle.demands.proofs.Book.Aggregates.{book-aggregate, aggregate-live}
@@ -39,7 +40,7 @@ module _ {kind window field : ℕ} where
             λ t l. average-told (R .kept) t l
             ∙ (λ i. record { status = 0; average = average (book-kind kind window cs i) (pair-is t l i) });
         spans = λ a b out. listing-told (R .kept) a b out ∙ book-listing kind window a b out (R .spanned) (R .sided);
-        sound-after = ap (λ half. sound half img) (sound-own (R .half) img (R .kept .sound) .named .is) ∙ R .kept .sound;
+        sound-after = ap (λ half. sound half img) (sound-own (R .half) img (sound-old (R .half) img (R .kept .sound)) .named .is) ∙ R .kept .sound;
         live = λ m t. aggregate-live kind window t (R .sided) m;
       }
     where
@@ -51,7 +52,7 @@ module _ {kind window field : ℕ} where
 
   headed : {img : List ℕ} {cs : List Change} → Reached kind window field img cs → Headed kind window field img cs
   headed {img} {cs} R =
-      let own = sound-own (R .half) img (R .kept .sound) .named .is in
+      let own = sound-own (R .half) img (sound-old (R .half) img (R .kept .sound)) .named .is in
       record {
         bytes = R .kept .bytes;
         kind-is = ap (λ half. head half img .kind) own ∙ R .kept .kind ∙ book-kind kind window cs;

@@ -10,7 +10,7 @@ use borrow.Author.Tests.{not-false, ne-eqb, le-leb}
 use Rattle.lists.specs.Lists.{concat-map, all-none, all-more}
 use Rattle.rule.specs.declared.Pair.{Pair}
 use Rattle.rule.specs.Time.{END, kind-ok, window-ok}
-use Rattle.rule.specs.Pairs.{none}
+use Rattle.rule.specs.Pairs.{none, combine}
 use Rattle.rule.proofs.Laws.{value-or-none-is}
 use Rattle.page.specs.declared.Head.{Head}
 use Rattle.page.specs.Entries.{entry, last-from, index-of}
@@ -18,10 +18,13 @@ use Rattle.page.specs.Fit.{most-height, field-ok}
 use Rattle.image.specs.Images.{Image, capacity-field, pages-in, length-ok, image-of, image-bytes, fresh}
 use Rattle.lists.specs.Lists.{times}
 use Rattle.image.specs.Sound.{sound}
+use Rattle.image.specs.Listing.{differ-after, neighbours-differ}
 use Rattle.calls.specs.Calls.{head, format-status, format}
 use Rattle.book.specs.Book.{empty-book, items-pair, book-pair}
 use Rattle.tree.specs.Tree.{Node, Subtree, node-of, pair-under, pair-in, pages-under}
 use Rattle.tree.specs.Shape.{done, more, Shaped, Leaf, root-least, Formed}
+use Rattle.tree.specs.Runs.{runs-under, runs-in}
+use Rattle.tree.proofs.Runs.{distinct-runs}
 use Rattle.tree.specs.Conserved.{Path-bounded, times-below, times-spare, held}
 use Rattle.refinement.proofs.Fresh.{fresh-state, fresh-represented}
 use Rattle.invariant.specs.Invariant.{Bounds, Structure, Invariant}
@@ -84,7 +87,12 @@ module _ (half pages kind window field : ℕ) (some : 1 ≤ half) (least : 2 ≤
       }
 
   fresh-invariant : Invariant half X fresh-state
-  fresh-invariant = record { structure = fresh-structure }
+  unfolding runs-in runs-under concat-map neighbours-differ differ-after
+  fresh-invariant =
+      record {
+        structure = fresh-structure;
+        distinct = λ one. distinct-runs half (combine (X .head .kind)) (fresh-state .tree) (fresh-structure .formed) .1 refl;
+      }
 
   tall : X .head .height ≤ most-height
   unfolding fresh

@@ -22,7 +22,7 @@ use Rattle.tree.specs.Conserved.{Path-bounded}
 use Rattle.tree.proofs.Look.{look, look-first, look-early, pair-in-look}
 use Rattle.invariant.specs.Invariant.{Bounds}
 use Rattle.tightness.specs.State.{leaf-nodes}
-use Rattle.answers.proofs.Tiles.{Tiles, done, more}
+use Rattle.image.proofs.Tiles.{Tiles, done, more}
 
 module _ {Q : ℕ → Pair → Type 0} where
   pub tiles-seg : {a b : ℕ} {rs : List Run} → Tiles Q a b rs → Seg Leaf a b (leaf-nodes rs)

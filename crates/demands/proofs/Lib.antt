@@ -13,3 +13,4 @@ pub mod Accepted
 pub mod Rebuilds
 pub mod Traces
 pub mod Demands
+pub mod Neighbours

@@ -13,15 +13,15 @@ use Rattle.rule.specs.Time.{END}
 use Rattle.rule.specs.Averages.{average}
 use Rattle.page.specs.declared.Head.{Head}
 use Rattle.image.specs.Images.{half-of, pages-in}
-use Rattle.image.specs.Sound.{sound}
+use Rattle.image.specs.Sound.{sound-before, sound}
 use Rattle.image.specs.Instant.{look-up}
 use Rattle.image.specs.Listing.{Run, walk-over, neighbours-differ}
 use Rattle.image.proofs.Sizes.{sized}
 use Rattle.image.proofs.Runs.{differ-joined}
 use Rattle.tight.specs.Tight.{pages-used, tight, too-small}
-use Rattle.tight.specs.Counts.{leaf-entries}
+use Rattle.tight.specs.Counts.{runs-walked}
 use Rattle.tight.specs.Layout.{Laid-out}
-use Rattle.soundness.proofs.Sound.{sound-facts}
+use Rattle.soundness.proofs.Sound.{sound-facts, sound-old}
 use Rattle.soundness.proofs.Counting.{sound-counted}
 use Rattle.fewest.proofs.Fewest.{fewest-used, listing-few, no-more-on, no-higher}
 use Rattle.calls.specs.Refusals.{borrowed}
@@ -43,7 +43,7 @@ use Rattle.demands.proofs.Rebuilt.{Passed, range, target-is}
 
 -- ---- two sound images of one half in which every instant has the same pair
 
-module _ (half : ℕ) (source img : List ℕ) (fits : sound half source ≡ true) (fits′ : sound half img ≡ true)
+module _ (half : ℕ) (source img : List ℕ) (fits : sound-before half source ≡ true) (fits′ : sound-before half img ≡ true)
     (kinds : head half img .kind ≡ head half source .kind)
     (looks : (t : ℕ) → t < END → look-up half img t .pair ≡ look-up half source t .pair) where
   same-instant : (t : ℕ)
@@ -100,12 +100,12 @@ module _ (half : ℕ) (source img : List ℕ) (fits : sound half source ≡ true
 
 -- ---- the pages that a sound image uses, by its runs
 
-used-by : (half : ℕ) (other : List ℕ) (runs : List Run) → sound half other ≡ true → full-runs half other ≡ runs
+used-by : (half : ℕ) (other : List ℕ) (runs : List Run) → sound-before half other ≡ true → full-runs half other ≡ runs
     → pages-used half (length runs) + head half other .chain < head half other .mark
 unfolding head full-runs runs-over
 used-by half other runs fits same =
     let c = sound-counted (sound-facts half other fits) in
-    let few : length runs ≤ leaf-entries half other = omega (arith, listing-few half other, ap length same) in
+    let few : length runs ≤ runs-walked half other = omega (arith, listing-few half other, ap length same) in
     omega (arith, fewest-used half other fits (length runs) few, c .count, c .fit .head .mark-least)
 
 -- ---- an accepted rebuild
@@ -133,7 +133,7 @@ module _ (source target scratch : List ℕ) (n : rebuild borrowed (half-of sourc
   fits = rebuilt-sound half source (p .fits) pages least most (p .room)
 
   own : half-of img ≡ half
-  own = sound-own half img fits .named .is
+  own = sound-own half img (sound-old half img fits) .named .is
 
   same-head : head half img
       ≡ tight half pages (head half source .kind) (head half source .window) (head half source .changes) (full-runs half source) .head
@@ -163,27 +163,27 @@ module _ (source target scratch : List ℕ) (n : rebuild borrowed (half-of sourc
 
   kept : Answers-kept source img
   kept =
-      answers-kept half source img (p .fits) fits (unfold tight in ap (λ (g : Head). g .kind) same-head)
+      answers-kept half source img (p .fits) (sound-old half img fits) (unfold tight in ap (λ (g : Head). g .kind) same-head)
       (rebuilt-look half source (p .fits) pages least most (p .room))
 
   length-kept : length img ≡ length target
   length-kept = rebuilt-length half source (p .fits) pages least most (p .room) ∙ sym (sized half target (p .whole) .size)
 
-  fewest : (other : List ℕ) → sound half other ≡ true → full-runs half other ≡ full-runs half source → No-fewer source img other
+  fewest : (other : List ℕ) → sound-before half other ≡ true → full-runs half other ≡ full-runs half source → No-fewer source img other
   unfolding head tight
   fewest other fits′ same =
       let m : ℕ = length (full-runs half source) in
-      let here : m ≤ leaf-entries half img = omega (arith, entries img, ap length (kept .runs)) in
-      let there : m ≤ leaf-entries half other = omega (arith, entries other, ap length same) in
+      let here : m ≤ runs-walked half img = omega (arith, entries img, ap length (kept .runs)) in
+      let there : m ≤ runs-walked half other = omega (arith, entries other, ap length same) in
       let chain = ap (λ (g : Head). g .chain) same-head in
       let mark = ap (λ (g : Head). g .mark) same-head in
       record {
-        on-levels = no-more-on half img other fits fits′ m here there chain mark;
-        levels = no-higher half img other fits fits′ m here there chain mark;
+        on-levels = no-more-on half img other (sound-old half img fits) fits′ m here there chain mark;
+        levels = no-higher half img other (sound-old half img fits) fits′ m here there chain mark;
         pages = omega (arith, mark-left, used-by half other (full-runs half source) fits′ same);
       }
     where
-      entries : (x : List ℕ) → length (full-runs half x) ≤ leaf-entries half x
+      entries : (x : List ℕ) → length (full-runs half x) ≤ runs-walked half x
       entries x = unfold full-runs runs-over in listing-few half x
 
 accepted-judged : (source target scratch : List ℕ) → index-rebuild source target scratch .status ≡ 0 → judge source ≡ 0
@@ -224,14 +224,14 @@ left-by source target scratch n =
 -- ---- 24: the source's own tree has no fewer pages
 
 told-24 : (source target scratch : List ℕ) → index-rebuild source target scratch .status ≡ 24
-    → (sound (half-of source) source ≡ true)
+    → (sound-before (half-of source) source ≡ true)
     × (pages-in (half-of source) target < suc (pages-used (half-of source) (length (full-runs (half-of source) source))))
 unfolding index-rebuild rebuild rebuild-status audit-input-rows too-small
 told-24 source target scratch =
     by-judge _ (λ half. rebuild borrowed half source target scratch) source
     (λ (b : Rebuilt).
     b .status ≡ 24
-    → (sound (half-of source) source ≡ true)
+    → (sound-before (half-of source) source ≡ true)
     × (pages-in (half-of source) target < suc (pages-used (half-of source) (length (full-runs (half-of source) source)))))
     (λ passes n.
     let a = first-later 16 24 _ _ (λ e. omega arith) n in
@@ -242,7 +242,7 @@ told-24 source target scratch =
     (λ turned-back n. absurd (judge-not source 24 (λ e. omega arith) (λ e. omega arith) (λ e. omega arith) n))
 
 too-few : (source target scratch other : List ℕ) → index-rebuild source target scratch .status ≡ 24
-    → sound (half-of source) other ≡ true → full-runs (half-of source) other ≡ full-runs (half-of source) source
+    → sound-before (half-of source) other ≡ true → full-runs (half-of source) other ≡ full-runs (half-of source) source
     → pages-in (half-of source) target + head (half-of source) other .chain < head (half-of source) other .mark
 too-few source target scratch other n fits same =
     let half = half-of source in

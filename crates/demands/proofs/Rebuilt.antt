@@ -13,18 +13,20 @@ use Rattle.page.specs.declared.Head.{Head}
 use Rattle.page.specs.Layout.{capacity, capacity-named, page-size}
 use Rattle.page.proofs.Laws.Capacities.{field-is}
 use Rattle.image.specs.Images.{capacity-field, pages-in, length-ok, image-of}
-use Rattle.image.specs.Sound.{sound}
+use Rattle.image.specs.Sound.{sound-before, sound}
 use Rattle.image.specs.Instant.{look-up}
+use Rattle.image.specs.Listing.{walk-over}
+use Rattle.image.proofs.Runs.{differ-joined}
 use Rattle.image.proofs.Capacity.{field-read}
 use Rattle.tight.specs.Tight.{pages-used, tight, too-small}
 use Rattle.tight.specs.Layout.{Laid-out}
 use Rattle.soundness.proofs.Sound.{sound-facts}
 use Rattle.invariant.proofs.From.Invariant.{pages-range}
 use Rattle.tightness.specs.State.{Suited}
-use Rattle.tightness.proofs.Sound.{tight-sound, tight-head-read-back, tight-bytes, tight-length, tight-look}
-use Rattle.tightness.proofs.Laid.{tight-laid-out}
+use Rattle.tightness.proofs.Sound.{tight-head-read-back, tight-bytes, tight-length, tight-look}
+use Rattle.tightness.proofs.Laid.{tight-sound, tight-laid-out}
 use Rattle.calls.specs.Refusals.{borrowed}
-use Rattle.calls.specs.Calls.{head, full-runs, rebuilt-bytes, audit-input-rows, rebuild-status, rebuild}
+use Rattle.calls.specs.Calls.{head, runs-over, full-runs, rebuilt-bytes, audit-input-rows, rebuild-status, rebuild}
 use Rattle.book.specs.Book.{Book}
 use Rattle.answers.proofs.Own.{sound-own}
 use Rattle.answers.proofs.Full.{full-tiles, full-paired}
@@ -34,7 +36,7 @@ use Rattle.demands.proofs.Invariant.{Trace-invariant}
 
 -- ---- the target's bytes, of a source that is sound
 
-module _ (half : ℕ) (source : List ℕ) (fits : sound half source ≡ true) (pages : ℕ) (least : 2 ≤ pages) (most : pages ≤ 1024)
+module _ (half : ℕ) (source : List ℕ) (fits : sound-before half source ≡ true) (pages : ℕ) (least : 2 ≤ pages) (most : pages ≤ 1024)
     (room : suc (pages-used half (length (full-runs half source))) ≤ pages) where
   abbrev img : List ℕ
   img = rebuilt-bytes half source pages
@@ -61,8 +63,10 @@ module _ (half : ℕ) (source : List ℕ) (fits : sound half source ≡ true) (p
       }
 
   pub rebuilt-sound : sound half img ≡ true
-  unfolding rebuilt-bytes
-  rebuilt-sound = tight-sound half pages (h .kind) (h .window) (h .changes) (full-runs half source) suited
+  unfolding rebuilt-bytes full-runs runs-over
+  rebuilt-sound =
+      tight-sound half pages (h .kind) (h .window) (h .changes) (full-runs half source) suited
+      (λ k. differ-joined (walk-over half source 0 END .runs))
 
   pub rebuilt-is-bytes : Bytes img
   unfolding rebuilt-bytes
@@ -103,7 +107,7 @@ module _ (half : ℕ) (source : List ℕ) (fits : sound half source ≡ true) (p
 
 module _ (half : ℕ) (source target scratch : List ℕ) (n : rebuild borrowed half source target scratch .status ≡ 0) where
   pub record Passed : Type 0 where
-    pub fits : sound half source ≡ true
+    pub fits : sound-before half source ≡ true
     pub whole : length-ok half target ≡ true
     pub room : suc (pages-used half (length (full-runs half source))) ≤ pages-in half target
 

@@ -17,6 +17,7 @@ use Rattle.calls.specs.Calls.{Formatted, Booked, Rebuilt, format}
 use Rattle.calls.specs.Index.{index-format, format-before, index-rebuild}
 use Rattle.book.specs.Book.{Book, empty-book, entered, entered-all, book-of}
 use Rattle.claims.specs.Trace.{Step, kept, accepted, Trace, formatted, formatted-before, extended, rebuilt}
+use Rattle.soundness.proofs.Sound.{sound-old}
 use Rattle.answers.proofs.Own.{sound-own, own-book, own-rebuild}
 use Rattle.demands.specs.Items.{Spanned, Sided}
 use Rattle.demands.proofs.Book.Books.{entered-all-append, book-is}
@@ -73,7 +74,7 @@ module _ {kind window : ℕ} where
   reached-step {field} {img} {cs = cs} R kept = subst⁻¹ (Reached kind window field img) (append-nil cs) R
   reached-step {img = img} {after} {cs} R (accepted {side = side} {v} {s} {e} scratch p) =
       let half = R .half in
-      let o = sound-own half img (R .kept .sound) in
+      let o = sound-own half img (sound-old half img (R .kept .sound)) in
       let two = o .named .least in
       let q = p ∙ own-book o side v s e scratch in
       let n = sym (ap (λ (b : Booked). b .status) q) in
@@ -99,7 +100,7 @@ module _ {kind window : ℕ} where
       → Reached kind window (capacity-named field) img cs
   reached-rebuilt {field} {source} {img} {left} {cs} target scratch R p =
       let half = R .half in
-      let o = sound-own half source (R .kept .sound) in
+      let o = sound-own half source (sound-old half source (R .kept .sound)) in
       let q = p ∙ own-rebuild o target scratch in
       let n = sym (ap (λ (b : Rebuilt). b .status) q) in
       let image = ap (λ (b : Rebuilt). b .target) q ∙ target-is half source target scratch n in

@@ -15,7 +15,7 @@ use Rattle.page.specs.declared.Head.{Head}
 use Rattle.page.specs.Layout.{capacity, level-of}
 use Rattle.page.specs.Fit.{root-context}
 use Rattle.image.specs.Images.{page-at, pages-in}
-use Rattle.image.specs.Sound.{sound}
+use Rattle.image.specs.Sound.{sound-before}
 use Rattle.image.specs.Listing.{join, walk-over}
 use Rattle.image.proofs.Capacity.{fit-half}
 use Rattle.image.proofs.Runs.{join-few}
@@ -23,7 +23,7 @@ use Rattle.tight.specs.Tight.{sizes, pages-used}
 use Rattle.soundness.proofs.Sound.{the-head, the-tree, Sound-facts, sound-facts}
 use Rattle.soundness.proofs.Used.{tree-level}
 use Rattle.soundness.proofs.Counting.{sound-counted}
-use Rattle.tight.specs.Counts.{pages-on, leaf-entries}
+use Rattle.tight.specs.Counts.{pages-on, runs-walked}
 use Rattle.fewest.proofs.Under.{on-above, on-top, on-below, leaves-room}
 use Rattle.fewest.proofs.Levels.{sizes-least}
 
@@ -33,7 +33,7 @@ top half img = the-head half img .height - 1
 
 -- ---- a sound image, level by level
 
-module _ (half : ℕ) (img : List ℕ) (fits : sound half img ≡ true) where
+module _ (half : ℕ) (img : List ℕ) (fits : sound-before half img ≡ true) where
   abbrev h : Head
   h = the-head half img
 
@@ -65,8 +65,8 @@ module _ (half : ℕ) (img : List ℕ) (fits : sound half img ≡ true) where
   unfolding pages-on walk-over
   leaf-room a b = leaves-room half h img a b (top half img) (root-context h) (h .root) root-level
 
-  entries-room : (m : ℕ) → m ≤ leaf-entries half img → m ≤ capacity half * pages-on half img 0
-  unfolding leaf-entries
+  entries-room : (m : ℕ) → m ≤ runs-walked half img → m ≤ capacity half * pages-on half img 0
+  unfolding runs-walked
   entries-room m entries = omega (arith, entries, leaf-room 0 END)
 
   -- all levels together have the tree's pages
@@ -115,18 +115,18 @@ module _ (half : ℕ) (img : List ℕ) (fits : sound half img ≡ true) where
         (omega (arith, used, sizes-total (suc l), pages-total n (omega arith))) l (omega arith))
 
   -- with m leaf entries at the least
-  pub fewest-used : (m : ℕ) → m ≤ leaf-entries half img → pages-used half m ≤ length (the-tree half img)
+  pub fewest-used : (m : ℕ) → m ≤ runs-walked half img → pages-used half m ≤ length (the-tree half img)
   fewest-used m entries = fewest-in-all m (entries-room m entries)
 
 -- a full listing has no more runs than the image has leaf entries
-pub listing-few : (half : ℕ) (img : List ℕ) → length (join (walk-over half img 0 END .runs)) ≤ leaf-entries half img
-unfolding leaf-entries
+pub listing-few : (half : ℕ) (img : List ℕ) → length (join (walk-over half img 0 END .runs)) ≤ runs-walked half img
+unfolding runs-walked
 listing-few half img = join-few (walk-over half img 0 END .runs)
 
 -- ---- beside another sound image with leaf entries for the same runs
 
-module _ (half : ℕ) (img other : List ℕ) (fits : sound half img ≡ true) (fits′ : sound half other ≡ true) (m : ℕ)
-    (entries : m ≤ leaf-entries half img) (entries′ : m ≤ leaf-entries half other) (chain : the-head half img .chain ≡ 0)
+module _ (half : ℕ) (img other : List ℕ) (fits : sound-before half img ≡ true) (fits′ : sound-before half other ≡ true) (m : ℕ)
+    (entries : m ≤ runs-walked half img) (entries′ : m ≤ runs-walked half other) (chain : the-head half img .chain ≡ 0)
     (mark : the-head half img .mark ≡ suc (pages-used half m)) where
   -- on no level more pages
   pub no-more-on : (l : ℕ) → pages-on half img l ≤ pages-on half other l

@@ -1,6 +1,6 @@
 -- What becomes of a leaf. Assumes nothing.
 use mathlib.Core.Path.{_≡_, refl, sym, ap, _∙_, subst⁻¹}
-use mathlib.Core.Bool.{Bool, true, false, cond, _&&_}
+use mathlib.Core.Bool.{Bool, true, false, cond, _&&_, _||_}
 use mathlib.Core.List.{List, []}
 use Prim.Native.Nat.{ℕ, zero, _-_}
 use native.Mathlib.Omega.{arith}
@@ -44,18 +44,19 @@ module _ (hi t p : ℕ) (X : Image) {f : Found} (g : f ≡ found-in hi t (entrie
 
   -- ---- what becomes of the leaf, whatever the kind
 
-  module _ (half kind : ℕ) where
+  module _ (half kind : ℕ) (edge : Bool) where
     abbrev done : Bool → ℕ → Image
     done b i = cond b (put p (tree zero (splice i [] (entries X p))) X) X
 
     -- what the test of that entry decides
-    decided : (b : Bool) → heals t (entries X p) (f .index) ≡ b → done b (f .index) ≡ heal-page half (combine kind) t 0 p X
+    decided : (b : Bool) → (edge || heals t (entries X p) (f .index)) ≡ b
+        → done b (f .index) ≡ heal-page half (combine kind) edge t 0 p X
     unfolding heal-page found-in
-    decided b e = λ j. done ((sym e ∙ ap (λ (m : Found). heals t (entries X p) (m .index)) g) j) (g j .index)
+    decided b e = λ j. done ((sym e ∙ ap (λ (m : Found). edge || heals t (entries X p) (m .index)) g) j) (g j .index)
 
-    pub leaf-kept : heals t (entries X p) (f .index) ≡ false → X ≡ heal-page half (combine kind) t 0 p X
+    pub leaf-kept : (edge || heals t (entries X p) (f .index)) ≡ false → X ≡ heal-page half (combine kind) edge t 0 p X
     leaf-kept e = decided false e
 
-    pub leaf-healed : heals t (entries X p) (f .index) ≡ true
-        → put p (tree zero (splice (f .index) [] (entries X p))) X ≡ heal-page half (combine kind) t 0 p X
+    pub leaf-healed : (edge || heals t (entries X p) (f .index)) ≡ true
+        → put p (tree zero (splice (f .index) [] (entries X p))) X ≡ heal-page half (combine kind) edge t 0 p X
     leaf-healed e = decided true e

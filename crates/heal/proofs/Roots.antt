@@ -1,6 +1,6 @@
--- A root that collapses, and one that stays. Assumes nothing.
-use mathlib.Core.Path.{_≡_, sym, ap, _∙_, subst}
-use mathlib.Core.Bool.{Bool, false, cond, _&&_, and-false}
+-- A root that collapses, and one that stays; and the whole step from the root. Assumes nothing.
+use mathlib.Core.Path.{_≡_, sym, ap, _∙_, subst, subst⁻¹}
+use mathlib.Core.Bool.{Bool, true, false, cond, _&&_, and-false}
 use Prim.Native.Nat.{ℕ, _-_, _<_}
 use native.Mathlib.Omega.{arith}
 use lib.Dec.{eqb, ltb}
@@ -12,8 +12,10 @@ use Rattle.page.specs.declared.Head.{Head}
 use Rattle.page.specs.Entries.{at}
 use Rattle.image.specs.Images.{Image, Cell, tree}
 use Rattle.steps.specs.Supply.{entries, put, given-back, with-root}
-use Rattle.steps.specs.Heal.{pushed, collapse-root, collapse-if-single, heal-page, heal}
+use Rattle.steps.specs.Heal.{pushed, collapse-root, collapse-if-single, joins-edge, heal-page, heal}
 use Rattle.store.specs.Preconditions.{Tree-page, Givable}
+use Rattle.heal.specs.Edges.{edge-met, Edge-readable}
+use Rattle.heal.specs.Healable.{Page-healable, Collapsible-if-single, Healable}
 
 -- the head that was read leads to the root
 module _ (X : Image) {h : Head} (e : h ≡ X .head) where
@@ -64,8 +66,30 @@ module _ (kind : ℕ) (X : Image) where
       with-root (h j .height - 1) (e j .child)
       (given-back (h j .root) (put (e j .child) (tree (X .head .height - 2) (pushed (combine kind) X (e j))) X))
 
-  -- the step, by the head that was read
-  pub healed-is : (half t : ℕ) {h : Head} → h ≡ X .head
-      → collapse-if-single (combine kind) (heal-page half (combine kind) t (h .height - 1) (h .root) X) ≡ heal half (combine kind) t X
-  unfolding heal
-  healed-is half t h = λ j. collapse-if-single (combine kind) (heal-page half (combine kind) t (h j .height - 1) (h j .root) X)
+-- ---- the step, by the head that was read and by what was told of the edge
+
+module _ (half kind t : ℕ) {X : Image} (s : Healable half kind t X) {h : Head} (e : h ≡ X .head) where
+  pub read-readable : eqb kind 1 ≡ true → Edge-readable (combine kind) t (h .height - 1) (h .root) X
+  read-readable totals = subst⁻¹ (λ (k : Head). Edge-readable (combine kind) t (k .height - 1) (k .root) X) e (s .readable totals)
+
+  module _ {edge : Bool} (told : edge ≡ (eqb kind 1 && edge-met (combine kind) t (h .height - 1) (h .root) X)) where
+    joins : edge ≡ joins-edge (combine kind) t X
+    joins = told ∙ ap (λ (k : Head). eqb kind 1 && edge-met (combine kind) t (k .height - 1) (k .root) X) e ∙ sym (s .joins)
+
+    -- what the heal of the root leaves
+    abbrev left-by : Bool → Head → Image
+    left-by b k = heal-page half (combine kind) b t (k .height - 1) (k .root) X
+
+    pub read-page : Page-healable half kind edge t (h .height - 1) (h .root) X
+    read-page =
+        subst⁻¹ (λ (k : Head). Page-healable half kind edge t (k .height - 1) (k .root) X) e
+        (subst⁻¹ (λ b. Page-healable half kind b t (X .head .height - 1) (X .head .root) X) joins (s .page))
+
+    pub read-collapses : Collapsible-if-single (left-by edge h)
+    read-collapses =
+        subst⁻¹ (λ k. Collapsible-if-single (left-by edge k)) e
+        (subst⁻¹ (λ b. Collapsible-if-single (left-by b (X .head))) joins (s .collapses))
+
+    pub read-healed : collapse-if-single (combine kind) (left-by edge h) ≡ heal half (combine kind) t X
+    unfolding heal
+    read-healed = λ j. collapse-if-single (combine kind) (left-by (joins j) (e j))

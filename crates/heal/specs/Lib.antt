@@ -1,2 +1,2 @@
-pub mod Siblings
+pub mod Edges
 pub mod Healable

@@ -1,5 +1,5 @@
 // "An inner root with one entry combines its pair into its child's entries, is given back, and the child becomes root."
-use crate::push::push_down;
+use rebalance::push::push_down;
 use store::entries::entry_count_in;
 use store::entries::entry_of;
 use store::heads::head_of;

@@ -1,7 +1,9 @@
-// "Heal at t": down the path to t and back up, and then the root.
+// "Heal at t": down the path to t and back up, and then the root. Whether an edge joins there is told ahead of it, once.
+use crate::carry::carry;
 use crate::collapse::collapse_if_single;
+use crate::edges::joins_edge;
 use crate::leaf::heal_leaf;
-use crate::rebalance::rebalance;
+use rebalance::rebalance::rebalance;
 use rule::limits::END;
 use store::entries::entry_count_in;
 use store::entries::find_entry;
@@ -22,20 +24,30 @@ fn rebalance_if_short(half: usize, img: &mut [u8], kind: u32, p: u32, i: usize, 
     }
 }
 
-// Page p of that level, which ends at hi: the leaf entry goes, and on the way back up each page that is left short is rebalanced. The
-// search asks for hi, and what is written doesn't depend on it.
-fn heal_page(half: usize, img: &mut [u8], kind: u32, level: u32, p: u32, hi: u32, t: u32)
-    requires { ⌜ Pre half (now img) (Page-healable half kind t level p) ⌝ }
-    ensures { λ _. ⌜ Post half (now (img .entry)) (Page-healable half kind t level p)
-        (λ X. Encodes half (now (img .exit)) (heal-page half (combine kind) t level p X)) ⌝ }
+// Page p of that level, which ends at hi: the leaf entry goes, and on the way back up, at an edge, the new first start is carried, and each
+// page that is left short is rebalanced. The search asks for hi, and what is written doesn't depend on it.
+fn heal_page(
+    half: usize,
+    img: &mut [u8],
+    kind: u32,
+    edge: bool,
+    level: u32,
+    p: u32,
+    hi: u32,
+    t: u32,
+)
+    requires { ⌜ Pre half (now img) (Page-healable half kind edge t level p) ⌝ }
+    ensures { λ _. ⌜ Post half (now (img .entry)) (Page-healable half kind edge t level p)
+        (λ X. Encodes half (now (img .exit)) (heal-page half (combine kind) edge t level p X)) ⌝ }
 {
     if level == 0 {
-        heal_leaf(half, img, p, hi, t);
+        heal_leaf(half, img, edge, p, hi, t);
         return;
     }
     let found = find_entry(half, img, p, hi, t);
     let e = found.entry;
-    heal_page(half, img, kind, level - 1, e.child, found.end, t);
+    heal_page(half, img, kind, edge, level - 1, e.child, found.end, t);
+    carry(half, img, edge, p, found.index, t);
     rebalance_if_short(half, img, kind, p, found.index, e.child);
 }
 
@@ -46,6 +58,8 @@ pub fn heal(half: usize, img: &mut [u8], kind: u32, t: u32)
         (λ X. Encodes half (now (img .exit)) (heal half (combine kind) t X)) ⌝ }
 {
     let h = head_of(half, img);
-    heal_page(half, img, kind, h.height - 1, h.root, END, t);
+    let level = h.height - 1;
+    let edge = joins_edge(half, img, kind, level, h.root, t);
+    heal_page(half, img, kind, edge, level, h.root, END, t);
     collapse_if_single(half, img, kind);
 }

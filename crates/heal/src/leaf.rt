@@ -1,4 +1,5 @@
-// "Heal at t: only if t starts a leaf entry that isn't first in its page, with the same pair as the one before; it goes."
+// "Heal at t: only if t starts a leaf entry that isn't first in its page, with the same pair as the one before; it goes." So does the one
+// that is first, if an edge joins there.
 use page::Entry;
 use rule::combine::same_pair;
 use store::edits::remove_entry;
@@ -35,14 +36,14 @@ fn heals(half: usize, img: &[u8], p: u32, i: usize, e: Entry, t: u32) -> bool
 }
 
 // The leaf p, which ends at hi. Nothing is written where no entry goes. The kind's rule has no part in it.
-pub(crate) fn heal_leaf(half: usize, img: &mut [u8], p: u32, hi: u32, t: u32)
+pub(crate) fn heal_leaf(half: usize, img: &mut [u8], edge: bool, p: u32, hi: u32, t: u32)
     requires { ⌜ Pre half (now img) (Searchable 0 p t) ⌝ }
     ensures { λ _. ⌜ Post half (now (img .entry)) (Searchable 0 p t)
-        (λ X. (kind : ℕ) → Encodes half (now (img .exit)) (heal-page half (combine kind) t 0 p X)) ⌝ }
+        (λ X. (kind : ℕ) → Encodes half (now (img .exit)) (heal-page half (combine kind) edge t 0 p X)) ⌝ }
 {
     let found = find_entry(half, img, p, hi, t);
     let i = found.index;
-    if heals(half, img, p, i, found.entry, t) {
+    if edge | heals(half, img, p, i, found.entry, t) {
         remove_entry(half, img, p, i);
     }
 }

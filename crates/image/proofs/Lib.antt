@@ -2,8 +2,9 @@
 -- cells are kept, `Rows` pieces of one size one behind another, `Written` the bytes of an image whose pages are kept, and `Puts` those of an
 -- image in which one page or the head changed. `Found` has that an instant's entry is one of its page's, `Trails` what an instant and a
 -- listing find, by the pages that they look at, `Leaf` that an instant ends at an entry of a leaf, `Descent` that pairs combined on the way
--- back and on the way down are the same. `Runs` has how many runs walks in turn find and what joining makes of them. `Cases` has the
--- computed cases: the looks of a walk, what an instant tells, and runs that differ from their neighbours.
+-- back and on the way down are the same. `Runs` has how many runs walks in turn find, what joining makes of them and which neighbours
+-- differ. `Cases` has the computed cases: the looks of a walk, what an instant tells, and runs and leaf entries that differ from their
+-- neighbours.
 pub mod Sizes
 pub mod Capacity
 pub mod Cells
@@ -15,4 +16,5 @@ pub mod Trails
 pub mod Leaf
 pub mod Descent
 pub mod Runs
+pub mod Tiles
 pub mod Cases

@@ -1,5 +1,5 @@
--- Cases of the looks of a walk, of the start and the end that an instant tells, and of runs that differ from their neighbours, that compute,
--- on pages of four entries (half of which is 2). Assumes nothing.
+-- Cases of the looks of a walk, of the start and the end that an instant tells, and of runs and leaf entries that differ from their
+-- neighbours, that compute, on pages of four entries (half of which is 2). Assumes nothing.
 use Prim.Native.Nat.{ℕ, _*_, _+_}
 use mathlib.Core.Path.{_≡_}
 use mathlib.Core.Bool.{Bool, true, false, cond}
@@ -15,19 +15,20 @@ use Rattle.page.specs.Entries.{entry}
 use Rattle.page.specs.Layout.{head-of}
 use Rattle.page.specs.Fit.{root-context}
 use Rattle.image.specs.Images.{Cell, tree, free, never-used, page-at, image-bytes}
-use Rattle.image.specs.Sound.{sound}
+use Rattle.image.specs.Sound.{sound-before, sound}
 use Rattle.image.specs.Instant.{look-by, look-up}
 use Rattle.image.specs.Descent.{Associative, descend}
 use Rattle.image.specs.Listing.{run, neighbours-differ}
+use Rattle.image.specs.Neighbours.{neighbours-apart, leaf-entries}
 use Rattle.image.specs.Trail.{visits, every-entry, instant-trail, listing-trail, audit-trail}
 use Rattle.image.specs.Looks.{pages-of, found-fit, audit-looks}
 
 -- The leaf on page 1 is fit for the span [0, 15), the one on page 2 for [15, 30) and for [15, END). Page 3 is the root, with the
--- entries named. Pages 4 and 5 are free, 5 leads to 4.
+-- entries named. Pages 4 and 5 are free, 5 leads to 4. No two neighbours in the leaves have the same pair.
 unfoldable pub cell : List Entry → ℕ → Cell
 cell root p =
-    cond (eqb p 1) (tree 0 (entry 0 none 0 ∷ entry 10 none 0 ∷ []))
-    (cond (eqb p 2) (tree 0 (entry 15 none 0 ∷ entry 20 none 0 ∷ entry 25 none 0 ∷ []))
+    cond (eqb p 1) (tree 0 (entry 0 none 0 ∷ entry 10 (pair (pos 1) (pos 1)) 0 ∷ []))
+    (cond (eqb p 2) (tree 0 (entry 15 none 0 ∷ entry 20 (pair (pos 1) (pos 1)) 0 ∷ entry 25 none 0 ∷ []))
     (cond (eqb p 3) (tree 1 root)
     (cond (eqb p 4) (free 0)
     (cond (eqb p 5) (free 4) never-used))))
@@ -47,7 +48,7 @@ pages n first chain mark root =
             mark = mark;
             kind = 1;
             window = 0;
-            changes = 0;
+            changes = 1;
             capacity = 4;
           };
       page = cell root;
@@ -117,9 +118,59 @@ down comb = let h = head-of (page-at 2 paired 0) in descend comb 2 h paired 10 1
 unfoldable pub differing : List (ℕ × ℕ) → Bool
 differing ps = neighbours-differ (map (λ p. run 0 (pair (pos (p .0)) (pos (p .1)))) ps)
 
+-- Two leaves: `left` and `right` are the pairs of the root's entries over them, `last` is that of the left one's last entry, `first` that
+-- of the right one's first.
+unfoldable pub meeting : Pair → Pair → Pair → Pair → ℕ → Cell
+meeting left last right first p =
+    cond (eqb p 1) (tree 0 (entry 0 (pair (pos 3) (pos 1)) 0 ∷ entry 10 last 0 ∷ []))
+    (cond (eqb p 2) (tree 0 (entry 15 first 0 ∷ entry 20 (pair (pos 4) (pos 1)) 0 ∷ []))
+    (cond (eqb p 3) (tree 1 (entry 0 left 1 ∷ entry 15 right 2 ∷ [])) never-used))
+
+unfoldable pub edge : ℕ × ℕ → ℕ × ℕ → ℕ × ℕ → ℕ × ℕ → List ℕ
+edge left last right first =
+    let of : ℕ × ℕ → Pair = λ p. pair (pos (p .0)) (pos (p .1)) in
+    image-bytes 2
+    (record {
+      head =
+          record {
+            pages = 4;
+            height = 2;
+            root = 3;
+            free = 0;
+            chain = 0;
+            mark = 4;
+            kind = 1;
+            window = 0;
+            changes = 9;
+            capacity = 4;
+          };
+      page = meeting (of left) (of last) (of right) (of first);
+    })
+
+-- one leaf of two entries with the same pair, of any kind
+unfoldable pub alike-in : ℕ → List ℕ
+alike-in kind =
+    image-bytes 2
+    (record {
+      head =
+          record {
+            pages = 2;
+            height = 1;
+            root = 1;
+            free = 0;
+            chain = 0;
+            mark = 2;
+            kind = kind;
+            window = 0;
+            changes = 1;
+            capacity = 4;
+          };
+      page = λ p. cond (eqb p 1) (tree 0 (entry 0 (pair (pos 1) (pos 1)) 0 ∷ entry 10 (pair (pos 1) (pos 1)) 0 ∷ [])) never-used;
+    })
+
 pub record Cases : Type 0 where
   -- An audit of a sound image looks at each page once.
-  pub whole-sound : sound 2 whole ≡ true
+  pub whole-sound : sound-before 2 whole ≡ true
   pub whole-audit : audit-looks 2 whole ≡ 3 ∷ 1 ∷ 2 ∷ 5 ∷ 4 ∷ 6 ∷ []
   -- It ends at an unfit page: no page after it is looked at, in the tree or elsewhere.
   pub left-hurt : audit-looks 2 (hurt 1 whole) ≡ 3 ∷ 1 ∷ []
@@ -178,3 +229,18 @@ pub record Cases : Type 0 where
       (map differing (((1, 1) ∷ (1, 1) ∷ []) ∷ ((1, 1) ∷ (1, 1) ∷ (2, 1) ∷ []) ∷ ((2, 1) ∷ (1, 1) ∷ (1, 1) ∷ []) ∷ [])
       ≡ false ∷ false ∷ false ∷ [])
       × (neighbours-differ (run 0 none ∷ run 10 none ∷ []) ≡ false)
+  -- At an edge between pages totals are compared, sum and count, and not the entries' own pairs; in a page too.
+  pub edges-alike :
+      (sound-before 2 (edge (5, 1) (2, 0) (0, 0) (7, 1)) ≡ true)
+      × (sound 2 (edge (5, 1) (2, 0) (0, 0) (7, 1)) ≡ false)
+      × (neighbours-apart 2 (edge (5, 1) (2, 0) (0, 0) (7, 1)) ≡ false)
+      × (neighbours-apart 2 (edge (5, 1) (3, 1) (0, 0) (7, 1)) ≡ false)
+  pub edges-apart :
+      map (neighbours-apart 2)
+      (edge (5, 1) (7, 1) (0, 0) (7, 1) ∷ edge (5, 1) (2, 0) (0, 0) (7, 2) ∷ edge (5, 1) (2, 0) (0, 0) (8, 1) ∷ [])
+      ≡ true ∷ true ∷ true ∷ []
+  pub edge-entries : leaf-entries 2 (edge (5, 1) (2, 0) (0, 0) (7, 1)) ≡ 4
+  pub edges-sound : sound 2 (edge (5, 1) (7, 1) (0, 0) (7, 1)) ≡ true
+  -- Of kinds 2 and 3 nothing more is asked than before.
+  pub alike-before : map (λ k. sound-before 2 (alike-in k)) (1 ∷ 2 ∷ 3 ∷ []) ≡ true ∷ true ∷ true ∷ []
+  pub alike-sound : map (λ k. sound 2 (alike-in k)) (1 ∷ 2 ∷ 3 ∷ []) ≡ false ∷ true ∷ true ∷ []

@@ -3,6 +3,7 @@ pub mod Sound
 pub mod Instant
 pub mod Descent
 pub mod Listing
+pub mod Neighbours
 pub mod Trail
 pub mod Looks
 pub mod Cases

@@ -1,7 +1,7 @@
 -- Document 01, "The page": the sound image. Each page below the high mark but the head is reachable exactly once: by the tree
--- or by the chain of free pages. Assumes nothing.
+-- or by the chain of free pages. Document 02, (iv): and no two neighbouring leaf entries of kind 1 have equal totals. Assumes nothing.
 use Prim.Native.Nat.{ℕ, zero, suc, _+_, _-_}
-use mathlib.Core.Bool.{Bool, cond, _&&_}
+use mathlib.Core.Bool.{Bool, true, cond, _&&_}
 use mathlib.Core.List.{List, [], _∷_}
 use lib.ListN.{length}
 use lib.Dec.{eqb}
@@ -12,6 +12,7 @@ use Rattle.page.specs.declared.Head.{Head}
 use Rattle.page.specs.Layout.{entry-count, child-at, entries-of, next-of, free-ok, never-used-ok, head-of}
 use Rattle.page.specs.Fit.{Page-context, root-context, context-below, page-fit, head-fit}
 use Rattle.image.specs.Images.{page-at, pages-in, length-ok}
+use Rattle.image.specs.Neighbours.{neighbours-apart}
 
 -- "Audit goes by page and entry in turn: a page is checked by its entries, and an inner entry by its page below."
 -- The level falls on the way down, so that the walk ends on every image.
@@ -40,8 +41,9 @@ each-once mark tree chain = every (mark - 1) (λ i. eqb (times (suc i) tree + ti
 -- "The image is n pages of 512 bytes, n from 2 to 1,024", at other capacities of 32 + 20 × K: bytes of another length are no sound image,
 -- whatever they show. "An image is sound if head and all tree pages are fit, each page below the high mark except 0 is once in the tree or
 -- once in the chain, the chain length is true, and free and never used pages read as above."
-unfoldable pub sound : ℕ → List ℕ → Bool
-sound half img =
+-- What document 01 asks. An image that was changed before request (iv) is so; the rebuild asks no more.
+unfoldable pub sound-before : ℕ → List ℕ → Bool
+sound-before half img =
     let n = pages-in half img in
     let h = head-of (page-at half img 0) in
     let tree = tree-pages half img (h .height - 1) (h .root) in
@@ -53,3 +55,8 @@ sound half img =
     && (eqb (length chain) (h .chain)
     && (all-of (λ p. free-ok half (page-at half img p)) chain
     && every (n - h .mark) (λ i. never-used-ok (page-at half img (h .mark + i))))))))
+
+-- "From then on a kind 1 image is sound only if no two neighbouring leaf entries have equal totals"; the other kinds as before.
+unfoldable pub sound : ℕ → List ℕ → Bool
+sound half img =
+    sound-before half img && cond (eqb (head-of (page-at half img 0) .kind) 1) (neighbours-apart half img) true

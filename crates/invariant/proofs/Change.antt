@@ -1,17 +1,16 @@
 -- A change that is not turned back keeps the invariant: each step finds the structure that the one before left, and the five together
--- restore what holds only before and after a change. A clause of soundness that a cut undoes, such as that no two neighbouring leaf entries
--- have equal totals, is a field of `Invariant`: it touches `invariant-change` here, and `sound-invariant`, `invariant-sound` and
--- `fresh-invariant`, where `Invariant` meets soundness; no step and nothing that a step asks of its image. Assumes nothing.
+-- restore what holds only before and after a change, that for kind 1 no two neighbouring leaf entries have equal totals. Assumes nothing.
 use Prim.Native.Nat.{ℕ, suc, _≤_, _<_}
-use mathlib.Core.Path.{_≡_, ap, subst⁻¹}
-use mathlib.Core.Bool.{false, cond}
+use mathlib.Core.Path.{_≡_, sym, ap, _∙_, subst⁻¹}
+use mathlib.Core.Bool.{true, false, cond}
 use mathlib.Core.List.{List, _∷_, _++_, List·Memᴰ}
 use native.Mathlib.Omega.{arith}
+use lib.Dec.{eqb}
 use Rattle.rule.specs.declared.Pair.{Pair}
 use Rattle.rule.specs.Time.{END, covers}
 use Rattle.rule.specs.Pairs.{combine}
 use Rattle.rule.specs.Bounds.{Effective}
-use Rattle.rule.proofs.Laws.{lawful}
+use Rattle.rule.proofs.Laws.{lawful, kind-inverse}
 use Rattle.page.specs.Fit.{most-changes}
 use Rattle.image.specs.Images.{Image}
 use Rattle.steps.specs.Supply.{count-change}
@@ -25,8 +24,9 @@ use Rattle.tree.specs.Combine.{combine-span}
 use Rattle.tree.specs.Heal.{heal}
 use Rattle.tree.specs.Change.{cuts, change}
 use Rattle.tree.specs.Conserved.{held}
-use Rattle.tree.proofs.Shapes.{leaf-cuttable, leaf-pairless, leaf-joinable}
-use Rattle.tree.proofs.Change.{change-pairs}
+use Rattle.tree.proofs.Shapes.{leaf-cuttable, leaf-pairless, leaf-stretchable}
+use Rattle.tree.specs.Shape.{Distinct}
+use Rattle.tree.proofs.Change.{change-pairs, change-distinct}
 use Rattle.lists.proofs.Times.{times-cons}
 use Rattle.refinement.proofs.Stepped.{Steady, Stepped, then, absent}
 use Rattle.invariant.specs.Invariant.{Structure, Invariant}
@@ -34,7 +34,7 @@ use Rattle.invariant.proofs.Steps.{counted-keeps, cut-step, cut-keeps, 
 
 -- What a change leaves, beside the invariant: each page held as often, and the pages and numbers that it keeps.
 pub record Changed (half s e : ℕ) (p : Pair) (X : Image) (Y : State) : Type 0 where
-  pub same-held : (q : ℕ) → held q (change half (combine (X .head .kind)) s e p Y) ≡ held q Y
+  pub same-held : (q : ℕ) → held q (change half (combine (X .head .kind)) (eqb (X .head .kind) 1) s e p Y) ≡ held q Y
   pub frame : (q : ℕ) → ¬ List·Memᴰ q (change-names half (combine (X .head .kind)) s e p X)
       → change-x half (combine (X .head .kind)) s e p X .page q ≡ X .page q
   pub pages : change-x half (combine (X .head .kind)) s e p X .head .pages ≡ X .head .pages
@@ -79,15 +79,17 @@ module _ {half : ℕ} (two : 2 ≤ half) (s e : ℕ) (p : Pair) {X : Image} {Y :
   tree-C = combine-span rule s e p tree-B
 
   abbrev tree-D : State
-  tree-D = heal half rule s tree-C
+  tree-D = heal half rule (eqb kind 1) s tree-C
 
   -- the tree afterwards, and every instant's pair in it
   abbrev pub next : State
-  next = change half rule s e p Y
+  next = change half rule (eqb kind 1) s e p Y
 
   pub next-pairs : (u : ℕ) → u < END
       → pair-at rule (next .tree) u ≡ cond (covers s e u) (rule (pair-at rule (Y .tree) u) p) (pair-at rule (Y .tree) u)
-  next-pairs u below = change-pairs two leaf-cuttable leaf-pairless leaf-joinable (lawful kind) s e Y (g .structure .formed) p u below
+  next-pairs u below =
+      change-pairs two (lawful kind) (leaf-cuttable s) (leaf-cuttable e) leaf-pairless leaf-stretchable (kind-inverse kind) Y
+      (g .structure .formed) p u below
 
   -- rows 13, 22, 23 and 24 don't turn it back
   module _ (f : Effective kind p) (few : n < most-changes) (enough : lacks-pages half s e X ≡ false) where
@@ -151,4 +153,9 @@ module _ {half : ℕ} (two : 2 ≤ half) (s e : ℕ) (p : Pair) {X : Image} {Y :
           structure =
               subst⁻¹ (λ k. Structure half k (Z .head .changes) Z next) (change-is .kind)
               (subst⁻¹ (λ m. Structure half kind m Z next) (change-is .changes) told);
+          distinct = λ k.
+              let one : eqb kind 1 ≡ true = ap (λ m. eqb m 1) (sym (change-is .kind)) ∙ k in
+              subst⁻¹ (λ m. Distinct half (combine m) (next .tree)) (change-is .kind)
+              (subst⁻¹ (λ b. Distinct half rule (change half rule b s e p Y .tree)) one
+              (change-distinct two (lawful kind) (kind-inverse kind one) s e p Y (g .distinct one)));
         }

@@ -8,6 +8,7 @@ pub mod Shape
 pub mod Bounds
 pub mod Chain
 pub mod Once
+pub mod Runs
 pub mod Invariant
 pub mod Canonical
 pub mod Look

@@ -2,17 +2,18 @@
 -- that it leaves is formed and bounded. C alone raises the number of changes that the bounds are for. Nothing here is about what holds only
 -- before and after a change. Assumes nothing.
 use Prim.Native.Nat.{ℕ, suc, _+_, _*_, _-_, _≤_, _<_}
-use mathlib.Core.Path.{_≡_, refl, ap, _∙_}
-use mathlib.Core.Bool.{false}
+use mathlib.Core.Path.{_≡_, refl, ap, _∙_, subst}
+use mathlib.Core.Bool.{Bool, false}
 use mathlib.Core.List.{List}
 use native.Mathlib.Omega.{arith}
+use lib.Dec.{eqb}
 use lib.IntN.{natAbs}
 use borrow.Author.Tests.{ltb-false}
 use Rattle.rule.specs.declared.Pair.{Pair}
 use Rattle.rule.specs.Time.{most-value, kind-ok, window-ok}
 use Rattle.rule.specs.Pairs.{combine}
 use Rattle.rule.specs.Bounds.{Effective}
-use Rattle.rule.proofs.Laws.{lawful}
+use Rattle.rule.proofs.Laws.{lawful, kind-inverse}
 use Rattle.page.specs.Fit.{most-changes, field-ok}
 use Rattle.page.specs.declared.Head.{Head}
 use Rattle.image.specs.Images.{Image}
@@ -26,7 +27,7 @@ use Rattle.tree.specs.Cut.{State, cut}
 use Rattle.tree.specs.Combine.{combine-span}
 use Rattle.tree.specs.Heal.{heal}
 use Rattle.tree.specs.Shape.{Formed, Leaf}
-use Rattle.tree.proofs.Shapes.{leaf-cuttable, leaf-pairless, leaf-joinable, formed-map}
+use Rattle.tree.proofs.Shapes.{leaf-cuttable, leaf-pairless, leaf-stretchable, formed-map}
 use Rattle.tree.proofs.Cut.{cut-formed}
 use Rattle.tree.proofs.Combine.{combine-formed}
 use Rattle.tree.proofs.Heal.{heal-formed}
@@ -54,12 +55,12 @@ module _ (half kind n : ℕ) where
         values = λ k. cut-within (values-bounded kind k) 0 half t Y (b .values k);
       }
 
-  heal-bounds : (t : ℕ) (Y : State) → Bounds kind n (Y .tree) → Bounds kind n (heal half (combine kind) t Y .tree)
-  heal-bounds t Y b =
+  heal-bounds : (totals : Bool) (t : ℕ) (Y : State) → Bounds kind n (Y .tree) → Bounds kind n (heal half (combine kind) totals t Y .tree)
+  heal-bounds totals t Y b =
       record {
-        sums = λ k. heal-within (sums-bounded kind) (most-value * n) half t Y (b .sums k);
-        counts = λ k. heal-within (counts-bounded kind k) n half t Y (b .counts k);
-        values = λ k. heal-within (values-bounded kind k) 0 half t Y (b .values k);
+        sums = λ k. heal-within (sums-bounded kind) (most-value * n) half totals t Y (b .sums k);
+        counts = λ k. heal-within (counts-bounded kind k) n half totals t Y (b .counts k);
+        values = λ k. heal-within (values-bounded kind k) 0 half totals t Y (b .values k);
       }
 
 combine-bounds : (kind n s e : ℕ) (p : Pair) (Y : State) → Effective kind p → Bounds kind n (Y .tree)
@@ -145,20 +146,22 @@ module _ {half kind n : ℕ} (two : 2 ≤ half) {X : Image} {Y : State} (g : Str
     cut-step = cut-is half rule t X Y (g .shown) (structure-once g) full
 
     cut-leaves : Formed half Leaf (cut half t Y .tree)
-    cut-leaves = formed-map (λ u v x q. q .0) (cut-formed two leaf-cuttable (lawful kind) t Y (g .formed))
+    cut-leaves = formed-map (λ u v x q. q .0) (cut-formed two (leaf-cuttable t) (lawful kind) Y (g .formed))
 
     pub cut-keeps : cut half t Y .supply .mark ≤ X .head .pages → Structure half kind n (cut-x half t X) (cut half t Y)
     cut-keeps mark = kept g cut-step cut-leaves (cut-bounds half kind n t Y (g .bounds)) (g .changes-most) mark
 
     -- D and E
-    pub heal-step : Stepped X (heal-x half rule t X) Y (heal half rule t Y) (heal-names half rule t X)
-    heal-step = heal-is half rule t X Y (g .shown) (structure-once g) full (g .formed)
+    pub heal-step : Stepped X (heal-x half rule t X) Y (heal half rule (eqb kind 1) t Y) (heal-names half rule t X)
+    heal-step =
+        subst (λ k. Stepped X (heal-x half rule t X) Y (heal half rule (eqb k 1) t Y) (heal-names half rule t X)) (g .kind-is)
+        (heal-is half rule t X Y (g .shown) (structure-once g) full (g .formed))
 
-    pub heal-keeps : Structure half kind n (heal-x half rule t X) (heal half rule t Y)
+    pub heal-keeps : Structure half kind n (heal-x half rule t X) (heal half rule (eqb kind 1) t Y)
     heal-keeps =
-        kept g heal-step (heal-formed two leaf-pairless leaf-joinable (lawful kind) t Y (g .formed))
-        (heal-bounds half kind n t Y (g .bounds)) (g .changes-most)
-        (omega (arith, heal-gives half rule t Y .mark, g .shown .supplied .mark, g .ranges .mark-most))
+        kept g heal-step (heal-formed two leaf-pairless leaf-stretchable (lawful kind) (kind-inverse kind) t Y (g .formed))
+        (heal-bounds half kind n (eqb kind 1) t Y (g .bounds)) (g .changes-most)
+        (omega (arith, heal-gives half rule (eqb kind 1) t Y .mark, g .shown .supplied .mark, g .ranges .mark-most))
 
   -- C
   module _ (s e : ℕ) (p : Pair) where

@@ -8,13 +8,14 @@ use lib.IntN.{natAbs}
 use Rattle.lists.specs.Lists.{All}
 use Rattle.rule.specs.declared.Pair.{Pair}
 use Rattle.rule.specs.Time.{most-value, kind-ok, window-ok}
+use Rattle.rule.specs.Pairs.{combine}
 use Rattle.rule.specs.Bounds.{value-or-none}
 use Rattle.page.specs.declared.Head.{Head}
 use Rattle.page.specs.Fit.{most-changes, field-ok}
 use Rattle.image.specs.Images.{Image}
 use Rattle.tree.specs.Tree.{Tree}
 use Rattle.tree.specs.Cut.{State}
-use Rattle.tree.specs.Shape.{Formed, Leaf}
+use Rattle.tree.specs.Shape.{Formed, Leaf, Distinct}
 use Rattle.tree.specs.Conserved.{Path-bounded, held}
 use Rattle.refinement.specs.Represents.{Represents}
 
@@ -54,7 +55,12 @@ pub record Structure (half kind changes : ℕ) (X : Image) (Y : State) : Type 0 
   pub changes-most : changes ≤ most-changes
   pub ranges : Ranges half (X .head)
 
--- Tree and supply as a sound image has them: the structure, for the changes that the head counts. What a cut undoes and a change restores
--- is a field of its own here, beside the structure.
+-- The structure for the changes that the head counts: what document 01 asks of a sound image.
+abbrev pub Own-structure : ℕ → Image → State → Type 0
+Own-structure half X Y = Structure half (X .head .kind) (X .head .changes) X Y
+
+-- Tree and supply as a sound image has them: the structure, and what a cut undoes and a change restores, that for kind 1 no two neighbouring
+-- leaf entries have equal totals.
 pub record Invariant (half : ℕ) (X : Image) (Y : State) : Type 0 where
-  pub structure : Structure half (X .head .kind) (X .head .changes) X Y
+  pub structure : Own-structure half X Y
+  pub distinct : eqb (X .head .kind) 1 ≡ true → Distinct half (combine (X .head .kind)) (Y .tree)

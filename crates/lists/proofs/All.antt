@@ -28,6 +28,14 @@ module _ {A : Type 0} {Q : A → Type 0} where
   all-append all-none b = b
   all-append (all-more q r) b = all-more q (all-append r b)
 
+  pub all-left : (xs ys : List A) → All Q (xs ++ ys) → All Q xs
+  all-left [] ys a = all-none
+  all-left (x ∷ xs) ys (all-more q r) = all-more q (all-left xs ys r)
+
+  pub all-right : (xs ys : List A) → All Q (xs ++ ys) → All Q ys
+  all-right [] ys a = a
+  all-right (x ∷ xs) ys (all-more q r) = all-right xs ys r
+
   pub all-take : {es : List A} (k : ℕ) → All Q es → All Q (take k es)
   all-take zero a = all-none
   all-take (suc k) all-none = all-none
@@ -47,6 +55,11 @@ pub all-map : {A B : Type 0} {Q : A → Type 0} {R : B → Type 0} {es : List A}
     → ((x : A) → Q x → R (f x)) → All Q es → All R (map f es)
 all-map f h all-none = all-none
 all-map f h (all-more {x} q r) = all-more (h x q) (all-map f h r)
+
+pub all-unmap : {A B : Type 0} {Q : A → Type 0} {R : B → Type 0} (f : A → B) → ((x : A) → R (f x) → Q x) → (es : List A)
+    → All R (map f es) → All Q es
+all-unmap f h [] a = all-none
+all-unmap f h (x ∷ es) (all-more q r) = all-more (h x q) (all-unmap f h es r)
 
 pub all-weaken : {A : Type 0} {Q R : A → Type 0} {es : List A} → ((x : A) → Q x → R x) → All Q es → All R es
 all-weaken h all-none = all-none

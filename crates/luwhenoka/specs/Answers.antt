@@ -1,14 +1,16 @@
 -- The answers as C gets them, in the words of the calls' definitions. Assumes nothing.
 use Prim.Native.Nat.{ℕ}
-use mathlib.Core.Bool.{cond}
-use mathlib.Core.List.{List}
+use mathlib.Core.Bool.{Bool, cond, not}
+use mathlib.Core.List.{List, [], _∷_, _++_}
 use lib.Dec.{eqb}
 use lib.IntN.{pos}
 use Rattle.rule.specs.declared.Pair.{Pair}
 use Rattle.rule.specs.declared.Average.{Average}
 use Rattle.rule.specs.declared.Average.the-variants.{Hundredths, Nothing, Beyond}
-use Rattle.image.specs.Images.{half-of}
-use Rattle.calls.specs.Calls.{Instant, Averaged, Listed}
+use Rattle.image.specs.Images.{half-of, pages-in}
+use Rattle.image.specs.Sound.{sound-before, sound}
+use Rattle.calls.specs.Refusals.{first, borrowed, scratch-after}
+use Rattle.calls.specs.Calls.{Instant, Averaged, Listed, Audited, audit-input-rows}
 use Rattle.calls.specs.Index.{judge}
 use Rattle.luwhenoka.specs.declared.Judged.{Judged}
 use Rattle.luwhenoka.specs.declared.Judged.the-variants.{Half, Refused}
@@ -19,6 +21,19 @@ use Rattle.luwhenoka.specs.declared.ListingAnswer.{ListingAnswer}
 -- half the capacity that an image names, or the status of the first of the rows ahead that turns a call back
 unfoldable pub judgement : List ℕ → Judged
 judgement img = cond (eqb (judge img) 0) (Half (half-of img)) (Refused (judge img))
+
+-- soundness by document 01's rule, or by the present one
+unfoldable pub rule-of : Bool → ℕ → List ℕ → Bool
+rule-of old half img = cond old (sound-before half img) (sound half img)
+
+-- an audit by either
+unfoldable pub audit-by : Bool → ℕ → List ℕ → List ℕ → Audited
+audit-by old half img scratch =
+    let rows = audit-input-rows borrowed half img scratch in
+    record {
+      status = first (rows ++ ((21, not (rule-of old half img)) ∷ []));
+      scratch = scratch-after borrowed rows (pages-in half img) scratch;
+    }
 
 -- the numbers of an instant call's answer
 unfoldable pub instant-answer : Instant → InstantAnswer

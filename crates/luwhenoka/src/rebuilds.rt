@@ -1,6 +1,6 @@
 // A clean image from one that has seen a season of changes. Document 02, (iii).
 use crate::Judged;
-use crate::audits::audit;
+use crate::audits::audit_by;
 use crate::judge::judge;
 use access::lengths::length_fits;
 use calls::refusals::ACCEPTED;
@@ -20,7 +20,7 @@ fn rebuild(half: usize, source: &[u8], target: &mut [u8], scratch: &mut [u8]) ->
     ensures { λ r. ⌜ record { status = r; target = now (target .exit); scratch = now (scratch .exit) }
         ≡ rebuild borrowed half (now (source .entry)) (now (target .entry)) (now (scratch .entry)) ⌝ }
 {
-    let status = audit(half, source, scratch);
+    let status = audit_by(half, source, scratch, true);
     if status != ACCEPTED {
         return status;
     }

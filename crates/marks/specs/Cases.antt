@@ -55,9 +55,9 @@ hurt-leaf = with-byte (2 * 112 + 8) 0 grown-root
 unfoldable pub hurt-root : List ℕ
 hurt-root = with-byte (3 * 112 + 8) 0 grown-root
 
--- A sound image that no call leaves: nothing was changed since format, and yet its leaf has two entries, of equal pairs.
+-- A sound image of kind 2 that no call leaves: nothing was changed since format, and yet its leaf has two entries, of equal pairs.
 unfoldable pub unhealed : List ℕ
-unhealed = patch (patch (with-byte (112 + 4) 2 (small 4)) (112 + 36) (u32-bytes 10)) (112 + 64) (replicate 16 0)
+unhealed = patch (patch (with-byte 24 2 (with-byte (112 + 4) 2 (small 4))) (112 + 36) (u32-bytes 10)) (112 + 64) (replicate 16 0)
 
 -- a page below the root splits
 unfoldable pub split-below : List ℕ
@@ -75,11 +75,13 @@ redistributed-left =
     (step entering (pos 1) 5 17
     (step entering (pos 1) 3 7 (step entering (pos 1) 11 23 (step entering (pos 1) 3 6 (step entering (pos 2) 3 12 (small 6))))))
 
--- a right neighbour joins, and the root goes
+-- a right neighbour gives; then it joins, and the root goes
+unfoldable pub given-right : List ℕ
+given-right =
+    step withdrawing (pos 1) 5 12 (step entering (pos 1) 0 10 (step entering (pos 1) 5 12 (step entering (pos 2) 8 9 (small 6))))
+
 unfoldable pub redistributed-right : List ℕ
-redistributed-right =
-    step withdrawing (pos 1) 5 12
-    (step withdrawing (pos 2) 8 9 (step entering (pos 1) 0 10 (step entering (pos 1) 5 12 (step entering (pos 2) 8 9 (small 6)))))
+redistributed-right = step withdrawing (pos 2) 8 9 given-right
 
 -- two pages join
 unfoldable pub merged-right : List ℕ
@@ -209,11 +211,11 @@ pub record Cases : Type 0 where
       no-instant 21 1
   -- A page split below the root: the parent gains an entry with the same pair.
   pub parent-pair-3 : entries-of 2 (page-at 2 split-below 3) ≡ entry 0 (pair (negsuc 1) (negsuc 0)) 1
-      ∷ entry 4 (pair (negsuc 1) (negsuc 0)) 4 ∷ entry 9 (pair (pos 0) (pos 0)) 2 ∷ []
+      ∷ entry 4 (pair (negsuc 1) (negsuc 0)) 4 ∷ entry 10 (pair (pos 0) (pos 0)) 2 ∷ []
   pub parent-pair-4 : entries-of 2 (page-at 2 split-below 4) ≡ entry 4 (pair (pos 6) (pos 3)) 0 ∷ entry 6 (pair (pos 8) (pos 5)) 0
       ∷ entry 8 (pair (pos 6) (pos 4)) 0 ∷ []
   -- There the pair at 8 is that of page 4's last entry, combined with the one above it, which ends where the next one of the root starts.
-  pub pairs-combined : index-instant 8 split-below ≡ record { status = 0; pair = pair (pos 4) (pos 3); start = 8; end = 9; pages = 2 }
+  pub pairs-combined : index-instant 8 split-below ≡ record { status = 0; pair = pair (pos 4) (pos 3); start = 8; end = 10; pages = 2 }
   -- A left neighbour gives its last entry: both parent pairs are pushed down, and the right start follows.
   pub redistribute-left-3 : entries-of 2 (page-at 2 redistributed-left 3) ≡
       entry 0 (pair (pos 0) (pos 0)) 1 ∷ entry 5 (pair (pos 0) (pos 0)) 2 ∷ entry 11 (pair (pos 0) (pos 0)) 4 ∷ []
@@ -221,9 +223,10 @@ pub record Cases : Type 0 where
       entry 0 (pair (pos 0) (pos 0)) 0 ∷ entry 3 (pair (pos 3) (pos 2)) 0 ∷ []
   pub redistribute-left-2 : entries-of 2 (page-at 2 redistributed-left 2) ≡
       entry 5 (pair (pos 4) (pos 3)) 0 ∷ entry 6 (pair (pos 3) (pos 2)) 0 ∷ []
-  -- A right neighbour joins or gives.
-  pub redistribute-right-1 : entries-of 2 (page-at 2 redistributed-right 1) ≡
-      entry 0 (pair (pos 1) (pos 1)) 0 ∷ entry 8 (pair (pos 1) (pos 1)) 0 ∷ entry 10 (pair (pos 0) (pos 0)) 0 ∷ []
+  -- A right neighbour gives its first entry, both parent pairs are pushed down, and its start follows; or it joins.
+  pub given-right-3 : entries-of 2 (page-at 2 given-right 3) ≡ entry 0 none 1 ∷ entry 9 none 2 ∷ []
+  pub given-right-1 : entries-of 2 (page-at 2 given-right 1) ≡ entry 0 (pair (pos 1) (pos 1)) 0 ∷ entry 8 (pair (pos 3) (pos 2)) 0 ∷ []
+  pub redistribute-right-1 : entries-of 2 (page-at 2 redistributed-right 1) ≡ entry 0 (pair (pos 1) (pos 1)) 0 ∷ entry 10 none 0 ∷ []
   -- Two pages join in the left one.
   pub merge-right-3 : entries-of 2 (page-at 2 merged-right 3) ≡ entry 0 (pair (pos 0) (pos 0)) 1 ∷ entry 10 (pair (pos 0) (pos 0)) 4 ∷ []
   pub merge-right-1 : entries-of 2 (page-at 2 merged-right 1) ≡ entry 0 (pair (pos 0) (pos 0)) 0 ∷ entry 7 (pair (pos 2) (pos 2)) 0

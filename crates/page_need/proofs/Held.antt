@@ -8,13 +8,13 @@ use Rattle.fields.specs.Bytes.{Bytes}
 use Rattle.fields.proofs.Laws.Digits.{bytes-part}
 use Rattle.page.proofs.Laws.Heads.{head-of-fits}
 use Rattle.image.specs.Images.{page-at, image-of}
-use Rattle.image.specs.Sound.{sound}
+use Rattle.image.specs.Sound.{sound-before}
 use Rattle.soundness.proofs.Sound.{Sound-facts, sound-facts}
 use Rattle.invariant.proofs.From.Canonical.{canonical, canonical-kept}
 use Rattle.invariant.proofs.From.Invariant.{pages-range}
 use Rattle.store.specs.Encoding.{Encodes}
 
-pub sound-holds : {half : ℕ} → 2 ≤ half → half ≤ 12 → (img : List ℕ) → Bytes img → sound half img ≡ true
+pub sound-holds : {half : ℕ} → 2 ≤ half → half ≤ 12 → (img : List ℕ) → Bytes img → sound-before half img ≡ true
     → Encodes half img (image-of half img)
 unfolding image-of page-at
 sound-holds {half} least most img b e =

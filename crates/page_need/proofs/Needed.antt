@@ -15,7 +15,7 @@ use Rattle.rule.proofs.Laws.{lawful}
 use Rattle.page.specs.declared.Entry.{Entry}
 use Rattle.page.specs.Entries.{entry, at, index-of}
 use Rattle.image.specs.Images.{Image, image-of}
-use Rattle.image.specs.Sound.{sound}
+use Rattle.image.specs.Sound.{sound-before}
 use Rattle.steps.specs.Supply.{entries, pages-taken}
 use Rattle.steps.specs.Cut.{root-entry, cut as cut-x}
 use Rattle.steps.specs.Change.{cuts, lacks-pages}
@@ -34,7 +34,7 @@ use Rattle.refinement.proofs.Stepped.{once-after}
 use Rattle.refinement.proofs.Cut.{cut-is}
 use Rattle.refinement.proofs.Formed.{formed-full}
 use Rattle.invariant.specs.Invariant.{Structure}
-use Rattle.invariant.proofs.From.Invariant.{sound-invariant}
+use Rattle.invariant.proofs.From.Invariant.{sound-structure}
 use Rattle.invariant.proofs.To.Known.{structure-once}
 use Rattle.page_need.specs.declared.Need.{Need}
 use Rattle.page_need.specs.Needs.{add-needs, page-need, one-cut, parted-cuts, both-cuts, cuts-need, with-new-root, pages-needed}
@@ -92,7 +92,7 @@ at-root {X = X} {Y = Y} sh f =
 
 -- ---- the theorem
 
-module _ {half : ℕ} (two : 2 ≤ half) {B : Asked (Subtree 0)} (cutting : Cuttable B) (s e : ℕ) (lt : s < e) (end : e ≤ END)
+module _ {half : ℕ} (two : 2 ≤ half) {B : Asked (Subtree 0)} (s : ℕ) (cutting : Cuttable s B) (e : ℕ) (lt : s < e) (end : e ≤ END)
     {X : Image} {Y : State} (sh : Represents X Y) (once : Once Y) (F : Formed half B (Y .tree)) where
   full : Full Y
   full = formed-full half B two Y F
@@ -102,7 +102,7 @@ module _ {half : ℕ} (two : 2 ≤ half) {B : Asked (Subtree 0)} (cutting : Cutt
   cuts-shown =
       let a = cut-is half (combine 1) s X Y sh once full in
       cut-is half (combine 1) e (cut-x half s X) (cut half s Y) (a .shown) (once-after a once)
-      (formed-full half (Parts s B) two (cut half s Y) (cut-formed two cutting (lawful 1) s Y F)) .shown
+      (formed-full half (Parts s B) two (cut half s Y) (cut-formed two cutting (lawful 1) Y F)) .shown
 
   takes : (k : ℕ) → tree-cuts half s e Y .supply ≡ later k (Y .supply) → pages-taken X (cuts half s e X) ≡ k
   takes k same = taken-is k (sh .supplied) (subst (λ R. Supplied (cuts half s e X) R) same (cuts-shown .supplied))
@@ -113,7 +113,7 @@ module _ {half : ℕ} (two : 2 ≤ half) {B : Asked (Subtree 0)} (cutting : Cutt
       rw (lt-leb END e low)
       (ap with-new-root
       (at-root sh (λ l r. both-cuts half s e l r X) ∙ both-shown half X s e (suc (Y .tree .level)) (root-node (Y .tree)) (sh .below) full)
-      ∙ sym (takes (with-new-root (both-from half s e (Y .tree))) (cuts-take two cutting s e lt Y F low)))
+      ∙ sym (takes (with-new-root (both-from half s e (Y .tree))) (cuts-take two s cutting e lt Y F low)))
 
   needed-first : END ≤ e → pages-needed half s e X ≡ pages-taken X (cuts half s e X)
   unfolding pages-needed cuts-need Full
@@ -121,7 +121,7 @@ module _ {half : ℕ} (two : 2 ≤ half) {B : Asked (Subtree 0)} (cutting : Cutt
       rw (le-leb END e high)
       (ap with-new-root
       (at-root sh (λ l r. one-cut half s l r X) ∙ one-shown half X s (suc (Y .tree .level)) (root-node (Y .tree)) (sh .below) full)
-      ∙ sym (takes (with-new-root (one-from half s (Y .tree))) (cuts-take-first two cutting s e lt Y F (omega arith) high)))
+      ∙ sym (takes (with-new-root (one-from half s (Y .tree))) (cuts-take-first two s cutting e lt Y F (omega arith) high)))
 
   pub needed : pages-needed half s e X ≡ pages-taken X (cuts half s e X)
   needed = ⊎-elim needed-first needed-both (le-or-lt END e)
@@ -130,14 +130,14 @@ module _ {half : ℕ} (two : 2 ≤ half) {B : Asked (Subtree 0)} (cutting : Cutt
 pub needed-invariant : {half kind changes : ℕ} → 2 ≤ half → (s e : ℕ) → s < e → e ≤ END → {X : Image} {Y : State}
     → Structure half kind changes X Y
     → pages-needed half s e X ≡ pages-taken X (cuts half s e X)
-needed-invariant two s e lt end g = needed two leaf-cuttable s e lt end (g .shown) (structure-once g) (g .formed)
+needed-invariant two s e lt end g = needed two s (leaf-cuttable s) e lt end (g .shown) (structure-once g) (g .formed)
 
 -- of a sound image: 24's condition before anything is written
-pub lacks-is : {half : ℕ} → 2 ≤ half → (s e : ℕ) → s < e → e ≤ END → (img : List ℕ) → sound half img ≡ true
+pub lacks-is : {half : ℕ} → 2 ≤ half → (s e : ℕ) → s < e → e ≤ END → (img : List ℕ) → sound-before half img ≡ true
     → (let X = image-of half img in
     ltb (X .head .chain + (X .head .pages - X .head .mark)) (pages-needed half s e X) ≡ lacks-pages half s e X)
 unfolding lacks-pages
 lacks-is {half} two s e lt end img ok =
     let X = image-of half img in
-    let g = sound-invariant half img (omega arith) ok in
-    ap (ltb (X .head .chain + (X .head .pages - X .head .mark))) (needed-invariant two s e lt end (g .structure))
+    ap (ltb (X .head .chain + (X .head .pages - X .head .mark)))
+    (needed-invariant two s e lt end (sound-structure half img (omega arith) ok))

@@ -102,7 +102,7 @@ grown-asks half e l (x ∷ y ∷ []) S a b two n few few′ same =
     sum-new half a (one-cut-in half e (suc l) (there (suc l) e (x ∷ y ∷ []))) b two (omega arith) few′ same
 grown-asks half e l (x ∷ y ∷ z ∷ zs) S a b two n few few′ same = absurd (omega arith)
 
-module _ {half : ℕ} (two : 2 ≤ half) {B : Asked (Subtree 0)} (cutting : Cuttable B) (s e : ℕ) (lt : s < e) (Y : State)
+module _ {half : ℕ} (two : 2 ≤ half) {B : Asked (Subtree 0)} (s : ℕ) (cutting : Cuttable s B) (e : ℕ) (lt : s < e) (Y : State)
     (F : Formed half B (Y .tree)) where
   -- A and B
   pub cuts-take : e < END → cuts half s e Y .supply ≡ later (with-new-root (both-from half s e (Y .tree))) (Y .supply)
@@ -125,7 +125,7 @@ module _ {half : ℕ} (two : 2 ≤ half) {B : Asked (Subtree 0)} (cutting : Cutt
       (root-counted two s low Y F .len)
       (one-adds half s (suc l) x) (both-adds half s e l x) twice in
       let m : k + j ≡ with-new-root (both-from half s e (Y .tree)) = omega arith in
-      cut-takes two e high (cut half s Y) (cut-formed two cutting (lawful 1) s Y F)
+      cut-takes two e high (cut half s Y) (cut-formed two cutting (lawful 1) Y F)
       ∙ (ap (later k) (cut-takes two s low Y F) ∙ (sym (later-add k j (Y .supply)) ∙ ap (λ i. later i (Y .supply)) m))
 
   -- B does nothing from END on

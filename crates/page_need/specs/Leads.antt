@@ -8,7 +8,7 @@ use Rattle.page.specs.declared.Head.{Head}
 use Rattle.page.specs.Layout.{head-of}
 use Rattle.page.specs.Fit.{Page-context, most-height}
 use Rattle.image.specs.Images.{page-at, pages-in, image-of}
-use Rattle.image.specs.Sound.{tree-fit, sound}
+use Rattle.image.specs.Sound.{tree-fit, sound-before}
 use Rattle.store.specs.Encoding.{Encodes}
 use Rattle.page_need.specs.declared.Need.{Need}
 
@@ -41,5 +41,5 @@ Leads half img t hi (suc l) e = Fit-from half img t hi l (e .child)
 pub record Sound-image (half : ℕ) (img : List ℕ) (h : Head) : Type 0 where
   pub half-least : 2 ≤ half
   pub half-most : half ≤ 12
-  pub sound : sound half img ≡ true
+  pub sound : sound-before half img ≡ true
   pub shown : h ≡ head-of (page-at half img 0)

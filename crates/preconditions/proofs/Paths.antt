@@ -1,7 +1,7 @@
 -- The pages on the path to an instant can be searched for it: what is known of a page of the tree, and of the one below it. Assumes
 -- nothing.
 use Prim.Native.Nat.{ℕ, suc, _+_, _≤_, _<_}
-use mathlib.Core.Path.{_≡_, sym, ap, _∙_}
+use mathlib.Core.Path.{_≡_, refl, sym, ap, _∙_}
 use mathlib.Core.List.{List}
 use native.Mathlib.Omega.{arith}
 use lib.ListN.{length}
@@ -25,7 +25,7 @@ use Rattle.tree.proofs.Seg.{seg-lt}
 use Rattle.tree.proofs.Find.{Has, find-node}
 use Rattle.refinement.specs.Represents.{Stores, Once, Stocked, Full}
 use Rattle.refinement.proofs.Below.{node-at, under-suc, below-at}
-use Rattle.refinement.proofs.Paths.{entries-are, there, has-index, stocked-on, stores-on}
+use Rattle.refinement.proofs.Paths.{page-entries, there, has-index, stocked-on, stores-on}
 use Rattle.refinement.proofs.Stepped.{held-is, once-is}
 use Rattle.refinement.proofs.Formed.{formed-full}
 use Rattle.invariant.specs.Invariant.{Structure}
@@ -34,10 +34,13 @@ use Rattle.invariant.proofs.To.Known.{structure-once, tree-inside}
 use Rattle.preconditions.proofs.Search.{searched}
 
 -- a tree page shows its entries
+pub page-shows : {l p : ℕ} {es : List Entry} (X : Image) → X .page p ≡ tree l es → X .page p ≡ tree l (entries X p)
+page-shows {l} {p} X e = e ∙ ap (λ (es : List Entry). tree l es) (sym (page-entries p X e))
+
 pub page-is : (l : ℕ) (X : Image) (x : Node (Subtree (suc l))) → Stores (suc l) (X .page) x
     → X .page (x .entry .child) ≡ tree l (entries X (x .entry .child))
 unfolding Stores
-page-is l X x s = s .0 ∙ ap (λ (es : List Entry). tree l es) (sym (entries-are l X x s))
+page-is l X x s = page-shows X (s .0)
 
 -- What is known of the page under x on the path to t: its part of the tree is shown, its pages are the image's and none is held twice, its
 -- entries follow each other from t or before, and their pairs are bounded, below pairs whose absolute sums and counts add to these.
@@ -54,6 +57,8 @@ pub record Known (half kind changes t : ℕ) (X : Image) (S : Supply) (l lo hi s
 pub record Below (half kind changes t : ℕ) (X : Image) (S : Supply) (l sums counts : ℕ) (x : Node (Subtree (suc (suc l)))) : Type 0 where
   pub lo : ℕ
   pub hi : ℕ
+  pub starts : there (suc l) t (x .subtree) .entry .start ≡ lo
+  pub filled : half ≤ length (there (suc l) t (x .subtree) .subtree)
   pub known : Known half kind changes t X S l lo hi
       (sums + natAbs (there (suc l) t (x .subtree) .entry .pair .sum))
       (counts + natAbs (there (suc l) t (x .subtree) .entry .pair .count))
@@ -96,6 +101,8 @@ module _ {half kind changes t : ℕ} {X : Image} {S : Supply} where
       record {
         lo = y .entry .start;
         hi = f .end;
+        starts = refl;
+        filled = f .holds .0 .least;
         known =
             record {
               shown = stores-on (suc l) t x (k .stocked) X (k .shown);

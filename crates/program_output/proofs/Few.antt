@@ -10,7 +10,7 @@ use lib.ListN.{length}
 use Rattle.lists.specs.Lists.{sum}
 use Rattle.image.specs.Images.{pages-in}
 use Rattle.image.specs.Listing.{walk-over}
-use Rattle.image.specs.Sound.{sound}
+use Rattle.image.specs.Sound.{sound-before}
 use Rattle.image.proofs.Runs.{join-few}
 use Rattle.tight.specs.Tight.{pages-for, level-sizes, sizes, pages-used}
 use Rattle.soundness.proofs.Sound.{sound-facts}
@@ -23,7 +23,7 @@ unfolding pages-used sizes level-sizes pages-for sum
 too-many = refl
 
 -- "(64 pages ..)"
-pub runs-few : (a b : ℕ) (img : List ℕ) → sound 12 img ≡ true → pages-in 12 img ≡ 64
+pub runs-few : (a b : ℕ) (img : List ℕ) → sound-before 12 img ≡ true → pages-in 12 img ≡ 64
     → length (runs-over 12 a b img) ≤ 1416
 unfolding runs-over
 runs-few a b img fits n = go (decLe 1417 found)

@@ -1,5 +1,6 @@
 -- The demands are met. Assumes nothing.
 use Rattle.demands.proofs.Demands.{the-demands}
+use Rattle.demands.proofs.Neighbours.{neighbours-joined}
 use Rattle.promises.specs.Demands.{Demands-met}
 use Rattle.promises.proofs.Refusing.{refusing}
 use Rattle.promises.proofs.Tables.{by-status}
@@ -14,6 +15,7 @@ pub demands-met : Demands-met
 demands-met =
     record {
       demands = the-demands;
+      neighbours-joined = neighbours-joined;
       refusing = refusing;
       by-status = by-status;
       every-change = every-change-promised;

@@ -5,6 +5,7 @@
 -- (c) the demands hold of every list of such steps, at every capacity: `The-demands`.
 -- The demands that speak of one call's answer alone are told in the words of these promises besides. Assumes nothing.
 use Rattle.claims.specs.Demands.{The-demands}
+use Rattle.claims.specs.Neighbours.{Neighbours-joined}
 use Rattle.promises.specs.Refusing.{Refusing}
 use Rattle.promises.specs.Tables.{By-status}
 use Rattle.promises.specs.Changes.{Every-change-promised}
@@ -16,6 +17,7 @@ use Rattle.promises.specs.Header.{Header-runs, Header-scratch, Header-ta
 
 pub record Demands-met : Type 0 where
   pub demands : The-demands
+  pub neighbours-joined : Neighbours-joined
   pub refusing : Refusing
   pub by-status : By-status
   pub every-change : Every-change-promised

@@ -10,14 +10,14 @@ ghost use mathlib.Core.Path.{_≡_};
 ghost use mathlib.Core.Bool.{true};
 ghost use Prim.Native.Nat.{_≤_};
 ghost use Rattle.image.specs.Images.{length-ok};
-ghost use Rattle.image.specs.Sound.{sound};
+ghost use Rattle.image.specs.Sound.{sound-before};
 ghost use Rattle.rebuild.specs.Rebuild.{Fills};
 
-// Writes the tight image of a sound source over the target, if it has pages enough for it. A sound source has a fit head, so that the test
+// Writes the tight image of a source that is sound by document 01's rule over the target, if it has pages enough for it. A sound source has a fit head, so that the test
 // of it turns nothing back. No page is checked here: the audit has found every one fit, and a second check was a sixth of a rebuild's time.
 pub fn fill_target(half: usize, source: &[u8], target: &mut [u8]) -> bool
     requires { ⌜ (2 ≤ half) × (half ≤ 12) ⌝ }
-    requires { ⌜ (sound half (now source) ≡ true) × (length-ok half (now target) ≡ true) ⌝ }
+    requires { ⌜ (sound-before half (now source) ≡ true) × (length-ok half (now target) ≡ true) ⌝ }
     ensures { λ r. ⌜ Fills half (now (source .entry)) (now (target .entry)) r (now (target .exit)) ⌝ }
 {
     let HeadCheck::Fit(h) = open_head(half, source) else {

@@ -1,29 +1,28 @@
 -- A heal does to the tree and the supply that an image shows what it does to trees, and writes the path and the siblings used.
 -- Assumes nothing.
 use Prim.Native.Nat.{ℕ, zero, suc, _+_, _-_, _≤_}
-use mathlib.Core.Path.{_≡_, refl, sym, ap, _∙_, subst}
-use mathlib.Core.Bool.{Bool, true, false, cond}
+use mathlib.Core.Path.{_≡_, refl, sym, ap, _∙_}
+use mathlib.Core.Bool.{Bool, true, false, cond, _||_}
 use mathlib.Core.List.{List, [], _∷_, _++_}
 use native.Mathlib.Omega.{arith}
-use lib.Dec.{leb, ltb}
+use lib.Dec.{eqb, leb, ltb}
 use lib.ListN.{length, take, drop, length-map}
 use borrow.Author.Tests.{leb-true}
-use Rattle.lists.specs.Lists.{all-none, all-more, hit}
+use Rattle.lists.specs.Lists.{All, all-none, all-more, hit}
 use Rattle.lists.proofs.Choices.{cond-both, cond-one}
-use Rattle.lists.proofs.Edits.{map-splice}
+use Rattle.lists.proofs.Edits.{map-splice, length-splice-one}
 use Rattle.lists.proofs.Totals.{hit-self}
 use Rattle.lists.proofs.Times.{times-cons, times-none, times-append}
 use Rattle.rule.specs.declared.Pair.{Pair}
 use Rattle.rule.specs.Time.{END}
-use Rattle.page.specs.declared.Entry.{Entry}
 use Rattle.page.specs.declared.Head.{Head}
-use Rattle.page.specs.Entries.{entry, at, index-of}
+use Rattle.page.specs.Entries.{index-of}
 use Rattle.lists.specs.Lists.{splice}
-use Rattle.image.specs.Images.{Image, tree}
+use Rattle.image.specs.Images.{Image, Cell, tree, entries-in}
 use Rattle.lists.specs.Lists.{times}
-use Rattle.steps.specs.Supply.{put, with-supply}
+use Rattle.steps.specs.Supply.{entries, put, with-supply}
 use Rattle.steps.specs.Heal.{heals, short, sibling, left-of, collapse-if-single as collapse-if-single-x, rebalance as rebalance-x}
-use Rattle.steps.specs.Heal.{heal-page, heal as heal-x}
+use Rattle.steps.specs.Heal.{joins-edge as joins-edge-x, carried, carry, heal-page, heal as heal-x}
 use Rattle.steps.specs.Change.{path-from, path, siblings-used, heal-names}
 use Rattle.steps.proofs.Supply.{put-head}
 use Rattle.tree.specs.Tree.{Node, Subtree, Nodes, flat, pages-under}
@@ -34,11 +33,14 @@ use Rattle.tree.specs.Heal.{Healing, rebalance, heal-nodes, collapse-if-single,
 use Rattle.tree.specs.Conserved.{times-below, times-spare, held}
 use Rattle.refinement.specs.Represents.{Stores, Supplied, Represents, Once, Stocked, Full}
 use Rattle.refinement.proofs.Below.{below-leaf, node-at, under-suc, below-one, below-at, below-two, below-splice}
-use Rattle.refinement.proofs.Moves.{leaves-represented, put-else, put-stores, splice-represented, lasting, put-supplied}
-use Rattle.refinement.proofs.Paths.{flat-same, from-root, entries-are, at-flat, there, has-index, stocked-on, stores-on, path-in}
-use Rattle.refinement.proofs.Paths.{path-down}
+use Rattle.refinement.proofs.Moves.{leaves-represented, put-else, put-stores, splice-represented, same-stores, lasting}
+use Rattle.refinement.proofs.Moves.{supplied-move, put-supplied}
+use Rattle.refinement.proofs.Carry.{Carried, with-below, carries}
+use Rattle.refinement.proofs.Paths.{entries-are, subtrees-represented, at-flat, same-at, there, has-index, stocked-on, stores-on}
+use Rattle.refinement.proofs.Paths.{path-in, from-root, path-down}
 use Rattle.refinement.proofs.Stepped.{state, Stepped, steady-of, steady-then, held-is, once-is}
 use Rattle.refinement.proofs.Collapse.{Collapsed, collapses}
+use Rattle.refinement.proofs.Edges.{joins-edge-is}
 use Rattle.refinement.proofs.Past.{heal-past}
 use Rattle.refinement.proofs.Rebalance.{Healed, weighed, siblings, left-in, turns}
 
@@ -47,7 +49,16 @@ pub stocked-two : (l : ℕ) (x : Node (Subtree (suc (suc l)))) → Stocked (suc 
 unfolding Stocked root-least
 stocked-two l x k = k .0
 
-module _ (half : ℕ) (_⊕_ : Pair → Pair → Pair) (t : ℕ) where
+-- What there is between the heal of the page under the i-th entry below x and its rebalancing: in Z the page of x is as it was, and in Z′
+-- the start was carried up, so that x′ is shown, with the same children.
+pub record Risen (l i : ℕ) (x x′ : Node (Subtree (suc (suc l)))) (Z Z′ : Image) : Type 0 where
+  pub still : Z .page (x .entry .child) ≡ tree (suc l) (flat (x .subtree))
+  pub up : Carried l x′ Z Z′
+  pub as-long : length (x′ .subtree) ≡ length (x .subtree)
+  pub same-child : (m : ℕ) → node-at (suc l) (x′ .subtree) m .entry .child ≡ node-at (suc l) (x .subtree) m .entry .child
+  pub below-still : Z′ .page (node-at (suc l) (x .subtree) i .entry .child) ≡ Z .page (node-at (suc l) (x .subtree) i .entry .child)
+
+module _ (half : ℕ) (_⊕_ : Pair → Pair → Pair) (edge : Bool) (t : ℕ) where
   -- ---- the pages that may be written
 
   -- the sibling of the entry that has t
@@ -58,11 +69,11 @@ module _ (half : ℕ) (_⊕_ : Pair → Pair → Pair) (t : ℕ) where
   abbrev rebalanced : (l : ℕ) → Node (Subtree (suc (suc l))) → Image → List ℕ
   rebalanced l x X =
       let p = there (suc l) t (x .subtree) .entry .child in
-      cond (short half p (heal-page half _⊕_ t l p X)) (other (suc l) (x .subtree) .entry .child ∷ []) []
+      cond (short half p (heal-page half _⊕_ edge t l p X)) (other (suc l) (x .subtree) .entry .child ∷ []) []
 
   rebalanced-up : (l : ℕ) (x : Node (Subtree (suc (suc l)))) (X : Image) → Stores (suc (suc l)) (X .page) x
-      → siblings-used half _⊕_ t (suc l) (x .entry .child) X ≡
-      siblings-used half _⊕_ t l (there (suc l) t (x .subtree) .entry .child) X ++ rebalanced l x X
+      → siblings-used half _⊕_ edge t (suc l) (x .entry .child) X ≡
+      siblings-used half _⊕_ edge t l (there (suc l) t (x .subtree) .entry .child) X ++ rebalanced l x X
   unfolding siblings-used
   rebalanced-up l x X s =
       rw (
@@ -74,7 +85,7 @@ module _ (half : ℕ) (_⊕_ : Pair → Pair → Pair) (t : ℕ) where
 
   -- how often the path and the siblings used have a page
   abbrev pub may : (l : ℕ) → Node (Subtree (suc l)) → Image → ℕ → ℕ
-  may l x X q = times q (path-in t (suc l) x) + times q (siblings-used half _⊕_ t l (x .entry .child) X)
+  may l x X q = times q (path-in t (suc l) x) + times q (siblings-used half _⊕_ edge t l (x .entry .child) X)
 
   -- the page on the path and its sibling, and what is below them, are all below one page
   beside : (q l : ℕ) (x : Node (Subtree (suc (suc l)))) → Stocked (suc (suc l)) x
@@ -96,10 +107,10 @@ module _ (half : ℕ) (_⊕_ : Pair → Pair → Pair) (t : ℕ) where
   unfolding path-in
   may-up q l x X s =
       let y = there (suc l) t (x .subtree) in
-      let e : times q (siblings-used half _⊕_ t (suc l) (x .entry .child) X) ≡
-      times q (siblings-used half _⊕_ t l (y .entry .child) X) + times q (rebalanced l x X) =
+      let e : times q (siblings-used half _⊕_ edge t (suc l) (x .entry .child) X) ≡
+      times q (siblings-used half _⊕_ edge t l (y .entry .child) X) + times q (rebalanced l x X) =
       ap (λ (ps : List ℕ). times q ps) (rebalanced-up l x X s)
-      ∙ times-append q (siblings-used half _⊕_ t l (y .entry .child) X) (rebalanced l x X) in
+      ∙ times-append q (siblings-used half _⊕_ edge t l (y .entry .child) X) (rebalanced l x X) in
       omega (arith, times-cons q (x .entry .child) (path-in t (suc l) y))
 
   may-here : (q l : ℕ) (x : Node (Subtree (suc l))) (X : Image) → hit q (x .entry .child) ≤ may l x X q
@@ -115,14 +126,15 @@ module _ (half : ℕ) (_⊕_ : Pair → Pair → Pair) (t : ℕ) where
       let r : may l y X q ≤ times q (pages-under (suc l) y) = may-within q l y X (stores-on (suc l) t x k X s) (stocked-on (suc l) t x k) in
       let c : times q (rebalanced l x X) ≤ hit q (n .entry .child) =
       cond-one (λ (ps : List ℕ). times q ps ≤ hit q (n .entry .child))
-      (short half (y .entry .child) (heal-page half _⊕_ t l (y .entry .child) X))
+      (short half (y .entry .child) (heal-page half _⊕_ edge t l (y .entry .child) X))
       (λ e. omega (arith, times-cons q (n .entry .child) [], times-none q)) (λ e. omega (arith, times-none q)) in
       omega (arith, may-up q l x X s, under-suc (suc l) q x, under-suc l q n, beside q l x k)
 
   -- ---- a leaf
 
   abbrev HealIs : (l : ℕ) → Node (Subtree (suc l)) → Image → Supply → Type 0
-  HealIs l x X S = Healed l x X (heal-page half _⊕_ t l (x .entry .child) X) S (heal-nodes half _⊕_ t l (x .subtree) S) (may l x X)
+  HealIs l x X S =
+      Healed l x X (heal-page half _⊕_ edge t l (x .entry .child) X) S (heal-nodes half _⊕_ edge t l (x .subtree) S) (may l x X)
 
   heal-leaf : (x : Node (Subtree 1)) (X : Image) (S : Supply) → Stores 1 (X .page) x → Supplied X S
       → ((q : ℕ) → times q (pages-under 1 x) + times-spare q S ≤ 1)
@@ -133,7 +145,7 @@ module _ (half : ℕ) (_⊕_ : Pair → Pair → Pair) (t : ℕ) where
       (cond-both (λ X′ es. Healed 0 x X X′ S (record { nodes = es; supply = S }) (may 0 x X)) b b refl (λ e. gone) (λ e. stays))
     where
       b : Bool
-      b = heals t (flat (x .subtree)) (index-of t (flat (x .subtree)))
+      b = edge || heals t (flat (x .subtree)) (index-of t (flat (x .subtree)))
 
       es : Nodes 0
       es = splice (index-of t (flat (x .subtree))) [] (x .subtree)
@@ -181,16 +193,17 @@ module _ (half : ℕ) (_⊕_ : Pair → Pair → Pair) (t : ℕ) where
     z = other (suc l) (x .subtree)
 
     abbrev y′ : Node (Subtree (suc l))
-    y′ = record { entry = y .entry; subtree = r .nodes }
+    y′ = record { entry = carried edge t (flat (r .nodes)) (y .entry); subtree = r .nodes }
 
     abbrev healed : Nodes (suc l)
-    healed = splice i (y′ ∷ []) (x .subtree)
+    healed = with-below edge t l i x (r .nodes)
 
     abbrev x′ : Node (Subtree (suc (suc l)))
     x′ = record { entry = x .entry; subtree = healed }
 
-    flat-healed : flat healed ≡ flat (x .subtree)
-    flat-healed = flat-same (suc l) i (y′ ∷ []) (x .subtree) (has-index (suc l) t x stock) refl
+    -- what is carried up is written to the page of x
+    abbrev Z′ : Image
+    Z′ = carry edge t (suc l) (x .entry .child) i Z
 
     -- what each page is counted by
     record Room (q : ℕ) : Type 0 where
@@ -203,6 +216,7 @@ module _ (half : ℕ) (_⊕_ : Pair → Pair → Pair) (t : ℕ) where
       most : hit q (x .entry .child) + times-below (suc l) q (x .subtree) + times-spare q S ≤ 1
 
     room : (q : ℕ) → Room q
+    unfolding carried
     room q =
         let u = under-suc l q y in
         record {
@@ -213,73 +227,95 @@ module _ (half : ℕ) (_⊕_ : Pair → Pair → Pair) (t : ℕ) where
           most = omega (arith, once q, under-suc (suc l) q x);
         }
 
-    pub shown′ : Stores (suc (suc l)) (Z .page) x′
+    -- the page of x is none of those written below
+    still : Z .page (x .entry .child) ≡ tree (suc l) (flat (x .subtree))
     unfolding Stores
-    shown′ =
-        let p = x .entry .child in (
-          g .frame p (let m = room p in omega (arith, hit-self p)) ∙ shown .0 ∙ ap (λ (es : List Entry). tree (suc l) es) (sym flat-healed),
-          splice-represented (suc l) (may l y X) (g .frame) i (shown .1) (all-more (g .shows) all-none)
-              (λ q. let m = room q in omega arith),
-        )
+    still = let p = x .entry .child in g .frame p (let m = room p in omega (arith, hit-self p)) ∙ shown .0
+
+    subtrees-shown : All (λ z. Stores (suc l) (Z .page) z) healed
+    unfolding carried
+    subtrees-shown =
+        splice-represented (suc l) (may l y X) (g .frame) i (subtrees-represented (suc l) X x shown)
+        (all-more (same-stores (suc l) (record { entry = y .entry; subtree = r .nodes }) (y′ .entry) refl (Z .page) (g .shows)) all-none)
+        (λ q. let m = room q in omega arith)
+
+    up : Carried l x′ Z Z′
+    up =
+        carries edge t l i x (r .nodes) Z (has-index (suc l) t x stock) still
+        (entries-are l Z (record { entry = y .entry; subtree = r .nodes }) (g .shows)) subtrees-shown
+        (λ q. let m = room q in omega arith)
 
     once′ : (q : ℕ) → times q (pages-under (suc (suc l)) x′) + times-spare q (r .supply) ≤ 1
     once′ q = let m = room q in omega (arith, under-suc (suc l) q x′)
 
-    as-long : length healed ≡ length (x .subtree)
-    as-long = sym (length-map healed (λ y. y .entry)) ∙ ap length flat-healed ∙ length-map (x .subtree) (λ y. y .entry)
+    supplied′ : Supplied Z′ (r .supply)
+    supplied′ =
+        supplied-move (λ q. hit q (x .entry .child)) (up .head) (up .frame) (g .supplied) (λ q. let m = room q in omega arith)
 
-    same-child : (q m : ℕ) → hit q (node-at (suc l) healed m .entry .child) ≡ hit q (node-at (suc l) (x .subtree) m .entry .child)
-    same-child q m =
-        ap (λ (e : Entry). hit q (e .child))
-        (sym (at-flat (suc l) healed m) ∙ ap (λ (es : List Entry). at es m) flat-healed ∙ at-flat (suc l) (x .subtree) m)
+    as-long : length healed ≡ length (x .subtree)
+    as-long = length-splice-one i y′ (x .subtree) (has-index (suc l) t x stock)
+
+    same-child : (m : ℕ) → node-at (suc l) healed m .entry .child ≡ node-at (suc l) (x .subtree) m .entry .child
+    unfolding carried
+    same-child m = same-at (suc l) (λ z. z .entry .child) i y′ (x .subtree) (has-index (suc l) t x stock) refl m
 
     abbrev now-may : Bool → ℕ → ℕ
     now-may c q = hit q (x .entry .child) + (may l y X q + times q (cond c (z .entry .child ∷ []) []))
 
     by-test : (c : Bool)
-        → Healed (suc l) x X (cond c (rebalance-x half _⊕_ l (x .entry .child) i Z) Z) S
+        → Healed (suc l) x X (cond c (rebalance-x half _⊕_ l (x .entry .child) i Z′) Z′) S
         (cond c (rebalance half _⊕_ l i healed (r .supply)) (record { nodes = healed; supply = r .supply })) (now-may c)
     by-test false =
         record {
-          shows = shown′;
-          supplied = g .supplied;
+          shows = up .shows;
+          supplied = supplied′;
           pages = λ q. let m = room q in omega arith;
-          frame = λ q h. g .frame q (omega arith);
-          head = g .head;
+          frame = λ q h. up .frame q (omega arith) ∙ g .frame q (omega arith);
+          head = ap lasting (up .head) ∙ g .head;
           only = λ h n q. absurd (omega (arith, as-long, stocked-two l x stock));
         }
     by-test true =
         let p = x .entry .child in
-        let d : Healed (suc l) x′ Z (rebalance-x half _⊕_ l p i Z) (r .supply) (rebalance half _⊕_ l i healed (r .supply))
+        let d : Healed (suc l) x′ Z′ (rebalance-x half _⊕_ l p i Z′) (r .supply) (rebalance half _⊕_ l i healed (r .supply))
         (λ q. hit q p + (hit q (node-at (suc l) healed i .entry .child) + hit q (node-at (suc l) healed (sibling i) .entry .child))) =
-        turns half _⊕_ l x′ i Z (r .supply) (omega (arith, as-long, stocked-two l x stock))
-        (omega (arith, as-long, has-index (suc l) t x stock)) shown′ (g .supplied) once′ in
+        turns half _⊕_ l x′ i Z′ (r .supply) (omega (arith, as-long, stocked-two l x stock))
+        (omega (arith, as-long, has-index (suc l) t x stock)) (up .shows) supplied′ once′ in
         let w : (q : ℕ) → hit q p
         + (hit q (node-at (suc l) healed i .entry .child) + hit q (node-at (suc l) healed (sibling i) .entry .child)) ≤ now-may true q =
-        λ q. omega (arith, same-child q i, same-child q (sibling i), may-here q l y X, times-cons q (z .entry .child) [], times-none q) in
+        λ q.
+        let a : hit q (node-at (suc l) healed i .entry .child) ≡ hit q (y .entry .child) = ap (hit q) (same-child i) in
+        let b : hit q (node-at (suc l) healed (sibling i) .entry .child) ≡ hit q (z .entry .child) = ap (hit q) (same-child (sibling i)) in
+        omega (arith, may-here q l y X, times-cons q (z .entry .child) [], times-none q) in
         record {
           shows = d .shows;
           supplied = d .supplied;
           pages = λ q. let m = room q in omega (arith, d .pages q);
-          frame = λ q h. d .frame q (omega (arith, w q)) ∙ g .frame q (omega arith);
-          head = d .head ∙ g .head;
+          frame = λ q h. d .frame q (omega (arith, w q)) ∙ up .frame q (omega (arith, w q)) ∙ g .frame q (omega arith);
+          head = d .head ∙ ap lasting (up .head) ∙ g .head;
           only = λ h n q. omega (arith, d .only h n q, w q);
         }
 
-    test-same : short half (y .entry .child) Z ≡ ltb (length (r .nodes)) half
-    unfolding short
-    test-same = ap (λ (n : ℕ). ltb n half) (ap length (entries-are l Z y′ (g .shows)) ∙ length-map (r .nodes) (λ y. y .entry))
+    -- the page below is not written again
+    below-still : Z′ .page (y .entry .child) ≡ Z .page (y .entry .child)
+    below-still = let q = y .entry .child in up .frame q (let m = room q in omega (arith, hit-self q))
 
-    one-up : Healed (suc l) x X (cond (short half (y .entry .child) Z) (rebalance-x half _⊕_ l (x .entry .child) i Z) Z) S
+    pub risen : Risen l i x x′ Z Z′
+    risen = record { still = still; up = up; as-long = as-long; same-child = same-child; below-still = below-still }
+
+    test-before : short half (y .entry .child) Z ≡ ltb (length (r .nodes)) half
+    unfolding short
+    test-before =
+        ap (λ (n : ℕ). ltb n half)
+        (ap length (entries-are l Z (record { entry = y .entry; subtree = r .nodes }) (g .shows)) ∙ length-map (r .nodes) (λ y. y .entry))
+
+    test-after : short half (y .entry .child) Z′ ≡ ltb (length (r .nodes)) half
+    unfolding short entries
+    test-after = ap (λ (c : Cell). ltb (length (entries-in c)) half) below-still ∙ test-before
+
+    one-up : Healed (suc l) x X (cond (short half (y .entry .child) Z′) (rebalance-x half _⊕_ l (x .entry .child) i Z′) Z′) S
         (cond (ltb (length (r .nodes)) half) (rebalance half _⊕_ l i healed (r .supply)) (record { nodes = healed; supply = r .supply }))
         (now-may (short half (y .entry .child) Z))
-    one-up =
-        subst
-        (λ (c : Bool).
-        Healed (suc l) x X (cond (short half (y .entry .child) Z) (rebalance-x half _⊕_ l (x .entry .child) i Z) Z) S
-        (cond c (rebalance half _⊕_ l i healed (r .supply)) (record { nodes = healed; supply = r .supply }))
-        (now-may (short half (y .entry .child) Z)))
-        test-same (by-test (short half (y .entry .child) Z))
+    one-up = rw (test-before, test-after) (by-test (ltb (length (r .nodes)) half))
 
   heal-up : (l : ℕ) (x : Node (Subtree (suc (suc l)))) (X : Image) (S : Supply)
       → Stores (suc (suc l)) (X .page) x
@@ -292,7 +328,7 @@ module _ (half : ℕ) (_⊕_ : Pair → Pair → Pair) (t : ℕ) where
       let y = there (suc l) t (x .subtree) in
       rw (entries-are (suc l) X x shown, at-flat (suc l) (x .subtree) (index-of t (flat (x .subtree))))
       (weighed (λ q. sym (may-up q l x X shown))
-      (one-up l x X S shown stock once (heal-page half _⊕_ t l (y .entry .child) X) (heal-nodes half _⊕_ t l (y .subtree) S) g))
+      (one-up l x X S shown stock once (heal-page half _⊕_ edge t l (y .entry .child) X) (heal-nodes half _⊕_ edge t l (y .subtree) S) g))
 
   pub heal-node-is : (l : ℕ) (x : Node (Subtree (suc l))) (X : Image) (S : Supply)
       → Stores (suc l) (X .page) x
@@ -315,67 +351,81 @@ module _ (half : ℕ) (_⊕_ : Pair → Pair → Pair) (t : ℕ) where
 
 -- ---- from the root
 
--- on the way down, for END too
-abbrev down : (half : ℕ) (_⊕_ : Pair → Pair → Pair) (t : ℕ) (X : Image) → List ℕ
-down half _⊕_ t X =
-    path-from t (X .head .height - 1) (X .head .root) X ++ siblings-used half _⊕_ t (X .head .height - 1) (X .head .root) X
+module _ (half : ℕ) (_⊕_ : Pair → Pair → Pair) (edge : Bool) (t : ℕ) (X : Image) where
+  -- on the way down, for END too
+  abbrev down : List ℕ
+  down =
+      path-from t (X .head .height - 1) (X .head .root) X
+      ++ siblings-used half _⊕_ edge t (X .head .height - 1) (X .head .root) X
 
-heal-down : (half : ℕ) (_⊕_ : Pair → Pair → Pair) (t : ℕ) (X : Image) (Y : State) → Represents X Y → Once Y → Full Y
-    → Stepped X (heal-x half _⊕_ t X) Y (heal half _⊕_ t Y) (down half _⊕_ t X)
-unfolding heal-x heal root-node lasting with-supply Full
-heal-down half _⊕_ t X Y sh once stock =
-    let l = Y .tree .level in
-    let x = root-node (Y .tree) in
-    let Z = heal-page half _⊕_ t l (Y .tree .root) X in
-    let r = heal-nodes half _⊕_ t l (Y .tree .nodes) (Y .supply) in
-    let x′ : Node (Subtree (suc l)) = record { entry = x .entry; subtree = r .nodes } in
-    let Y′ : State = state l (Y .tree .root) (r .nodes) (r .supply) in
-    let g : Healed l x X Z (Y .supply) r (may half _⊕_ t l x X) =
-    heal-node-is half _⊕_ t l x X (Y .supply) (sh .below) stock (sh .supplied) (λ q. omega (arith, held-is q Y, once-is Y once q)) in
-    let same : (q : ℕ) → held q Y′ ≡ held q Y =
-    λ q. omega (arith, held-is q Y, held-is q Y′, under-suc l q x, under-suc l q x′, g .pages q) in
-    let m : Collapsed Z (collapse-if-single-x _⊕_ Z) Y′ (collapse-if-single half _⊕_ l (Y .tree .root) (r .nodes) (r .supply))
-    (may half _⊕_ t l x X) =
-    collapses half _⊕_ l x′ Z (r .supply) (may half _⊕_ t l x X)
-    (ap (λ (f : Head). f .height) (g .head) ∙ sh .height)
-    (ap (λ (f : Head). f .root) (g .head) ∙ sh .root)
-    (g .shows) (g .supplied)
-    (λ q. omega (arith, held-is q Y′, same q, once-is Y once q))
-    (λ q. may-here half _⊕_ t q l x X)
-    (g .only) in
-    let W = path-from t (X .head .height - 1) (X .head .root) X in
-    let N = siblings-used half _⊕_ t (X .head .height - 1) (X .head .root) X in
-    let names : (q : ℕ) → times q (W ++ N) ≡ may half _⊕_ t l x X q =
-    λ q. times-append q W N
-    ∙ ap (λ (ps : List ℕ). times q ps + times q N) (path-down t X Y sh stock)
-    ∙ from-root sh (λ n p. times q (path-in t (suc l) x) + times q (siblings-used half _⊕_ t n p X)) in
-    rw (from-root sh (λ n p. heal-page half _⊕_ t n p X))
-    (record {
-      shown = m .shown;
-      same-held = λ q. m .pages q ∙ same q;
-      frame = λ q z. m .frame q (omega (arith, names q)) ∙ g .frame q (omega (arith, names q));
-      inside = λ q z. omega (arith, names q, may-within half _⊕_ t q l x X (sh .below) stock, held-is q Y);
-      steady = steady-then (steady-of (g .head)) (m .steady);
-    })
+  abbrev healed-x : Image
+  healed-x = collapse-if-single-x _⊕_ (heal-page half _⊕_ edge t (X .head .height - 1) (X .head .root) X)
+
+  abbrev healed-tree : State → State
+  healed-tree Y =
+      let T = Y .tree in
+      let r = heal-nodes half _⊕_ edge t (T .level) (T .nodes) (Y .supply) in
+      collapse-if-single half _⊕_ (T .level) (T .root) (r .nodes) (r .supply)
+
+  heal-down : (Y : State) → Represents X Y → Once Y → Full Y → Stepped X healed-x Y (healed-tree Y) down
+  unfolding root-node lasting with-supply Full
+  heal-down Y sh once stock =
+      let l = Y .tree .level in
+      let x = root-node (Y .tree) in
+      let Z = heal-page half _⊕_ edge t l (Y .tree .root) X in
+      let r = heal-nodes half _⊕_ edge t l (Y .tree .nodes) (Y .supply) in
+      let x′ : Node (Subtree (suc l)) = record { entry = x .entry; subtree = r .nodes } in
+      let Y′ : State = state l (Y .tree .root) (r .nodes) (r .supply) in
+      let g : Healed l x X Z (Y .supply) r (may half _⊕_ edge t l x X) =
+      heal-node-is half _⊕_ edge t l x X (Y .supply) (sh .below) stock (sh .supplied) (λ q. omega (arith, held-is q Y, once-is Y once q)) in
+      let same : (q : ℕ) → held q Y′ ≡ held q Y =
+      λ q. omega (arith, held-is q Y, held-is q Y′, under-suc l q x, under-suc l q x′, g .pages q) in
+      let m : Collapsed Z (collapse-if-single-x _⊕_ Z) Y′ (collapse-if-single half _⊕_ l (Y .tree .root) (r .nodes) (r .supply))
+      (may half _⊕_ edge t l x X) =
+      collapses half _⊕_ l x′ Z (r .supply) (may half _⊕_ edge t l x X)
+      (ap (λ (f : Head). f .height) (g .head) ∙ sh .height)
+      (ap (λ (f : Head). f .root) (g .head) ∙ sh .root)
+      (g .shows) (g .supplied)
+      (λ q. omega (arith, held-is q Y′, same q, once-is Y once q))
+      (λ q. may-here half _⊕_ edge t q l x X)
+      (g .only) in
+      let W = path-from t (X .head .height - 1) (X .head .root) X in
+      let N = siblings-used half _⊕_ edge t (X .head .height - 1) (X .head .root) X in
+      let names : (q : ℕ) → times q (W ++ N) ≡ may half _⊕_ edge t l x X q =
+      λ q. times-append q W N
+      ∙ ap (λ (ps : List ℕ). times q ps + times q N) (path-down t X Y sh stock)
+      ∙ from-root sh (λ n p. times q (path-in t (suc l) x) + times q (siblings-used half _⊕_ edge t n p X)) in
+      rw (from-root sh (λ n p. heal-page half _⊕_ edge t n p X))
+      (record {
+        shown = m .shown;
+        same-held = λ q. m .pages q ∙ same q;
+        frame = λ q z. m .frame q (omega (arith, names q)) ∙ g .frame q (omega (arith, names q));
+        inside = λ q z. omega (arith, names q, may-within half _⊕_ edge t q l x X (sh .below) stock, held-is q Y);
+        steady = steady-then (steady-of (g .head)) (m .steady);
+      })
 
 -- END is on no path: the image stays as it is.
 pub heal-is : {B : Asked (Subtree 0)} (half : ℕ) (_⊕_ : Pair → Pair → Pair) (t : ℕ) (X : Image) (Y : State) → Represents X Y
     → Once Y → Full Y
     → Formed half B (Y .tree)
-    → Stepped X (heal-x half _⊕_ t X) Y (heal half _⊕_ t Y) (heal-names half _⊕_ t X)
-unfolding path heal-names
-heal-is half _⊕_ t X Y sh once stock formed = go (leb END t) refl
+    → Stepped X (heal-x half _⊕_ t X) Y (heal half _⊕_ (eqb (X .head .kind) 1) t Y) (heal-names half _⊕_ t X)
+unfolding path heal-names heal-x heal
+heal-is half _⊕_ t X Y sh once stock formed = rw (← joins-edge-is _⊕_ t X Y sh stock) (go (leb END t) refl)
   where
-    d : Stepped X (heal-x half _⊕_ t X) Y (heal half _⊕_ t Y) (down half _⊕_ t X)
-    d = heal-down half _⊕_ t X Y sh once stock
+    edge : Bool
+    edge = joins-edge-x _⊕_ t X
+
+    d : Stepped X (healed-x half _⊕_ edge t X) Y (healed-tree half _⊕_ edge t X Y) (down half _⊕_ edge t X)
+    d = heal-down half _⊕_ edge t X Y sh once stock
 
     W : List ℕ
     W = path-from t (X .head .height - 1) (X .head .root) X
 
     N : List ℕ
-    N = siblings-used half _⊕_ t (X .head .height - 1) (X .head .root) X
+    N = siblings-used half _⊕_ edge t (X .head .height - 1) (X .head .root) X
 
-    go : (b : Bool) → leb END t ≡ b → Stepped X (heal-x half _⊕_ t X) Y (heal half _⊕_ t Y) (cond b [] W ++ cond b [] N)
+    go : (b : Bool) → leb END t ≡ b
+        → Stepped X (healed-x half _⊕_ edge t X) Y (healed-tree half _⊕_ edge t X Y) (cond b [] W ++ cond b [] N)
     go false e = d
     go true e =
         record {

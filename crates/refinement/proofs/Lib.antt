@@ -9,6 +9,9 @@ pub mod Combine
 pub mod Order
 pub mod Rebalance
 pub mod Collapse
+pub mod Carry
+pub mod Edges
+pub mod Ways
 pub mod Past
 pub mod Heal
 pub mod Formed

@@ -1,10 +1,10 @@
 -- The path to an instant, on the tree: it is that of the image, and its pages are pages of the tree. Assumes nothing.
 use Prim.Native.Nat.{ℕ, zero, suc, _-_, _≤_, _<_}
 use mathlib.Core.Path.{_≡_, refl, sym, ap, _∙_}
-use mathlib.Core.List.{List, [], _∷_}
+use mathlib.Core.List.{List, [], _∷_, map}
 use native.Mathlib.Omega.{arith}
 use lib.Dec.{leb}
-use lib.ListN.{length, length-map, List·getD-map}
+use lib.ListN.{length, getD, length-map, List·getD-map}
 use borrow.Author.Tests.{le-leb, lt-leb}
 use Rattle.lists.specs.Lists.{All}
 use Rattle.lists.proofs.Choices.{cond-one}
@@ -13,9 +13,9 @@ use Rattle.lists.proofs.All.{all-at}
 use Rattle.lists.proofs.Times.{times-cons, times-none}
 use Rattle.rule.specs.Time.{END}
 use Rattle.page.specs.declared.Entry.{Entry}
-use Rattle.page.specs.Entries.{no-entry, at, index-of}
+use Rattle.page.specs.Entries.{at, index-of}
 use Rattle.lists.specs.Lists.{splice}
-use Rattle.image.specs.Images.{Image, entries-in}
+use Rattle.image.specs.Images.{Image, tree, entries-in}
 use Rattle.lists.specs.Lists.{times}
 use Rattle.steps.specs.Supply.{entries}
 use Rattle.steps.specs.Change.{path-from, path}
@@ -26,10 +26,14 @@ use Rattle.tree.proofs.Find.{index-inside}
 use Rattle.refinement.specs.Represents.{Stores, Represents, Stocked, Full}
 use Rattle.refinement.proofs.Below.{node-at, under-zero, under-suc, below-at}
 
+pub page-entries : {l : ℕ} {es : List Entry} (p : ℕ) (X : Image) → X .page p ≡ tree l es → entries X p ≡ es
+unfolding entries entries-in
+page-entries p X e = ap entries-in e
+
 pub entries-are : (l : ℕ) (X : Image) (x : Node (Subtree (suc l))) → Stores (suc l) (X .page) x
     → entries X (x .entry .child) ≡ flat (x .subtree)
-unfolding Stores entries entries-in
-entries-are l X x s = ap entries-in (s .0)
+unfolding Stores
+entries-are l X x s = page-entries (x .entry .child) X (s .0)
 
 pub subtrees-represented : (l : ℕ) (X : Image) (x : Node (Subtree (suc l))) → Stores (suc l) (X .page) x
     → All (λ y. Stores l (X .page) y) (x .subtree)
@@ -39,13 +43,28 @@ subtrees-represented l X x s = s .1
 pub at-flat : (l : ℕ) (es : Nodes l) (i : ℕ) → at (flat es) i ≡ node-at l es i .entry
 at-flat l es i = List·getD-map (λ x. x .entry) es i (no-node l)
 
+-- what is the same of the one in its place is the same of all
+pub map-same : {B : Type 0} (l : ℕ) (f : Node (Subtree l) → B) (i : ℕ) (zs es : Nodes l) → i < length es
+    → map f zs ≡ f (node-at l es i) ∷ []
+    → map f (splice i zs es) ≡ map f es
+map-same {B} l f i zs es h e =
+    let n : i < length (map f es) = rw (length-map es f) h in
+    map-splice f i zs es
+    ∙ ap (λ (r : List B). splice i r (map f es)) (e ∙ ap (λ (z : B). z ∷ []) (sym (List·getD-map f es i (no-node l))))
+    ∙ splice-same i (map f es) (f (no-node l)) n
+
+pub same-at : {B : Type 0} (l : ℕ) (f : Node (Subtree l) → B) (i : ℕ) (z : Node (Subtree l)) (es : Nodes l) → i < length es
+    → f z ≡ f (node-at l es i)
+    → (m : ℕ)
+    → f (node-at l (splice i (z ∷ []) es) m) ≡ f (node-at l es m)
+same-at {B} l f i z es h e m =
+    sym (List·getD-map f (splice i (z ∷ []) es) m (no-node l))
+    ∙ ap (λ (r : List B). getD r m (f (no-node l))) (map-same l f i (z ∷ []) es h (ap (λ (b : B). b ∷ []) e))
+    ∙ List·getD-map f es m (no-node l)
+
 -- the same entry in its place, whatever is below it
 pub flat-same : (l i : ℕ) (zs es : Nodes l) → i < length es → flat zs ≡ node-at l es i .entry ∷ [] → flat (splice i zs es) ≡ flat es
-flat-same l i zs es h e =
-    let n : i < length (flat es) = rw (length-map es (λ y. y .entry)) h in
-    map-splice (λ y. y .entry) i zs es
-    ∙ ap (λ (r : List Entry). splice i r (flat es)) (e ∙ ap (λ (z : Entry). z ∷ []) (sym (at-flat l es i)))
-    ∙ splice-same i (flat es) no-entry n
+flat-same l i zs es h e = map-same l (λ y. y .entry) i zs es h e
 
 -- the entry that has t
 abbrev pub there : (l t : ℕ) → Nodes l → Node (Subtree l)

@@ -6,14 +6,14 @@ use mathlib.Core.Bool.{Bool, true, false, cond, _&&_, and-false}
 use native.Mathlib.Omega.{arith}
 use lib.Dec.{eqb}
 use lib.IntN.{ℤ, pos, natAbs, _+ℤ_, +ℤ-assoc, +ℤ-comm, +ℤ-idl, +ℤ-invr}
-use borrow.Author.Tests.{leb-true, le-leb}
+use borrow.Author.Tests.{eqb-true, leb-true, le-leb}
 use mir.Syntax.{w32, w64}
 use mir.Val.{SFits}
 use Rattle.rule.specs.declared.Pair.{Pair}
 use Rattle.rule.specs.Time.{most-value, value-ok}
-use Rattle.rule.specs.Pairs.{none, same-number, same-pair, added, greater, lesser, better, combine, Lawful, Invertible}
+use Rattle.rule.specs.Pairs.{none, opposite, same-number, same-pair, added, greater, lesser, better, combine, Lawful, Invertible}
 use Rattle.rule.specs.Bounds.{Combinable, value-or-none}
-use Rattle.rule.proofs.Tests.{both, either}
+use Rattle.rule.proofs.Tests.{one-test, both, either}
 use Rattle.rule.proofs.Signed.{sfits-natAbs, natAbs-add, same-number-is}
 use Rattle.rule.proofs.Order.{Best, least, greatest}
 
@@ -54,6 +54,25 @@ added-lawful =
 pub invertible : Invertible (combine 1)
 unfolding combine added
 invertible = record { undone = λ p. pair-eq (+ℤ-invr (p .sum)) (+ℤ-invr (p .count)) }
+
+pub kind-inverse : (kind : ℕ) → eqb kind 1 ≡ true → Invertible (combine kind)
+kind-inverse kind h = subst⁻¹ (λ k. Invertible (combine k)) (eqb-true kind 1 h) invertible
+
+-- where an entry can be undone, a pair that is combined with two tells them apart as they are
+module _ {_⊕_ : Pair → Pair → Pair} (laws : Lawful _⊕_) (undo : Invertible _⊕_) where
+  infixl 60 _⊕_
+  pub cancel : (p q r : Pair) → p ⊕ q ≡ p ⊕ r → q ≡ r
+  cancel p q r e = sym (back q) ∙ ap (λ (z : Pair). opposite p ⊕ z) e ∙ back r
+    where
+      back : (q : Pair) → opposite p ⊕ (p ⊕ q) ≡ q
+      back q =
+          sym (laws .assoc (opposite p) p q) ∙ ap (λ (z : Pair). z ⊕ q) (laws .comm (opposite p) p ∙ undo .undone p) ∙ laws .unit q
+
+  pub same-above : (p q r : Pair) → same-pair (p ⊕ q) (p ⊕ r) ≡ same-pair q r
+  same-above p q r =
+      one-test (same-pair (p ⊕ q) (p ⊕ r)) (same-pair q r)
+      (λ t. cancel p q r (same-pair-is (p ⊕ q) (p ⊕ r) .0 t), λ e. same-pair-is (p ⊕ q) (p ⊕ r) .1 (ap (λ (z : Pair). p ⊕ z) e))
+      (same-pair-is q r)
 
 -- ---- kinds 2 and 3: for any choice of the better of two numbers
 

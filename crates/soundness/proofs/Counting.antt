@@ -9,7 +9,7 @@ use borrow.Author.Tests.{eqb-true, eq-eqb}
 use Rattle.page.specs.Layout.{free-ok}
 use Rattle.image.specs.Images.{page-at, pages-in}
 use Rattle.lists.specs.Lists.{times}
-use Rattle.image.specs.Sound.{sound}
+use Rattle.image.specs.Sound.{sound-before}
 use Rattle.soundness.specs.Counting.{chain-ends, sound-by-counting}
 use Rattle.lists.proofs.Times.{count-of-once, once-of-count}
 use Rattle.soundness.proofs.Tree.{tree-some}
@@ -81,7 +81,7 @@ same-test true b f g = sym (f refl)
 same-test false true f g = g refl
 same-test false false f g = refl
 
-pub counting-sound : (half : ℕ) (img : List ℕ) → sound-by-counting half img ≡ sound half img
+pub counting-sound : (half : ℕ) (img : List ℕ) → sound-by-counting half img ≡ sound-before half img
 counting-sound half img =
-    same-test (sound-by-counting half img) (sound half img) (λ e. facts-sound half img (counted-sound (counted-facts half img e)))
+    same-test (sound-by-counting half img) (sound-before half img) (λ e. facts-sound half img (counted-sound (counted-facts half img e)))
     (λ e. facts-counted half img (sound-counted (sound-facts half img e)))

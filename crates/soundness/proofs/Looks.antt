@@ -11,7 +11,7 @@ use borrow.Author.Tests.{eq-eqb, le-leb, lt-ltb, leb-true, ltb-true}
 use Rattle.page.specs.Layout.{next-of, free-ok}
 use Rattle.lists.specs.Lists.{listed}
 use Rattle.image.specs.Images.{page-at, pages-in}
-use Rattle.image.specs.Sound.{chain-pages, sound}
+use Rattle.image.specs.Sound.{chain-pages, sound-before}
 use Rattle.lists.specs.Lists.{times}
 use Rattle.image.specs.Trail.{Visit, all-fit, every-entry, audit-trail}
 use Rattle.image.specs.Looks.{pages-of, chain-looks, audit-looks}
@@ -144,7 +144,7 @@ chain-looked half img (suc most) (suc k) p l e =
 
 -- ---- a sound image
 
-module _ (half : ℕ) (img : List ℕ) (fits : sound half img ≡ true) where
+module _ (half : ℕ) (img : List ℕ) (fits : sound-before half img ≡ true) where
   looks-are : audit-looks half img ≡
       the-tree half img ++ (the-chain half img ++ from (the-head half img .mark) (pages-in half img - the-head half img .mark))
   unfolding audit-looks

@@ -1,19 +1,23 @@
 -- What soundness says, by name, and back. Assumes nothing.
-use mathlib.Core.Path.{_≡_, sym, ap, _∙_}
-use mathlib.Core.Bool.{Bool, true, and-eq-true-iff}
+use mathlib.Core.Path.{_≡_, refl, sym, ap, _∙_}
+use mathlib.Core.Logic.{_↔_}
+use mathlib.Core.Bool.{Bool, true, false, cond, and-eq-true-iff, false≢true}
 use mathlib.Core.List.{List}
 use Prim.Native.Nat.{ℕ, zero, suc, _+_, _-_, _≤_, _<_}
 use native.Mathlib.Nat.{add-sub-of-le}
 use native.Mathlib.Omega.{arith}
+use lib.Dec.{eqb}
 use lib.ListN.{length}
 use borrow.Author.Tests.{eqb-true, eq-eqb}
+use Rattle.rule.proofs.Tests.{both}
 use Rattle.fields.specs.Bytes.{every}
 use Rattle.fields.proofs.Laws.Tests.{every-all, every-of}
 use Rattle.page.specs.declared.Head.{Head}
 use Rattle.page.specs.Layout.{free-ok, never-used-ok, head-of}
 use Rattle.page.specs.Fit.{root-context, head-fit}
 use Rattle.image.specs.Images.{page-at, pages-in, length-ok}
-use Rattle.image.specs.Sound.{tree-fit, tree-pages, chain-pages, each-once, sound}
+use Rattle.image.specs.Sound.{tree-fit, tree-pages, chain-pages, each-once, sound-before, sound}
+use Rattle.image.specs.Neighbours.{neighbours-apart}
 use Rattle.lists.specs.Lists.{times}
 use Rattle.lists.proofs.Times.{all-of-each, each-all-of}
 use Rattle.fit.proofs.Laws.Heads.{Ranges, fit-ranges}
@@ -83,8 +87,8 @@ pub record Sound-facts (half : ℕ) (img : List ℕ) : Type 0 where
   pub chain-length : length (the-chain half img) ≡ the-head half img .chain
   pub free : (p : ℕ) → 1 ≤ times p (the-chain half img) → free-ok half (page-at half img p) ≡ true
 
-pub sound-facts : (half : ℕ) (img : List ℕ) → sound half img ≡ true → Sound-facts half img
-unfolding sound
+pub sound-facts : (half : ℕ) (img : List ℕ) → sound-before half img ≡ true → Sound-facts half img
+unfolding sound-before
 sound-facts half img e =
     let k = simp and-eq-true-iff at e in
     record {
@@ -94,8 +98,8 @@ sound-facts half img e =
       free = all-of-each _ _ (k .1 .1 .1 .1 .1 .0);
     }
 
-pub facts-sound : (half : ℕ) (img : List ℕ) → Sound-facts half img → sound half img ≡ true
-unfolding sound
+pub facts-sound : (half : ℕ) (img : List ℕ) → Sound-facts half img → sound-before half img ≡ true
+unfolding sound-before
 facts-sound half img f =
     simp and-eq-true-iff (
       f .fit .whole,
@@ -112,5 +116,25 @@ facts-sound half img f =
     )
 
 -- its length: 16 turns no sound image back
-pub sound-whole : (half : ℕ) (img : List ℕ) → sound half img ≡ true → length-ok half img ≡ true
+pub sound-whole : (half : ℕ) (img : List ℕ) → sound-before half img ≡ true → length-ok half img ≡ true
 sound-whole half img e = sound-facts half img e .fit .whole
+
+-- ---- with the clause on neighbours
+
+pub record Sound-parts (half : ℕ) (img : List ℕ) : Type 0 where
+  pub old : sound-before half img ≡ true
+  pub apart : eqb (the-head half img .kind) 1 ≡ true → neighbours-apart half img ≡ true
+
+pub sound-parts : (half : ℕ) (img : List ℕ) → (sound half img ≡ true) ↔ Sound-parts half img
+unfolding sound
+sound-parts half img =
+    let k : Bool = eqb (the-head half img .kind) 1 in
+    let w = both (sound-before half img) (cond k (neighbours-apart half img) true) (λ z. z, λ z. z) (asked k (neighbours-apart half img)) in
+    (λ e. record { old = w .0 e .0; apart = w .0 e .1 }, λ s. w .1 (s .old, s .apart))
+  where
+    asked : (k b : Bool) → (cond k b true ≡ true) ↔ (k ≡ true → b ≡ true)
+    asked true b = (λ e h. e, λ f. f refl)
+    asked false b = (λ e h. absurd (false≢true h), λ f. refl)
+
+pub sound-old : (half : ℕ) (img : List ℕ) → sound half img ≡ true → sound-before half img ≡ true
+sound-old half img e = sound-parts half img .0 e .old

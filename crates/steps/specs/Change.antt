@@ -10,7 +10,7 @@ use Rattle.image.specs.Images.{Image}
 use Rattle.steps.specs.Supply.{entries, spares, pages-taken, count-change}
 use Rattle.steps.specs.Cut.{cut}
 use Rattle.steps.specs.Combine.{combine-span}
-use Rattle.steps.specs.Heal.{heal, heal-page, short, sibling}
+use Rattle.steps.specs.Heal.{heal, heal-page, joins-edge, short, sibling}
 
 -- "A. Cut at s. B. Cut at e′."
 unfoldable pub cuts : ℕ → ℕ → ℕ → Image → Image
@@ -47,17 +47,19 @@ module _ (half : ℕ) (_⊕_ : Pair → Pair → Pair) where
   combine-names s e X = path s X ++ path e X
 
   -- the siblings that the pages on the path are rebalanced with, below page p of the level named
-  unfoldable pub siblings-used : ℕ → ℕ → ℕ → Image → List ℕ
-  siblings-used t zero p X = []
-  siblings-used t (suc l) p X =
+  unfoldable pub siblings-used : Bool → ℕ → ℕ → ℕ → Image → List ℕ
+  siblings-used edge t zero p X = []
+  siblings-used edge t (suc l) p X =
       let i = index-of t (entries X p) in
       let q = at (entries X p) i .child in
       let n = at (entries X p) (sibling i) .child in
-      siblings-used t l q X ++ cond (short half q (heal-page half _⊕_ t l q X)) (n ∷ []) []
+      siblings-used edge t l q X ++ cond (short half q (heal-page half _⊕_ edge t l q X)) (n ∷ []) []
 
-  -- no page is on the path to END, so none is rebalanced
+  -- Document 02, (iv), lets a heal write the way to t − 1 too. It needs none of it: the sibling to the left of the page that t started is
+  -- the only page there that it turns to. No page is on the path to END, so none is rebalanced.
   unfoldable pub heal-names : ℕ → Image → List ℕ
-  heal-names t X = path t X ++ cond (leb END t) [] (siblings-used t (X .head .height - 1) (X .head .root) X)
+  heal-names t X =
+      path t X ++ cond (leb END t) [] (siblings-used (joins-edge _⊕_ t X) t (X .head .height - 1) (X .head .root) X)
 
   -- the head, and what each of the five names in the image as it finds it
   unfoldable pub change-names : ℕ → ℕ → Pair → Image → List ℕ

@@ -1,6 +1,7 @@
--- Document 01, "One change in five steps", steps D and E: heal at t. Over half the capacity and any combining rule. Assumes nothing.
+-- Document 01, "One change in five steps", steps D and E: heal at t; document 02, (iv): "Edges between pages join too". Over half the
+-- capacity and any combining rule. Assumes nothing.
 use Prim.Native.Nat.{ℕ, zero, suc, _-_, _+_}
-use mathlib.Core.Bool.{Bool, cond, _&&_}
+use mathlib.Core.Bool.{Bool, cond, _&&_, _||_}
 use mathlib.Core.List.{List, [], _∷_, _++_}
 use lib.ListN.{length, take, drop}
 use lib.Dec.{eqb, ltb}
@@ -15,6 +16,46 @@ use Rattle.steps.specs.Supply.{entries, put, given-back, with-root}
 -- "only if t starts a leaf entry that isn't first in its page, with the same pair as the one before"
 unfoldable pub heals : ℕ → List Entry → ℕ → Bool
 heals t es i = ltb 0 i && (eqb (at es i .start) t && same-pair (at es i .pair) (at es (i - 1) .pair))
+
+-- ---- the edge between two pages
+
+-- t starts the leaf on the way to it, from page p of the level named down
+unfoldable pub starts-leaf : ℕ → ℕ → ℕ → Image → Bool
+starts-leaf t zero p X = eqb (at (entries X p) 0 .start) t
+starts-leaf t (suc l) p X = starts-leaf t l (at (entries X p) (index-of t (entries X p)) .child) X
+
+module _ (_⊕_ : Pair → Pair → Pair) where
+  infixl 60 _⊕_
+  -- what an instant answers in the image as the step finds it, from page p of the level named down
+  unfoldable pub total-from : ℕ → ℕ → ℕ → Image → Pair
+  total-from t zero p X = at (entries X p) (index-of t (entries X p)) .pair
+  total-from t (suc l) p X =
+      let e = at (entries X p) (index-of t (entries X p)) in
+      e .pair ⊕ total-from t l (e .child) X
+
+  -- "For kind 1, heal at t shall also remove an entry that is first in its page when the totals on both sides are equal": those at t − 1
+  -- and at t. Nothing stands before 0.
+  unfoldable pub joins-edge : ℕ → Image → Bool
+  joins-edge t X =
+      let level = X .head .height - 1 in
+      let root = X .head .root in
+      eqb (X .head .kind) 1
+      && (ltb 0 t
+      && (starts-leaf t level root X && same-pair (total-from t level root X) (total-from (t - 1) level root X)))
+
+-- "the entry goes, and the new first start is carried up to the parent entry that separates the two pages": at an edge, an entry e that
+-- started at t starts where the page below it does, which has these entries now
+unfoldable pub carried : Bool → ℕ → List Entry → Entry → Entry
+carried edge t below e = entry (cond (edge && eqb (e .start) t) (at below 0 .start) (e .start)) (e .pair) (e .child)
+
+-- the i-th entry of page p, of the level named, so carried
+unfoldable pub carry : Bool → ℕ → ℕ → ℕ → ℕ → Image → Image
+carry edge t level p i X =
+    let e = at (entries X p) i in
+    cond (edge && eqb (e .start) t)
+    (put p (tree level (splice i (carried edge t (entries X (e .child)) e ∷ []) (entries X p))) X) X
+
+-- ---- pages that are left short
 
 -- "A page other than the root left with 11", at other capacities with K/2 − 1
 unfoldable pub short : ℕ → ℕ → Image → Bool
@@ -81,17 +122,18 @@ module _ (half : ℕ) (_⊕_ : Pair → Pair → Pair) where
       let k = cond (eqb i 0) half (n - 1) in
       cond (ltb half n) (redistribute _⊕_ level p (left-of i) k X) (merge _⊕_ level p (left-of i) X)
 
-  -- page p of the level named: the leaf entry goes, and on the way back each page that is left short is rebalanced
-  unfoldable pub heal-page : ℕ → ℕ → ℕ → Image → Image
-  heal-page t zero p X =
+  -- page p of the level named: the leaf entry goes, and on the way back, at an edge, the new first start is carried up, and each page that
+  -- is left short is rebalanced
+  unfoldable pub heal-page : Bool → ℕ → ℕ → ℕ → Image → Image
+  heal-page edge t zero p X =
       let es = entries X p in
       let i = index-of t es in
-      cond (heals t es i) (put p (tree zero (splice i [] es)) X) X
-  heal-page t (suc l) p X =
+      cond (edge || heals t es i) (put p (tree zero (splice i [] es)) X) X
+  heal-page edge t (suc l) p X =
       let i = index-of t (entries X p) in
       let q = at (entries X p) i .child in
-      let Y = heal-page t l q X in
+      let Y = carry edge t (suc l) p i (heal-page edge t l q X) in
       cond (short half q Y) (rebalance l p i Y) Y
 
   unfoldable pub heal : ℕ → Image → Image
-  heal t X = collapse-if-single _⊕_ (heal-page t (X .head .height - 1) (X .head .root) X)
+  heal t X = collapse-if-single _⊕_ (heal-page (joins-edge _⊕_ t X) t (X .head .height - 1) (X .head .root) X)

@@ -15,6 +15,6 @@ pages-on half img l =
     let h = head-of (page-at half img 0) in
     sum (λ p. hit l (level-of (page-at half img p))) (tree-pages half img (h .height - 1) (h .root))
 
--- how many leaf entries it has: a walk over all time finds a run for each
-unfoldable pub leaf-entries : ℕ → List ℕ → ℕ
-leaf-entries half img = length (walk-over half img 0 END .runs)
+-- how many runs a walk over all time finds, before any are joined: one for each leaf entry
+unfoldable pub runs-walked : ℕ → List ℕ → ℕ
+runs-walked half img = length (walk-over half img 0 END .runs)

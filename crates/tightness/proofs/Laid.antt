@@ -2,48 +2,54 @@
 use Prim.Native.Nat.{ℕ, zero, suc, _+_, _-_, _≤_, _<_}
 use mathlib.Core.Path.{_≡_, refl, sym, ap, _∙_}
 use mathlib.Core.Logic.{_≢_, _⊎_, inl, inr}
+use mathlib.Core.Bool.{true}
 use mathlib.Core.List.{List}
 use native.Mathlib.Omega.{arith}
+use lib.Dec.{eqb}
 use lib.ListN.{length, getD, length-map}
 use Rattle.lists.proofs.All.{all-at}
 use Rattle.lists.proofs.Totals.{rises}
-use Rattle.rule.specs.Pairs.{none}
+use Rattle.rule.specs.Pairs.{none, combine}
+use Rattle.rule.proofs.Laws.{lawful}
 use Rattle.rule.specs.Time.{END}
 use Rattle.page.specs.declared.Entry.{Entry}
 use Rattle.page.specs.declared.Head.{Head}
 use Rattle.page.specs.Entries.{at}
 use Rattle.page.specs.Layout.{capacity, level-of, entry-count, start-at, pair-at, entry-at, tree-bytes}
-use Rattle.page.specs.Fit.{root-context}
 use Rattle.page.proofs.Laws.Trees.{tree-count, length-entries-of, at-entries-of}
 use Rattle.image.specs.Images.{Image, tree, page-at, cell-bytes, image-of, image-bytes}
-use Rattle.image.specs.Listing.{Run, walk-over, walk}
-use Rattle.image.specs.Sound.{tree-fit}
+use Rattle.image.specs.Listing.{Run, neighbours-differ, walk-over}
+use Rattle.image.specs.Neighbours.{neighbours-apart}
+use Rattle.image.specs.Sound.{sound}
 use Rattle.image.proofs.Cells.{tree-cell}
 use Rattle.tight.specs.Tight.{pages-for, page-entries, entries-before, in-page, pages-used, tight}
 use Rattle.tight.specs.Layout.{Laid-out}
 use Rattle.tight.proofs.Pages.{before-more, before-most, page-some, size-least, size-most, size-falls}
 use Rattle.tight.proofs.Levels.{length-in-page, at-in-page, all-in-page}
-use Rattle.soundness.proofs.Sound.{the-head, sound-facts}
-use Rattle.tree.specs.Tree.{Node, Subtree, Nodes, no-node, flat, Tree}
-use Rattle.tree.specs.Cut.{State, root-node}
+use Rattle.soundness.proofs.Sound.{the-head, sound-parts}
+use Rattle.tree.specs.Tree.{Node, Subtree, Nodes, no-node, flat}
+use Rattle.tree.specs.Cut.{State}
 use Rattle.tree.proofs.Seg.{seg-rises, least-one}
-use Rattle.refinement.specs.Represents.{Stores}
 use Rattle.refinement.proofs.Paths.{at-flat}
-use Rattle.invariant.proofs.To.Known.{root-inside}
-use Rattle.invariant.proofs.To.Sound.{page-written, read-back}
+use Rattle.invariant.proofs.To.Sound.{page-written, read-back, runs-written}
 use Rattle.tightness.specs.State.{leaf-nodes, tight-state, Suited}
 use Rattle.tightness.proofs.Levels.{page-here}
 use Rattle.tightness.proofs.Structure.{leaf-level}
-use Rattle.tightness.proofs.Sound.{structure, tall, tight-sound, tight-head-read-back}
-use Rattle.tightness.proofs.Runs.{Bare, runs-again, leaves-bare, Laid, Root-laid, root-laid}
+use Rattle.tightness.proofs.Sound.{structure, tall, tight-sound-before, tight-head-read-back}
+use Rattle.tightness.proofs.Runs.{Bare, bare-runs, runs-again, leaves-bare, Laid, Root-laid, root-laid}
 use Rattle.tightness.proofs.Places.{Place, beside, Before, along, above, place, before}
-use Rattle.tightness.proofs.Walks.{Shown, walk-runs}
 
 -- an inner entry without a pair
 bare-pair : (l : ℕ) (x : Node (Subtree l)) → l ≢ 0 → Bare l x → x .entry .pair ≡ none
 unfolding Bare
 bare-pair zero x inner b = absurd (inner refl)
 bare-pair (suc l) x inner b = b .0
+
+-- A page's bytes show a level and entries.
+pub record Shown (half : ℕ) (s : List ℕ) (l : ℕ) (es : List Entry) : Type 0 where
+  pub level : level-of s ≡ l
+  pub count : entry-count s ≡ length es
+  pub entry : (i : ℕ) → i < length es → entry-at half s i ≡ at es i
 
 module _ (half pages kind window changes : ℕ) (runs : List Run) (g : Suited half pages kind window changes runs) where
   abbrev X : Image
@@ -85,23 +91,25 @@ module _ (half pages kind window changes : ℕ) (runs : List Run) (g : Suited ha
   -- ---- "the runs of the full listing become the leaf entries"
 
   pub tight-leaves : walk-over half img 0 END .runs ≡ runs
-  unfolding walk-over tight-state root-context image-of Stores root-node
+  unfolding tight-state
   tight-leaves =
-      let h : Head = the-head half img in
-      let same : h ≡ X .head = tight-head-read-back half pages kind window changes runs g in
       let st = structure half pages kind window changes runs g in
-      let T : Tree = Y .tree in
-      let level : h .height - 1 ≡ T .level = omega (arith, ap (λ (x : Head). x .height) same, st .shown .height) in
-      let root : h .root ≡ T .root = ap (λ (x : Head). x .root) same ∙ st .shown .root in
-      let n : h .pages ≡ X .head .pages = ap (λ (x : Head). x .pages) same in
-      let fits = sound-facts half img (tight-sound half pages kind window changes runs g) .fit .tree in
-      let top : Root-laid half X runs T = root-laid half X runs some (length runs) 0 1 (leaf-nodes runs) laid in
-      (λ j. walk half h img 0 END (level j) (root-context h) (root j) .runs)
-      ∙ walk-runs half h img (X .page) (λ p l es one small is. shown p l es one (omega arith) is)
-      (T .level) (root-context h) (T .root) (T .nodes) (omega (arith, root-inside st, st .shown .root))
-      (omega (arith, root-inside st, st .shown .root, mark-most)) (omega arith)
-      (sym (λ j. tree-fit half h img (level j) (root-context h) (root j)) ∙ fits) (st .shown .below .0) (st .shown .below .1) (top .bare)
-      ∙ top .below
+      let top : Root-laid half X runs (Y .tree) = root-laid half X runs some (length runs) 0 1 (leaf-nodes runs) laid in
+      let k : ℕ = X .head .kind in
+      runs-written half X Y some st (tall half pages kind window changes runs g)
+      ∙ (bare-runs (combine k) (lawful k .unit) (Y .tree .level) (Y .tree .nodes) (top .bare) ∙ top .below)
+
+  -- document 02's soundness, of runs of which no two neighbours have the same pair
+  pub tight-sound : (eqb kind 1 ≡ true → neighbours-differ runs ≡ true) → sound half img ≡ true
+  unfolding neighbours-apart image-of
+  tight-sound differ =
+      let k : the-head half img .kind ≡ kind =
+      ap (λ (h : Head). h .kind) (tight-head-read-back half pages kind window changes runs g) ∙ unfold tight in refl in
+      sound-parts half img .1
+      (record {
+        old = tight-sound-before half pages kind window changes runs g;
+        apart = λ e. ap neighbours-differ tight-leaves ∙ differ (ap (λ n. eqb n 1) (sym k) ∙ e);
+      })
 
   -- ---- a page in its place
 

@@ -1,7 +1,7 @@
 -- Below the entries of every level of a tight tree stand the runs, and no inner entry has a pair. Assumes nothing.
 use Prim.Native.Nat.{ℕ, zero, suc, _+_, _≤_}
 use mathlib.Core.Path.{_≡_, refl, sym, ap, _∙_}
-use mathlib.Core.List.{List, [], _∷_, _++_}
+use mathlib.Core.List.{List, [], _∷_, _++_, map}
 use native.Mathlib.Omega.{arith}
 use lib.Dec.{leb}
 use lib.ListN.{length, take}
@@ -10,12 +10,14 @@ use Rattle.lists.specs.Lists.{listed, concat-map, total, All, all-none, all-mor
 use Rattle.lists.proofs.All.{all-listed}
 use Rattle.lists.proofs.Choices.{cond-one}
 use Rattle.lists.proofs.Concat.{concat-map-append, concat-map-more}
+use Rattle.rule.specs.declared.Pair.{Pair}
 use Rattle.rule.specs.Pairs.{none}
 use Rattle.image.specs.Images.{Image}
 use Rattle.image.specs.Listing.{Run, run}
 use Rattle.tight.specs.Tight.{pages-for, entries-before, leaf-entry}
 use Rattle.tight.proofs.Levels.{in-page-more, in-page-all, all-in-page}
 use Rattle.tree.specs.Tree.{Node, Subtree, Nodes, Tree}
+use Rattle.tree.specs.Runs.{runs-under as walked-under, runs-in}
 use Rattle.tree.proofs.Seg.{least-one}
 use Rattle.tightness.specs.State.{leaf-nodes, page-node, nodes-above, tree-over}
 use Rattle.tightness.proofs.Levels.{Level, up}
@@ -31,6 +33,27 @@ runs-under (suc l) x = concat-map (λ y. runs-under l y) (x .subtree)
 unfoldable pub Bare : (l : ℕ) → Node (Subtree l) → Type 0
 Bare zero x = Unit {0}
 Bare (suc l) x = (x .entry .pair ≡ none) × All (λ y. Bare l y) (x .subtree)
+
+-- so a walk finds the leaf entries as they are
+module _ (_⊕_ : Pair → Pair → Pair) (unit : (p : Pair) → _⊕_ none p ≡ p) where
+  nothing-above : (rs : List Run) → map (λ (r : Run). run (r .start) (_⊕_ none (r .pair))) rs ≡ rs
+  nothing-above [] = refl
+  nothing-above (r ∷ rs) = λ j. run (r .start) (unit (r .pair) j) ∷ nothing-above rs j
+
+  each-bare : (l : ℕ) → ((x : Node (Subtree l)) → Bare l x → walked-under _⊕_ l x ≡ runs-under l x) → (es : Nodes l) → All (λ x. Bare l x) es
+      → runs-in _⊕_ l es ≡ concat-map (runs-under l) es
+  unfolding runs-in concat-map
+  each-bare l each [] all-none = refl
+  each-bare l each (x ∷ es) (all-more b a) = λ j. each x b j ++ each-bare l each es a j
+
+  pub bare-runs : (l : ℕ) (es : Nodes l) → All (λ x. Bare l x) es → runs-in _⊕_ l es ≡ concat-map (runs-under l) es
+  unfolding runs-under walked-under runs-in Bare
+  bare-runs zero es a = each-bare 0 (λ x b. refl) es a
+  bare-runs (suc l) es a =
+      each-bare (suc l)
+      (λ x b.
+      ap (λ p. map (λ (r : Run). run (r .start) (_⊕_ p (r .pair))) (runs-in _⊕_ l (x .subtree))) (b .0)
+      ∙ (nothing-above (runs-in _⊕_ l (x .subtree)) ∙ bare-runs l (x .subtree) (b .1))) es a
 
 pub runs-again : (runs : List Run) → concat-map (runs-under 0) (leaf-nodes runs) ≡ runs
 unfolding concat-map runs-under leaf-nodes leaf-entry

@@ -14,7 +14,7 @@ use Rattle.page.specs.Fit.{most-height}
 use Rattle.image.specs.Images.{Image, image-of, image-bytes}
 use Rattle.image.specs.Instant.{look-up}
 use Rattle.image.specs.Listing.{Run}
-use Rattle.image.specs.Sound.{sound}
+use Rattle.image.specs.Sound.{sound-before}
 use Rattle.image.proofs.Written.{bytes-written}
 use Rattle.tight.specs.Tight.{tight}
 use Rattle.tree.specs.Tree.{pair-in}
@@ -22,9 +22,9 @@ use Rattle.tree.specs.Cut.{State}
 use Rattle.invariant.specs.Invariant.{Structure}
 use Rattle.invariant.proofs.From.Look.{Looked}
 use Rattle.invariant.proofs.To.Height.{height-most}
-use Rattle.invariant.proofs.To.Sound.{length-written, head-read-back, invariant-sound, look-written}
+use Rattle.invariant.proofs.To.Sound.{length-written, head-read-back, structure-sound, look-written}
 use Rattle.tightness.specs.State.{leaf-nodes, tight-state, Suited}
-use Rattle.tightness.proofs.Structure.{tight-structure, tight-invariant, tight-pair}
+use Rattle.tightness.proofs.Structure.{tight-structure, tight-pair}
 
 module _ (half pages kind window changes : ℕ) (runs : List Run) (g : Suited half pages kind window changes runs) where
   abbrev X : Image
@@ -43,8 +43,8 @@ module _ (half pages kind window changes : ℕ) (runs : List Run) (g : Suited ha
   pub tall : X .head .height ≤ most-height
   tall = height-most X Y structure (g .half-least)
 
-  pub tight-sound : sound half (image-bytes half X) ≡ true
-  tight-sound = invariant-sound half X Y some (tight-invariant half pages kind window changes runs g) tall
+  pub tight-sound-before : sound-before half (image-bytes half X) ≡ true
+  tight-sound-before = structure-sound half X Y some structure tall
 
   pub tight-head-read-back : image-of half (image-bytes half X) .head ≡ X .head
   tight-head-read-back = head-read-back half X Y some structure tall

@@ -28,7 +28,7 @@ use Rattle.tree.proofs.Seg.{least-one, seg-all, seg-some}
 use Rattle.tree.proofs.Look.{pair-in-look}
 use Rattle.refinement.specs.Represents.{Stores, ends, Represents}
 use Rattle.refinement.proofs.Below.{below-leaf}
-use Rattle.invariant.specs.Invariant.{Structure, Invariant}
+use Rattle.invariant.specs.Invariant.{Structure}
 use Rattle.tightness.specs.State.{leaf-nodes, tight-state, Suited}
 use Rattle.tightness.proofs.Levels.{Level, Top, page-here, top}
 
@@ -172,10 +172,6 @@ module _ (half pages kind window changes : ℕ) (runs : List Run) (g : Suited ha
                   ∙ eq-eqb _ _ (names-itself (capacity-of-half half (g .half-least) (g .half-most)));
             };
       }
-
-  pub tight-invariant : Invariant half X Y
-  unfolding tight
-  tight-invariant = record { structure = tight-structure }
 
   -- every instant has the pair that the runs give it
   pub tight-pair : (_⊕_ : Pair → Pair → Pair) → ((p : Pair) → _⊕_ none p ≡ p) → (t : ℕ)

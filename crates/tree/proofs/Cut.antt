@@ -124,7 +124,7 @@ module _ (half : ℕ) (B : Asked (Subtree 0)) (_⊕_ : Pair → Pair → Pair) (
           most = omega arith;
         }
 
-  module _ (cuts : Cuttable B) where
+  module _ (cuts : Cuttable t B) where
     leaf-cut : (a b : ℕ) (x : Node (Subtree 0)) → x .entry .start ≡ a → a < b → a ≤ t → t < b → Shaped half B 0 a b x
         → Cut-of 0 a b x (cut-leaf t x)
     unfolding cut-leaf Shaped
@@ -138,8 +138,8 @@ module _ (half : ℕ) (B : Asked (Subtree 0)) (_⊕_ : Pair → Pair → Pair) (
             let k : a < t = omega (arith, eqb-false (x .entry .start) t f) in
             record {
               spans =
-                  more e k (cuts .before t a b x k high q, inl (omega arith))
-                  (seg-one refl high (cuts .after t a b x k high q, inr (omega arith)));
+                  more e k (cuts .before a b x k high q, inl (omega arith))
+                  (seg-one refl high (cuts .after a b x k high q, inr (omega arith)));
               same = same-sym (same-leaf _⊕_ x (from t x) (omega arith) refl);
               taken = refl;
               least = omega arith;
@@ -162,8 +162,8 @@ pub record Cut-tree (half : ℕ) (B : Asked (Subtree 0)) (_⊕_ : Pair → Pair 
   pub pairs : (u : ℕ) → pair-at _⊕_ U u ≡ pair-at _⊕_ T u
   pub level : (U .level ≡ T .level) ⊎ ((U .level ≡ suc (T .level)) × (length (T .nodes) ≡ capacity half))
 
-module _ {half : ℕ} (two : 2 ≤ half) {B : Asked (Subtree 0)} (cuts : Cuttable B) {_⊕_ : Pair → Pair → Pair} (lawful : Lawful _⊕_)
-    (t : ℕ) where
+module _ {half : ℕ} (two : 2 ≤ half) {t : ℕ} {B : Asked (Subtree 0)} (cuts : Cuttable t B) {_⊕_ : Pair → Pair → Pair}
+    (lawful : Lawful _⊕_) where
   grown-cut : (T : Tree) {es : Nodes (T .level)} {zs : Nodes (suc (T .level))} {n : ℕ} (S : Supply) → Formed half B T
       → Cuts half B _⊕_ t (T .level) 0 END (T .nodes) es n → Outcome half B _⊕_ t (T .level) 0 END (entry 0 none (T .root)) es zs
       → Cut-tree half B _⊕_ t T (grow-if-split (T .level) zs S .tree)

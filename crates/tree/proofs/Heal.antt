@@ -1,175 +1,39 @@
--- The heal at t: no instant's pair is altered, and the shape is kept. Assumes nothing.
+-- The heal at t: no instant's pair is altered, and the shape is kept; for kind 1 no leaf entry starts at t then, unless the totals on both
+-- sides differ. Assumes nothing.
 use Prim.Native.Nat.{ℕ, zero, suc, _-_, _≤_, _<_}
-use mathlib.Core.Path.{_≡_, refl, sym, ap, _∙_, subst⁻¹}
-use mathlib.Core.Logic.{_⊎_, inl, inr}
-use mathlib.Core.Bool.{Bool, true, false, cond, _&&_}
-use mathlib.Core.List.{List, [], _∷_, _++_}
+use mathlib.Core.Path.{_≡_, refl, sym, ap, _∙_, subst, subst⁻¹}
+use mathlib.Core.Logic.{_⊎_, inl, inr, ⊎-elim}
+use mathlib.Core.Bool.{Bool, true, false, _&&_, and-true, true≢false}
+use mathlib.Core.List.{[], _∷_}
 use native.Mathlib.Omega.{arith}
 use lib.Dec.{eqb, ltb, eqb·suc-zero, eqb·suc-suc}
-use lib.ListN.{length, getD, length-append}
-use lib.Seq.{getD-append-seam}
-use borrow.Author.Tests.{ltb-true, ltb-false}
+use lib.ListN.{length}
+use borrow.Author.Tests.{ltb-true, lt-ltb}
 use Rattle.rule.specs.declared.Pair.{Pair}
-use Rattle.rule.specs.Pairs.{same-pair, Lawful}
+use Rattle.rule.specs.Pairs.{same-pair, Lawful, Invertible}
 use Rattle.rule.specs.Time.{END}
 use Rattle.rule.proofs.Tests.{both}
-use Rattle.rule.proofs.Laws.{same-pair-is}
-use Rattle.page.specs.declared.Entry.{Entry}
+use Rattle.rule.proofs.Laws.{same-pair-is, cancel}
 use Rattle.page.specs.Layout.{capacity}
-use Rattle.page.specs.Entries.{at, index-of}
-use Rattle.lists.specs.Lists.{splice}
-use Rattle.steps.specs.Heal.{heals}
-use Rattle.tree.specs.Tree.{Node, Subtree, Nodes, no-node, flat, Tree, pair-in, pair-at}
+use Rattle.tree.specs.Tree.{Node, Subtree, Nodes, Tree, pair-in, pair-at}
 use Rattle.tree.specs.Supply.{Supply}
 use Rattle.tree.specs.Cut.{State}
-use Rattle.tree.specs.Heal.{Healing, rebalance, heal-nodes, collapse-if-single, heal}
-use Rattle.tree.specs.Shape.{Asked, Seg, done, more, Filled, Shaped, Formed, root-least}
-use Rattle.tree.proofs.Seg.{seg-some, seg-append, least-two}
-use Rattle.tree.proofs.Find.{Found, found, find, Beside, first, next, beside}
-use Rattle.tree.proofs.Splice.{splice-at, splice-next}
-use Rattle.tree.proofs.Same.{Same, with-subtree, same-refl, same-trans, same-within, same-one, same-leaf, same-pair-in, pair-in-one}
-use Rattle.tree.proofs.Shapes.{Pairless, Joinable}
+use Rattle.tree.specs.Heal.{starts-leaf, joins-edge, heal-nodes, collapse-if-single, heal}
+use Rattle.tree.specs.Shape.{Asked, Seg, done, more, Shaped, Formed, root-least}
+use Rattle.tree.proofs.Seg.{le-or-lt, seg-some, least-two}
+use Rattle.tree.proofs.Same.{same-pair-in, pair-in-one}
+use Rattle.tree.proofs.Shapes.{Pairless, Stretchable, formed-map, formed-spans}
 use Rattle.tree.proofs.Push.{pushed-length, pushed-spans, pushed-pair}
-use Rattle.tree.proofs.Rebalance.{Heals, rebalance-heals}
+use Rattle.tree.proofs.Rebalance.{Heals}
+use Rattle.tree.proofs.Within.{nodes-heal}
+use Rattle.tree.proofs.Edge.{starts-inside, mends}
 
--- the step of `heal-nodes` at the entry at i, whose page is healed by H: first the entries, then whether it is rebalanced
-module _ (half : ℕ) (_⊕_ : Pair → Pair → Pair) (l : ℕ) (i : ℕ) where
-  abbrev rebalanced : Healing (Subtree l) → Nodes (suc l) → Healing (Subtree (suc l))
-  rebalanced r fs = cond (ltb (length (r .nodes)) half) (rebalance half _⊕_ l i fs (r .supply)) (record { nodes = fs; supply = r .supply })
-
-  abbrev healed : (Nodes l → Healing (Subtree l)) → Nodes (suc l) → Healing (Subtree (suc l))
-  healed H es =
-      let x = getD es i (no-node (suc l)) in
-      rebalanced (H (x .subtree)) (splice i (with-subtree (x .entry) (H (x .subtree) .nodes) ∷ []) es)
-
-healed-at : (half : ℕ) (_⊕_ : Pair → Pair → Pair) (l : ℕ) (H : Nodes l → Healing (Subtree l)) (xs : Nodes (suc l))
-    (x : Node (Subtree (suc l))) (ys : Nodes (suc l))
-    → healed half _⊕_ l (length xs) H (xs ++ x ∷ ys) ≡
-    rebalanced half _⊕_ l (length xs) (H (x .subtree)) (xs ++ with-subtree (x .entry) (H (x .subtree) .nodes) ∷ ys)
-healed-at half _⊕_ l H xs x ys =
-    ap (λ z. rebalanced half _⊕_ l (length xs) (H (z .subtree))
-    (splice (length xs) (with-subtree (z .entry) (H (z .subtree) .nodes) ∷ []) (xs ++ x ∷ ys)))
-    (getD-append-seam xs x ys (no-node (suc l)))
-    ∙ ap (rebalanced half _⊕_ l (length xs) (H (x .subtree))) (splice-at xs x ys (with-subtree (x .entry) (H (x .subtree) .nodes) ∷ []))
-
-module _ (half : ℕ) (pos : 0 < half) {B : Asked (Subtree 0)} (any : Pairless B) {_⊕_ : Pair → Pair → Pair} (lawful : Lawful _⊕_)
-    (l : ℕ) where
-  -- the page of the entry that has t is healed by H, and turns if that leaves it short
-  page-heals : {lo hi : ℕ} {es : Nodes (suc l)} (t : ℕ) (H : Nodes l → Healing (Subtree l))
-      → ((a b : ℕ) (ks : Nodes l) → half ≤ length ks → a ≤ t → a < b → Seg (Shaped half B l) a b ks
-      → Heals half B _⊕_ l a b ks (H ks .nodes))
-      → 2 ≤ length es → lo ≤ t → lo < hi → Seg (Shaped half B (suc l)) lo hi es
-      → Heals half B _⊕_ (suc l) lo hi es (healed half _⊕_ l (index-of t (flat es)) H es .nodes)
-  unfolding Shaped
-  page-heals {lo} {hi} t H each two low lt s = go (find t s lt low) two
-    where
-      go : {es : Nodes (suc l)} {i : ℕ} → Found (Shaped half B (suc l)) t lo hi es i → 2 ≤ length es
-          → Heals half B _⊕_ (suc l) lo hi es (healed half _⊕_ l i H es .nodes)
-      go (found {a = a} {b = b} {xs = xs} {x = x} {ys = ys} before e lt q behind le after) two =
-          let h = each a b (x .subtree) (q .0 .least) le lt (q .1) in
-          subst⁻¹ (λ z. Heals half B _⊕_ (suc l) lo hi (xs ++ x ∷ ys) (z .nodes)) (healed-at half _⊕_ l H xs x ys)
-          (short h (same-within xs ys (same-one _⊕_ l (x .entry) e lt (q .1) (h .spans) (h .same)))
-          (ltb (length (H (x .subtree) .nodes)) half) refl)
-        where
-          y : Node (Subtree (suc l))
-          y = with-subtree (x .entry) (H (x .subtree) .nodes)
-
-          short : Heals half B _⊕_ l a b (x .subtree) (H (x .subtree) .nodes) → Same _⊕_ (suc l) (xs ++ x ∷ ys) (xs ++ y ∷ ys)
-              → (z : Bool) → ltb (length (H (x .subtree) .nodes)) half ≡ z
-              → Heals half B _⊕_ (suc l) lo hi (xs ++ x ∷ ys)
-              (cond z (rebalance half _⊕_ l (length xs) (xs ++ y ∷ ys) (H (x .subtree) .supply))
-              (record { nodes = xs ++ y ∷ ys; supply = H (x .subtree) .supply }) .nodes)
-          short h same true p =
-              let less : length (H (x .subtree) .nodes) < half = ltb-true (length (H (x .subtree) .nodes)) half p in
-              let n : length (xs ++ x ∷ ys) ≡ length (xs ++ y ∷ ys) = simp length-append in
-              let w = rebalance-heals half pos any lawful l y (H (x .subtree) .supply) (beside y ys before) e lt (h .spans)
-              (omega (arith, q .0, h)) behind (omega arith) in
-              record { spans = w .spans; same = same-trans same (w .same); least = omega (arith, w); most = omega (arith, w) }
-          short h same false p =
-              let fill : Filled half (H (x .subtree) .nodes) =
-              record { least = ltb-false (length (H (x .subtree) .nodes)) half p; most = omega (arith, q .0, h) } in
-              record {
-                spans = seg-append before (more e lt (fill, h .spans) behind);
-                same = same;
-                least = simp length-append (omega arith);
-                most = simp length-append (omega arith);
-              }
-
--- ---- a leaf's entry that goes
-
-heals-same : (t : ℕ) (es : List Entry) (i : ℕ) → heals t es i ≡ true → at es i .pair ≡ at es (i - 1) .pair
-unfolding heals
-heals-same t es i h =
-    both (ltb 0 i) (eqb (at es i .start) t && same-pair (at es i .pair) (at es (i - 1) .pair)) (λ z. z, λ z. z)
-    (both (eqb (at es i .start) t) (same-pair (at es i .pair) (at es (i - 1) .pair)) (λ z. z, λ z. z)
-    (same-pair-is (at es i .pair) (at es (i - 1) .pair))) .0 h .1 .1
-
-flat-first : {A : Type 0} (pre : List (Node A)) (y : Node A) (ys : List (Node A)) → at (flat (pre ++ y ∷ ys)) (length pre) ≡ y .entry
-flat-first [] y ys = refl
-flat-first (z ∷ pre) y ys = flat-first pre y ys
-
-flat-next : {A : Type 0} (pre : List (Node A)) (y x : Node A) (ys : List (Node A))
-    → at (flat (pre ++ y ∷ x ∷ ys)) (suc (length pre)) ≡ x .entry
-flat-next [] y x ys = refl
-flat-next (z ∷ pre) y x ys = flat-next pre y x ys
-
-module _ (half : ℕ) (B : Asked (Subtree 0)) (joins : Joinable B) (_⊕_ : Pair → Pair → Pair) (t : ℕ) where
-  abbrev gone : ℕ → Nodes 0 → Nodes 0
-  gone i es = cond (heals t (flat es) i) (splice i [] es) es
-
-  heals-refl : {lo hi : ℕ} {es : Nodes 0} → Seg (Shaped half B 0) lo hi es → Heals half B _⊕_ 0 lo hi es es
-  heals-refl {es = es} s = record { spans = s; same = same-refl es; least = omega arith; most = omega arith }
-
-  leaf-gone : {lo a b hi i : ℕ} {es ys : Nodes 0} (x : Node (Subtree 0)) → Beside (Shaped half B 0) x ys lo a es i
-      → x .entry .start ≡ a → a < b
-      → Shaped half B 0 a b x → Seg (Shaped half B 0) b hi ys → Heals half B _⊕_ 0 lo hi es (gone i es)
-  unfolding Shaped heals
-  leaf-gone x first e lt q behind = heals-refl (more e lt q behind)
-  leaf-gone {lo} {a} {b} {hi} {ys = ys} x (next {mid = m} {pre = pre} {y = y} before f lt′ p) e lt q behind =
-      go (heals t (flat es) (suc (length pre))) refl
-    where
-      es : Nodes 0
-      es = pre ++ y ∷ x ∷ ys
-
-      go : (z : Bool) → heals t (flat es) (suc (length pre)) ≡ z → Heals half B _⊕_ 0 lo hi es (cond z (splice (suc (length pre)) [] es) es)
-      go true h =
-          let pairs : x .entry .pair ≡ y .entry .pair =
-          ap (λ w. w .pair) (sym (flat-next pre y x ys))
-          ∙ (heals-same t (flat es) (suc (length pre)) h
-          ∙ ap (λ w. w .pair) (ap (at (flat es)) (omega arith) ∙ flat-first pre y (x ∷ ys))) in
-          let whole : m < b = omega arith in
-          subst⁻¹ (Heals half B _⊕_ 0 lo hi es) (splice-next pre y x ys [])
-          (record {
-            spans = seg-append before (more f whole (joins .joined m a b y x lt′ lt pairs p q) behind);
-            same = same-within pre ys (same-leaf _⊕_ y x (omega arith) pairs);
-            least = simp length-append (omega arith);
-            most = simp length-append (omega arith);
-          })
-      go false h = heals-refl (seg-append before (more f lt′ p (more e lt q behind)))
-
-  leaf-heals : {lo hi : ℕ} {es : Nodes 0} → lo ≤ t → lo < hi → Seg (Shaped half B 0) lo hi es
-      → Heals half B _⊕_ 0 lo hi es (gone (index-of t (flat es)) es)
-  leaf-heals {lo} {hi} low lt s = go (find t s lt low)
-    where
-      go : {es : Nodes 0} {i : ℕ} → Found (Shaped half B 0) t lo hi es i → Heals half B _⊕_ 0 lo hi es (gone i es)
-      go (found {x = x} {ys = ys} before e lt q behind le after) = leaf-gone x (beside x ys before) e lt q behind
-
--- ---- by the level
+-- ---- the root
 
 not-one : (n : ℕ) → eqb (suc (suc n)) 1 ≡ false
 not-one n = eqb·suc-suc (suc n) 0 ∙ eqb·suc-zero n
 
-module _ {half : ℕ} (two : 2 ≤ half) {B : Asked (Subtree 0)} (any : Pairless B) (joins : Joinable B) {_⊕_ : Pair → Pair → Pair}
-    (lawful : Lawful _⊕_) (t : ℕ) where
-  nodes-heal : (l : ℕ) {lo hi : ℕ} (es : Nodes l) (S : Supply) → root-least l ≤ length es → lo ≤ t → lo < hi
-      → Seg (Shaped half B l) lo hi es
-      → Heals half B _⊕_ l lo hi es (heal-nodes half _⊕_ t l es S .nodes)
-  unfolding heal-nodes root-least
-  nodes-heal zero es S n low lt s = leaf-heals half B joins _⊕_ t low lt s
-  nodes-heal (suc l) es S n low lt s =
-      page-heals half (omega arith) any lawful l t (λ ks. heal-nodes half _⊕_ t l ks S)
-      (λ a b ks f low lt s. nodes-heal l ks S (omega (arith, least-two l)) low lt s) n low lt s
-
+module _ {half : ℕ} (two : 2 ≤ half) {B : Asked (Subtree 0)} (any : Pairless B) {_⊕_ : Pair → Pair → Pair} (lawful : Lawful _⊕_) where
   -- a root of level l with the entries es became U
   record Shrunk (l lo hi : ℕ) (es : Nodes l) (U : Tree) : Type 0 where
     least : root-least (U .level) ≤ length (U .nodes)
@@ -197,13 +61,12 @@ module _ {half : ℕ} (two : 2 ≤ half) {B : Asked (Subtree 0)} (any : Pairless
       rw (not-one (length es))
       (record { least = omega arith; most = most; spans = more e lt′ q (more f lt″ p r); pairs = λ u low. refl; level = inl refl })
 
-  heal-tree : (Y : State) → Formed half B (Y .tree) → Shrunk (Y .tree .level) 0 END (Y .tree .nodes) (heal half _⊕_ t Y .tree)
-  unfolding heal
-  heal-tree Y F =
-      let T = Y .tree in
-      let h = nodes-heal (T .level) (T .nodes) (Y .supply) (F .least) (omega arith) (omega arith) (F .spans) in
-      let w = root-collapses (T .level) (T .root) (heal-nodes half _⊕_ t (T .level) (T .nodes) (Y .supply) .supply)
-      (omega (arith, h, F)) (omega arith) (h .spans) in
+  -- the entries es of the root were healed to fs
+  healed-root : {C : Asked (Subtree 0)} (T : Tree) (fs : Nodes (T .level)) (S : Supply) → Formed half C T
+      → Heals half B _⊕_ (T .level) 0 END (T .nodes) fs
+      → Shrunk (T .level) 0 END (T .nodes) (collapse-if-single half _⊕_ (T .level) (T .root) fs S .tree)
+  healed-root T fs S F h =
+      let w = root-collapses (T .level) (T .root) S (omega (arith, h, F)) (omega arith) (h .spans) in
       record {
         least = w .least;
         most = w .most;
@@ -212,12 +75,105 @@ module _ {half : ℕ} (two : 2 ≤ half) {B : Asked (Subtree 0)} (any : Pairless
         level = w .level;
       }
 
-  module _ (Y : State) (F : Formed half B (Y .tree)) where
-    pub heal-formed : Formed half B (heal half _⊕_ t Y .tree)
-    heal-formed = let w = heal-tree Y F in record { least = w .least; most = w .most; spans = w .spans }
+-- ---- the whole step
 
-    pub heal-pairs : (u : ℕ) → pair-at _⊕_ (heal half _⊕_ t Y .tree) u ≡ pair-at _⊕_ (Y .tree) u
-    heal-pairs u = heal-tree Y F .pairs u (omega arith)
+module _ {half : ℕ} (two : 2 ≤ half) {B : Asked (Subtree 0)} (any : Pairless B) (longer : Stretchable B) {_⊕_ : Pair → Pair → Pair}
+    (lawful : Lawful _⊕_) {totals : Bool} (inverse : totals ≡ true → Invertible _⊕_) (t : ℕ) (Y : State) (F : Formed half B (Y .tree)) where
+  abbrev T : Tree
+  T = Y .tree
 
-    pub heal-level : (heal half _⊕_ t Y .tree .level ≡ Y .tree .level) ⊎ (suc (heal half _⊕_ t Y .tree .level) ≡ Y .tree .level)
-    heal-level = heal-tree Y F .level
+  abbrev healed : Bool → Nodes (T .level)
+  healed edge = heal-nodes half _⊕_ edge t (T .level) (T .nodes) (Y .supply) .nodes
+
+  -- where the totals at t − 1 and at t are equal, and the edge that t may start is joined, the entry goes
+  root-mends : {C : Asked (Subtree 0)} → Pairless C → Stretchable C
+      → ((a b : ℕ) (x : Node (Subtree 0)) → (a ≡ t → ⊥) → B a b x → C a b x)
+      → totals ≡ true → 0 < t → t < END → pair-at _⊕_ T t ≡ pair-at _⊕_ T (t - 1) → (edge : Bool)
+      → starts-leaf t (T .level) (T .nodes) ≡ edge → Heals half C _⊕_ (T .level) 0 END (T .nodes) (healed edge)
+  root-mends anyC longerC keep kind some high equal edge starts =
+      mends two anyC longerC lawful (cancel lawful (inverse kind)) t keep (T .level) (T .nodes) (Y .supply) edge (F .least) some high
+      (F .spans) starts equal
+
+  -- what tells that an edge joins
+  record Joins : Type 0 where
+    kind : totals ≡ true
+    some : 0 < t
+    starts : starts-leaf t (T .level) (T .nodes) ≡ true
+    equal : pair-at _⊕_ T t ≡ pair-at _⊕_ T (t - 1)
+
+  joins : joins-edge _⊕_ totals t T ≡ true → Joins
+  unfolding joins-edge
+  joins h =
+      let p = pair-at _⊕_ T t in
+      let q = pair-at _⊕_ T (t - 1) in
+      let s = starts-leaf t (T .level) (T .nodes) in
+      let w = both totals (ltb 0 t && (s && same-pair p q)) (λ z. z, λ z. z)
+      (both (ltb 0 t) (s && same-pair p q) (λ z. z, λ z. z) (both s (same-pair p q) (λ z. z, λ z. z) (same-pair-is p q))) .0 h in
+      record { kind = w .0; some = ltb-true 0 t (w .1 .0); starts = w .1 .1 .0; equal = w .1 .1 .1 }
+
+  root-heals : Heals half B _⊕_ (T .level) 0 END (T .nodes) (healed (joins-edge _⊕_ totals t T))
+  root-heals = go (joins-edge _⊕_ totals t T) refl
+    where
+      go : (edge : Bool) → joins-edge _⊕_ totals t T ≡ edge → Heals half B _⊕_ (T .level) 0 END (T .nodes) (healed edge)
+      go true h =
+          let j = joins h in
+          root-mends any longer (λ a b x k q. q) (j .kind) (j .some)
+          (starts-inside half B t (T .level) (omega arith) (omega arith) (F .spans) (j .starts)) (j .equal) true (j .starts)
+      go false h = nodes-heal two any longer lawful t (T .level) (T .nodes) (Y .supply) (F .least) (omega arith) (omega arith) (F .spans)
+
+  heal-tree : Shrunk two any lawful (T .level) 0 END (T .nodes) (heal half _⊕_ totals t Y .tree)
+  unfolding heal
+  heal-tree = healed-root two any lawful T _ _ F root-heals
+
+  pub heal-formed : Formed half B (heal half _⊕_ totals t Y .tree)
+  heal-formed = record { least = heal-tree .least; most = heal-tree .most; spans = heal-tree .spans }
+
+  pub heal-pairs : (u : ℕ) → pair-at _⊕_ (heal half _⊕_ totals t Y .tree) u ≡ pair-at _⊕_ T u
+  heal-pairs u = heal-tree .pairs u (omega arith)
+
+  pub heal-level : (heal half _⊕_ totals t Y .tree .level ≡ T .level) ⊎ (suc (heal half _⊕_ totals t Y .tree .level) ≡ T .level)
+  heal-level = heal-tree .level
+
+  -- ---- for kind 1: what starts at t then
+
+  module _ (kind : totals ≡ true) where
+    -- what is asked of a leaf entry besides, once it is healed at t: if it starts there, the totals on both sides differ
+    abbrev pub Mended : Asked (Subtree 0)
+    Mended lo hi x = B lo hi x × (lo ≡ t → 0 < t → pair-at _⊕_ T t ≡ pair-at _⊕_ T (t - 1) → ⊥)
+
+    abbrev Elsewhere : Asked (Subtree 0)
+    Elsewhere lo hi x = B lo hi x × (lo ≡ t → ⊥)
+
+    elsewhere : 0 < t → t < END → pair-at _⊕_ T t ≡ pair-at _⊕_ T (t - 1) → Formed half Elsewhere (heal half _⊕_ totals t Y .tree)
+    unfolding heal joins-edge
+    elsewhere some high equal =
+        let p = pair-at _⊕_ T t in
+        let q = pair-at _⊕_ T (t - 1) in
+        let s = starts-leaf t (T .level) (T .nodes) in
+        let edge : s ≡ joins-edge _⊕_ totals t T =
+        sym (ap (λ k. k && (ltb 0 t && (s && same-pair p q))) kind
+        ∙ (ap (λ k. k && (s && same-pair p q)) (lt-ltb 0 t some) ∙ (ap (λ k. s && k) (same-pair-is p q .1 equal) ∙ and-true s))) in
+        let anyE : Pairless Elsewhere = record { any-pair = λ lo hi x r k. (any .any-pair lo hi x r (k .0), k .1) } in
+        let longerE : Stretchable Elsewhere = record { stretched = λ lo mid hi x l h k. (longer .stretched lo mid hi x l h (k .0), k .1) } in
+        let w = healed-root two anyE lawful T _ _ F
+        (root-mends anyE longerE (λ a b x k r. (r, k)) kind some high equal (joins-edge _⊕_ totals t T) edge) in
+        record { least = w .least; most = w .most; spans = w .spans }
+
+    pub heal-mends : Formed half Mended (heal half _⊕_ totals t Y .tree)
+    heal-mends = ⊎-elim late (λ high. early high (same-pair (pair-at _⊕_ T t) (pair-at _⊕_ T (t - 1))) refl) (le-or-lt END t)
+      where
+        late : END ≤ t → Formed half Mended (heal half _⊕_ totals t Y .tree)
+        late h = formed-spans (λ a b y lt le q. (q, λ e. absurd (omega arith))) heal-formed
+
+        early : t < END → (b : Bool) → same-pair (pair-at _⊕_ T t) (pair-at _⊕_ T (t - 1)) ≡ b
+            → Formed half Mended (heal half _⊕_ totals t Y .tree)
+        early high true e =
+            let equal = same-pair-is (pair-at _⊕_ T t) (pair-at _⊕_ T (t - 1)) .0 e in
+            ⊎-elim (λ (some : 1 ≤ t). formed-map (λ a b y q. (q .0, λ k. absurd (q .1 k))) (elsewhere some high equal))
+            (λ (none : t < 1). formed-map (λ a b y q. (q, λ k some. absurd (omega arith))) heal-formed) (le-or-lt 1 t)
+        early high false e =
+            formed-map (λ a b y q. (
+              q,
+              λ k some equal. true≢false
+                  (sym (same-pair-is (pair-at _⊕_ T t) (pair-at _⊕_ T (t - 1)) .1 equal) ∙ e),
+            )) heal-formed

@@ -5,10 +5,15 @@ pub mod Look
 pub mod Splice
 pub mod Same
 pub mod Shapes
+pub mod Stretch
 pub mod Cut
 pub mod Combine
 pub mod Push
 pub mod Rebalance
+pub mod Within
+pub mod Edge
 pub mod Heal
 pub mod Change
+pub mod Runs
+pub mod Few
 pub mod Conservation

@@ -85,12 +85,16 @@ module _ {A : Type 0} {Q : Asked A} (d : Node A) where
   seg-rises (more e m q r) (suc j) zero lt l = absurd (omega arith)
   seg-rises (more e m q r) (suc j) (suc k) lt l = seg-rises r j k (omega arith) (omega arith)
 
--- within the same bounds, by what holds of each entry within them
+-- within the same bounds, by what holds of each entry within them, and of its span
+pub seg-spans : {A : Type 0} {Q R : Asked A} {lo hi : ℕ} {es : List (Node A)}
+    → ((a b : ℕ) (x : Node A) → lo ≤ a → a < b → b ≤ hi → Q a b x → R a b x) → Seg Q lo hi es → Seg R lo hi es
+seg-spans f done = done
+seg-spans {lo} {hi} f (more {mid} {x} e lt q r) =
+    more e lt (f lo mid x (omega arith) lt (omega (arith, seg-le r)) q) (seg-spans (λ a b y l k h. f a b y (omega arith) k h) r)
+
 pub seg-map : {A : Type 0} {Q R : Asked A} {lo hi : ℕ} {es : List (Node A)}
     → ((a b : ℕ) (x : Node A) → lo ≤ a → b ≤ hi → Q a b x → R a b x) → Seg Q lo hi es → Seg R lo hi es
-seg-map f done = done
-seg-map {lo} {hi} f (more {mid} {x} e lt q r) =
-    more e lt (f lo mid x (omega arith) (omega (arith, seg-le r)) q) (seg-map (λ a b y l h. f a b y (omega arith) h) r)
+seg-map f = seg-spans (λ a b x l lt h. f a b x l h)
 
 -- what holds of each entry within its bounds
 pub seg-all : {A : Type 0} {Q : Asked A} {R : Node A → Type 0} {lo hi : ℕ} {es : List (Node A)}

@@ -6,12 +6,13 @@ use mathlib.Core.List.{[], _∷_}
 use native.Mathlib.Omega.{arith}
 use lib.ListN.{length, take, drop, length-take, length-drop, take-append-drop}
 use Rattle.rule.specs.declared.Pair.{Pair}
+use Rattle.rule.specs.Time.{END}
 use Rattle.page.specs.declared.Entry.{Entry}
 use Rattle.page.specs.Layout.{capacity}
 use Rattle.page.specs.Entries.{entry, at}
 use Rattle.tree.specs.Tree.{Node, Subtree, Nodes, flat, Tree}
 use Rattle.tree.specs.Shape.{Asked, Seg, more, Filled, Shaped, Apart, Leaf, Formed}
-use Rattle.tree.proofs.Seg.{seg-map, seg-part, seg-lt, seg-one, seg-head}
+use Rattle.tree.proofs.Seg.{seg-spans, seg-map, seg-part, seg-lt, seg-one, seg-head}
 use Rattle.tree.proofs.Same.{Same, with-subtree, same-two}
 
 -- a leaf entry from t on, and with another pair
@@ -21,39 +22,38 @@ from t x = record { entry = entry t (x .entry .pair) (x .entry .child); subtree 
 abbrev pub with-pair : {A : Type 0} → Pair → Node A → Node A
 with-pair p x = record { entry = entry (x .entry .start) p (x .entry .child); subtree = x .subtree }
 
--- kept of an entry by its two parts
-pub record Cuttable (B : Asked (Subtree 0)) : Type 0 where
-  pub before : (t lo hi : ℕ) (x : Node (Subtree 0)) → lo < t → t < hi → B lo hi x → B lo t x
-  pub after : (t lo hi : ℕ) (x : Node (Subtree 0)) → lo < t → t < hi → B lo hi x → B t hi (from t x)
+-- kept of an entry by its two parts, where it is cut at t
+pub record Cuttable (t : ℕ) (B : Asked (Subtree 0)) : Type 0 where
+  pub before : (lo hi : ℕ) (x : Node (Subtree 0)) → lo < t → t < hi → B lo hi x → B lo t x
+  pub after : (lo hi : ℕ) (x : Node (Subtree 0)) → lo < t → t < hi → B lo hi x → B t hi (from t x)
 
 -- kept under any pair
 pub record Pairless (B : Asked (Subtree 0)) : Type 0 where
   pub any-pair : (lo hi : ℕ) (x : Node (Subtree 0)) (p : Pair) → B lo hi x → B lo hi (with-pair p x)
 
--- kept of two with equal pairs by the first, once it has the span of both
-pub record Joinable (B : Asked (Subtree 0)) : Type 0 where
-  pub joined : (lo mid hi : ℕ) (x y : Node (Subtree 0)) → lo < mid → mid < hi → y .entry .pair ≡ x .entry .pair → B lo mid x
-      → B mid hi y → B lo hi x
+-- kept by an entry that ends later, once the one behind it has gone
+pub record Stretchable (B : Asked (Subtree 0)) : Type 0 where
+  pub stretched : (lo mid hi : ℕ) (x : Node (Subtree 0)) → lo < mid → mid ≤ hi → B lo mid x → B lo hi x
 
 -- and where t is cut besides
 abbrev pub Parts : ℕ → Asked (Subtree 0) → Asked (Subtree 0)
 Parts t B lo hi x = B lo hi x × Apart t lo hi
 
-pub leaf-cuttable : Cuttable Leaf
-leaf-cuttable = record { before = λ t lo hi x l h b. b; after = λ t lo hi x l h b. b }
+pub leaf-cuttable : (t : ℕ) → Cuttable t Leaf
+leaf-cuttable t = record { before = λ lo hi x l h b. b; after = λ lo hi x l h b. b }
 
 pub leaf-pairless : Pairless Leaf
 leaf-pairless = record { any-pair = λ lo hi x p b. b }
 
-pub leaf-joinable : Joinable Leaf
-leaf-joinable = record { joined = λ lo mid hi x y l h e b c. b }
+pub leaf-stretchable : Stretchable Leaf
+leaf-stretchable = record { stretched = λ lo mid hi x l h b. b }
 
 module _ {B : Asked (Subtree 0)} (s : ℕ) where
-  pub parts-cuttable : Cuttable B → Cuttable (Parts s B)
+  pub parts-cuttable : {t : ℕ} → Cuttable t B → Cuttable t (Parts s B)
   parts-cuttable cuts =
       record {
-        before = λ t lo hi x l h b. (cuts .before t lo hi x l h (b .0), ⊎-elim (λ k. inl (omega arith)) inr (b .1));
-        after = λ t lo hi x l h b. (cuts .after t lo hi x l h (b .0), ⊎-elim inl (λ k. inr (omega arith)) (b .1));
+        before = λ lo hi x l h b. (cuts .before lo hi x l h (b .0), ⊎-elim (λ k. inl (omega arith)) inr (b .1));
+        after = λ lo hi x l h b. (cuts .after lo hi x l h (b .0), ⊎-elim inl (λ k. inr (omega arith)) (b .1));
       }
 
   pub parts-pairless : Pairless B → Pairless (Parts s B)
@@ -66,6 +66,26 @@ unfolding Shaped
 shaped-map half zero lo hi x f s = f lo hi x (omega arith) (omega arith) s
 shaped-map half (suc l) lo hi x f s =
     (s .0, seg-map (λ a b y low high q. shaped-map half l a b y (λ c d z p r. f c d z (omega arith) (omega arith)) q) (s .1))
+
+-- and of its span
+pub shaped-spans : (half : ℕ) {B C : Asked (Subtree 0)} (l lo hi : ℕ) (x : Node (Subtree l)) → lo < hi
+    → ((a b : ℕ) (y : Node (Subtree 0)) → lo ≤ a → a < b → b ≤ hi → B a b y → C a b y) → Shaped half B l lo hi x → Shaped half C l lo hi x
+unfolding Shaped
+shaped-spans half zero lo hi x lt f s = f lo hi x (omega arith) lt (omega arith) s
+shaped-spans half (suc l) lo hi x lt f s = (
+  s .0,
+  seg-spans (λ a b y low lt high q. shaped-spans half l a b y lt (λ c d z p k r. f c d z (omega arith) k (omega arith)) q) (s .1),
+)
+
+pub formed-spans : {half : ℕ} {B C : Asked (Subtree 0)} {T : Tree}
+    → ((a b : ℕ) (y : Node (Subtree 0)) → a < b → b ≤ END → B a b y → C a b y) → Formed half B T → Formed half C T
+formed-spans {half} {T = T} f F =
+    record {
+      least = F .least;
+      most = F .most;
+      spans =
+          seg-spans (λ a b x low lt high q. shaped-spans half (T .level) a b x lt (λ c d y p k r. f c d y k (omega arith)) q) (F .spans);
+    }
 
 pub formed-map : {half : ℕ} {B C : Asked (Subtree 0)} {T : Tree}
     → ((a b : ℕ) (y : Node (Subtree 0)) → B a b y → C a b y) → Formed half B T → Formed half C T

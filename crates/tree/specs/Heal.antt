@@ -1,15 +1,15 @@
 -- The heal at t, on trees: what `Rattle.steps.specs.Heal` does to the tree that the image shows. Assumes nothing.
 use Prim.Native.Nat.{ℕ, zero, suc, _-_}
-use mathlib.Core.Bool.{cond}
+use mathlib.Core.Bool.{Bool, cond, _&&_, _||_}
 use mathlib.Core.List.{List, [], _∷_, _++_, map}
 use lib.ListN.{length, take, drop, getD}
 use lib.Dec.{eqb, ltb}
 use Rattle.rule.specs.declared.Pair.{Pair}
-use Rattle.rule.specs.Pairs.{none}
+use Rattle.rule.specs.Pairs.{none, same-pair}
 use Rattle.page.specs.Entries.{entry, at, index-of}
 use Rattle.lists.specs.Lists.{splice}
-use Rattle.steps.specs.Heal.{heals, sibling, left-of}
-use Rattle.tree.specs.Tree.{Node, Subtree, Nodes, no-node, flat}
+use Rattle.steps.specs.Heal.{heals, carried, sibling, left-of}
+use Rattle.tree.specs.Tree.{Node, Subtree, Nodes, no-node, flat, node-of, Tree, pair-at}
 use Rattle.tree.specs.Supply.{Supply, with-page}
 use Rattle.tree.specs.Cut.{State}
 
@@ -49,6 +49,18 @@ module _ (_⊕_ : Pair → Pair → Pair) where
       let b = getD es (suc i) (no-node (suc l)) in
       splice i (emptied (a .entry .start) a (joint a b) ∷ []) (splice (suc i) [] es)
 
+-- t starts the leaf on the way to it
+unfoldable pub starts-leaf : ℕ → (l : ℕ) → Nodes l → Bool
+starts-leaf t zero es = eqb (at (flat es) 0 .start) t
+starts-leaf t (suc l) es = starts-leaf t l (node-of (suc l) t es .subtree)
+
+-- whether the entry goes that is first in its page; `totals` is whether the kind is 1
+unfoldable pub joins-edge : (Pair → Pair → Pair) → Bool → ℕ → Tree → Bool
+joins-edge _⊕_ totals t T =
+    totals
+    && (ltb 0 t
+    && (starts-leaf t (T .level) (T .nodes) && same-pair (pair-at _⊕_ T t) (pair-at _⊕_ T (t - 1))))
+
 module _ (half : ℕ) (_⊕_ : Pair → Pair → Pair) where
   unfoldable pub rebalance : (l : ℕ) → ℕ → Nodes (suc l) → Supply → Healing (Subtree (suc l))
   rebalance l i es S =
@@ -60,15 +72,15 @@ module _ (half : ℕ) (_⊕_ : Pair → Pair → Pair) where
       record { nodes = merge _⊕_ l (left-of i) es; supply = with-page (b .entry .child) S } in
       cond (ltb half n) gives joins
 
-  unfoldable pub heal-nodes : ℕ → (l : ℕ) → Nodes l → Supply → Healing (Subtree l)
-  heal-nodes t zero es S =
+  unfoldable pub heal-nodes : Bool → ℕ → (l : ℕ) → Nodes l → Supply → Healing (Subtree l)
+  heal-nodes edge t zero es S =
       let i = index-of t (flat es) in
-      record { nodes = cond (heals t (flat es) i) (splice i [] es) es; supply = S }
-  heal-nodes t (suc l) es S =
+      record { nodes = cond (edge || heals t (flat es) i) (splice i [] es) es; supply = S }
+  heal-nodes edge t (suc l) es S =
       let i = index-of t (flat es) in
       let x = getD es i (no-node (suc l)) in
-      let r = heal-nodes t l (x .subtree) S in
-      let healed = splice i (record { entry = x .entry; subtree = r .nodes } ∷ []) es in
+      let r = heal-nodes edge t l (x .subtree) S in
+      let healed = splice i (record { entry = carried edge t (flat (r .nodes)) (x .entry); subtree = r .nodes } ∷ []) es in
       cond (ltb (length (r .nodes)) half) (rebalance l i healed (r .supply)) (record { nodes = healed; supply = r .supply })
 
   -- an inner root with one entry goes
@@ -81,8 +93,8 @@ module _ (half : ℕ) (_⊕_ : Pair → Pair → Pair) where
       let same : State = record { tree = record { level = suc l; root = root; nodes = es }; supply = S } in
       cond (eqb (length es) 1) collapsed same
 
-  unfoldable pub heal : ℕ → State → State
-  heal t Y =
+  unfoldable pub heal : Bool → ℕ → State → State
+  heal totals t Y =
       let T = Y .tree in
-      let r = heal-nodes t (T .level) (T .nodes) (Y .supply) in
+      let r = heal-nodes (joins-edge _⊕_ totals t T) t (T .level) (T .nodes) (Y .supply) in
       collapse-if-single (T .level) (T .root) (r .nodes) (r .supply)

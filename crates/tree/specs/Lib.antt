@@ -5,5 +5,6 @@ pub mod Combine
 pub mod Heal
 pub mod Change
 pub mod Shape
+pub mod Runs
 pub mod Conserved
 pub mod Counts

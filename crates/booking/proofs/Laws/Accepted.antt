@@ -24,6 +24,7 @@ use Rattle.calls.proofs.Changes.{effective}
 use Rattle.store.specs.Encoding.{Encodes, Pre, Post}
 use Rattle.invariant.proofs.From.Invariant.{sound-invariant}
 use Rattle.change.specs.Changeable.{Changeable}
+use Rattle.soundness.proofs.Sound.{sound-old}
 use Rattle.page_need.proofs.Held.{sound-holds}
 use Rattle.preconditions.proofs.Changes.{changeable}
 use Rattle.booking.specs.declared.StateCheck.the-variants.{Accepted, Refused}
@@ -95,7 +96,7 @@ module _ {half : ℕ} {side : Side} {v : ℤ} {s e : ℕ} {img : List ℕ} {h : 
         (subst⁻¹ (λ q. Changeable half (head half img .kind) s end q X) same-effect ready))
 
     holds : Encodes half img X
-    holds = sound-holds (a .half-least) (a .half-most) img bytes accepted-sound
+    holds = sound-holds (a .half-least) (a .half-most) img bytes (sound-old half img accepted-sound)
 
     pub accepted-some : Pre half img (Changeable half (h .kind) s to p)
     accepted-some = record { image = X; holds = holds; ready = ready-so }

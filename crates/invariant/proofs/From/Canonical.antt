@@ -24,7 +24,7 @@ use Rattle.page.proofs.Laws.Trees.{length-tree, length-entries-of, tree-again}
 use Rattle.page.proofs.Laws.Frees.{length-free, free-again, unused-again}
 use Rattle.page.proofs.Laws.Heads.{head-again}
 use Rattle.image.specs.Images.{page-at, pages-in, length-ok, never-used-level, cell-of, cell-bytes, image-of, image-bytes, Canonical}
-use Rattle.image.specs.Sound.{tree-fit, tree-pages, sound}
+use Rattle.image.specs.Sound.{tree-fit, tree-pages, sound-before}
 use Rattle.lists.specs.Lists.{times}
 use Rattle.image.proofs.Sizes.{sized, page-length}
 use Rattle.image.proofs.Cells.{cell-tree, cell-free, cell-never, never-level}
@@ -133,7 +133,7 @@ head-page half img some ok b e =
     (bytes-part img (page-size half * 0) (page-size half) b) (k .1 .1)
     ∙ ap (λ o. part img o (page-size half)) (mul-zero (page-size half))
 
-pub canonical : (half : ℕ) (img : List ℕ) → 1 ≤ half → Bytes img → sound half img ≡ true → image-bytes half (image-of half img) ≡ img
+pub canonical : (half : ℕ) (img : List ℕ) → 1 ≤ half → Bytes img → sound-before half img ≡ true → image-bytes half (image-of half img) ≡ img
 unfolding image-bytes image-of page-at
 canonical half img some b e =
     let f : Sound-facts half img = sound-facts half img e in
@@ -152,7 +152,7 @@ canonical half img some b e =
     ∙ part-whole img (size + size * (n - 1)) (sized half img ok .size ∙ more)
 
 -- and each page is read back
-pub canonical-kept : (half : ℕ) (img : List ℕ) → Bytes img → sound half img ≡ true
+pub canonical-kept : (half : ℕ) (img : List ℕ) → Bytes img → sound-before half img ≡ true
     → (p : ℕ) → 1 ≤ p → p < image-of half img .head .pages → Canonical half (image-of half img .page p)
 unfolding image-of
 canonical-kept half img b e p l r =

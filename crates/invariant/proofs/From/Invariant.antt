@@ -1,26 +1,30 @@
 -- The theorem: a sound image shows a tree and a supply with all that document 01 asks. Assumes nothing.
 use Prim.Native.Nat.{ℕ, _-_, _≤_}
-use mathlib.Core.Path.{_≡_, refl}
+use mathlib.Core.Path.{_≡_, refl, sym, ap, _∙_}
 use mathlib.Core.Bool.{true, and-eq-true-iff}
 use mathlib.Core.List.{List}
 use native.Mathlib.Omega.{arith}
 use borrow.Author.Tests.{leb-true}
-use Rattle.rule.specs.Pairs.{none}
+use Rattle.rule.specs.Pairs.{none, combine}
 use Rattle.page.specs.declared.Head.{Head}
 use Rattle.page.specs.Entries.{entry}
 use Rattle.page.specs.Fit.{root-context}
 use Rattle.image.specs.Images.{pages-in, length-ok, image-of}
-use Rattle.image.specs.Sound.{sound}
+use Rattle.image.specs.Listing.{neighbours-differ}
+use Rattle.image.specs.Neighbours.{neighbours-apart}
+use Rattle.image.specs.Sound.{sound-before, sound}
 use Rattle.tree.specs.Cut.{root-node}
 use Rattle.refinement.specs.Represents.{Represents}
-use Rattle.soundness.proofs.Sound.{the-head, Sound-facts, sound-facts}
-use Rattle.invariant.specs.Invariant.{Ranges, Structure, Invariant}
+use Rattle.soundness.proofs.Sound.{the-head, Sound-facts, sound-facts, sound-parts}
+use Rattle.tree.proofs.Runs.{distinct-runs}
+use Rattle.invariant.specs.Invariant.{Ranges, Own-structure, Invariant}
 use Rattle.invariant.proofs.From.Load.{state-in}
 use Rattle.invariant.proofs.From.Cells.{tree-represented}
 use Rattle.invariant.proofs.From.Shape.{tree-formed}
 use Rattle.invariant.proofs.From.Bounds.{tree-bounds}
 use Rattle.invariant.proofs.From.Chain.{sound-supplied}
 use Rattle.invariant.proofs.From.Once.{held-once, head-held}
+use Rattle.invariant.proofs.From.Runs.{walked-runs}
 
 pub pages-range : (half : ℕ) (img : List ℕ) → length-ok half img ≡ true → (2 ≤ pages-in half img) × (pages-in half img ≤ 1024)
 unfolding length-ok
@@ -56,10 +60,9 @@ module _ (half : ℕ) (img : List ℕ) (f : Sound-facts half img) where
         field-fits = g .field-fits;
       }
 
-  pub sound-structure : 1 ≤ half
-      → Structure half (image-of half img .head .kind) (image-of half img .head .changes) (image-of half img) (state-in half img)
+  pub facts-structure : 1 ≤ half → Own-structure half (image-of half img) (state-in half img)
   unfolding image-of
-  sound-structure some =
+  facts-structure some =
       record {
         shown = sound-represented;
         formed = tree-formed half img some (f .fit);
@@ -71,5 +74,21 @@ module _ (half : ℕ) (img : List ℕ) (f : Sound-facts half img) where
         ranges = sound-ranges;
       }
 
+-- what document 01 asks is the structure
+pub sound-structure : (half : ℕ) (img : List ℕ) → 1 ≤ half → sound-before half img ≡ true
+    → Own-structure half (image-of half img) (state-in half img)
+sound-structure half img some e = facts-structure half img (sound-facts half img e) some
+
+-- and with the clause on neighbours it is the invariant
 pub sound-invariant : (half : ℕ) (img : List ℕ) → 1 ≤ half → sound half img ≡ true → Invariant half (image-of half img) (state-in half img)
-sound-invariant half img some e = record { structure = sound-structure half img (sound-facts half img e) some }
+unfolding image-of neighbours-apart
+sound-invariant half img some e =
+    let s = sound-parts half img .0 e in
+    let g = sound-structure half img some (s .old) in
+    record {
+      structure = g;
+      distinct =
+          λ k.
+          distinct-runs half (combine (the-head half img .kind)) (state-in half img .tree) (g .formed) .1
+          (ap neighbours-differ (sym (walked-runs half img (sound-facts half img (s .old)) (state-in half img) (g .shown))) ∙ s .apart k);
+    }

@@ -4,9 +4,10 @@ use mathlib.Core.Path.{_≡_, refl, sym, ap, _∙_}
 use mathlib.Core.Bool.{true, cond, _&&_, and-eq-true-iff}
 use mathlib.Core.List.{List}
 use native.Mathlib.Omega.{arith}
-use lib.Dec.{leb}
+use lib.Dec.{eqb, leb}
 use lib.ListN.{length}
 use borrow.Author.Tests.{eq-eqb, le-leb, lt-leb, lt-ltb}
+use Rattle.rule.specs.Pairs.{combine}
 use Rattle.rule.specs.Time.{END}
 use Rattle.page.specs.declared.Head.{Head}
 use Rattle.page.specs.Layout.{page-size, free-ok, never-used-ok, head-bytes}
@@ -14,19 +15,24 @@ use Rattle.page.specs.Fit.{root-context, fewest, most-height, ranges-ok, field-
 use Rattle.page.proofs.Laws.Heads.{head-of-head, head-rest}
 use Rattle.page.proofs.Laws.Frees.{free-ok-free, never-used-ok-unused}
 use Rattle.image.specs.Images.{Image, page-at, pages-in, length-ok, cell-bytes, image-of, image-bytes, Canonical}
-use Rattle.image.specs.Sound.{tree-fit, tree-pages, chain-pages, sound}
+use Rattle.image.specs.Sound.{tree-fit, tree-pages, chain-pages, sound-before, sound}
+use Rattle.image.specs.Listing.{neighbours-differ, walk-over}
+use Rattle.image.specs.Neighbours.{neighbours-apart}
 use Rattle.lists.specs.Lists.{times}
 use Rattle.image.proofs.Written.{length-of-written, pages-of-written, length-of-fits, head-written, page-of-written, page-of-read}
 use Rattle.image.proofs.Written.{head-of-read}
 use Rattle.tree.specs.Shape.{root-least}
 use Rattle.tree.specs.Cut.{State, root-node}
 use Rattle.refinement.specs.Represents.{Stores, Represents}
-use Rattle.soundness.proofs.Sound.{the-head, the-tree, the-chain, head-test, tree-test, Sound-facts, facts-sound}
+use Rattle.soundness.proofs.Sound.{the-head, the-tree, the-chain, head-test, tree-test, Sound-facts, facts-sound, sound-parts}
+use Rattle.tree.specs.Runs.{runs-of}
+use Rattle.tree.proofs.Runs.{distinct-runs}
 use Rattle.invariant.specs.Invariant.{Structure, Invariant}
 use Rattle.invariant.proofs.From.Shape.{root-fewest}
 use Rattle.tree.proofs.Seg.{least-one}
 use Rattle.fit.proofs.Laws.Heads.{fit-ranges}
 use Rattle.invariant.proofs.From.Look.{Answered, look-invariant}
+use Rattle.invariant.proofs.From.Runs.{walked-runs}
 use Rattle.invariant.proofs.To.Known.{Freed, held-is, chain-inside, root-inside, free-inside, chain-short, tree-list, times-tree}
 use Rattle.invariant.proofs.To.Known.{tree-ready, page-free, head-fits, page-kept}
 use Rattle.invariant.proofs.To.Fit.{Stands, fit-tree, pages-are}
@@ -157,7 +163,7 @@ module _ (half : ℕ) (X : Image) (Y : State) (some : 1 ≤ half)
 
   -- ---- which pages the walks find
 
-  tree-found : the-tree half (image-bytes half X) ≡ tree-list g
+  pub tree-found : the-tree half (image-bytes half X) ≡ tree-list g
   tree-found =
       let img : List ℕ = image-bytes half X in
       let l : ℕ = Y .tree .level in
@@ -214,7 +220,28 @@ module _ (half : ℕ) (X : Image) (Y : State) (some : 1 ≤ half)
   pub look-written : (t : ℕ) → Answered half (image-bytes half X) t Y
   look-written t = look-invariant half (image-bytes half X) some facts Y represented-again t
 
+  -- the structure is what document 01 asks
+  pub structure-sound : sound-before half (image-bytes half X) ≡ true
+  structure-sound = facts-sound half (image-bytes half X) facts
+
+  -- and a walk finds the tree's runs
+  pub runs-written : walk-over half (image-bytes half X) 0 END .runs ≡ runs-of (combine (X .head .kind)) (Y .tree)
+  runs-written =
+      walked-runs half (image-bytes half X) facts Y represented-again
+      ∙ ap (λ (h : Head). runs-of (combine (h .kind)) (Y .tree)) head-is
+
 -- the theorem
 pub invariant-sound : (half : ℕ) (X : Image) (Y : State) → 1 ≤ half → Invariant half X Y → X .head .height ≤ most-height
     → sound half (image-bytes half X) ≡ true
-invariant-sound half X Y some g tall = facts-sound half (image-bytes half X) (facts half X Y some (g .structure) tall)
+unfolding neighbours-apart
+invariant-sound half X Y some g tall =
+    let s = g .structure in
+    let k : eqb (the-head half (image-bytes half X) .kind) 1 ≡ eqb (X .head .kind) 1 =
+    ap (λ (h : Head). eqb (h .kind) 1) (head-is half X Y some s tall) in
+    sound-parts half (image-bytes half X) .1
+    (record {
+      old = structure-sound half X Y some s tall;
+      apart = λ e.
+          ap neighbours-differ (runs-written half X Y some s tall)
+          ∙ distinct-runs half (combine (X .head .kind)) (Y .tree) (s .formed) .0 (g .distinct (sym k ∙ e));
+    })

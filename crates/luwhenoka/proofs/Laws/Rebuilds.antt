@@ -10,12 +10,13 @@ use lib.Dec.{eqb}
 use borrow.Author.Tests.{ne-eqb, not-false}
 use Rattle.lists.specs.Lists.{All, all-none, all-more}
 use Rattle.image.specs.Images.{pages-in, length-ok}
-use Rattle.image.specs.Sound.{sound}
+use Rattle.image.specs.Sound.{sound-before}
 use Rattle.tight.specs.Tight.{too-small}
 use Rattle.calls.specs.Refusals.{Row, first, borrowed, scratch-ok, scratch-after}
-use Rattle.calls.specs.Calls.{Audited, Rebuilt, full-runs, rebuilt-bytes, audit-input-rows, audit, rebuild-status, rebuild}
+use Rattle.calls.specs.Calls.{Audited, Rebuilt, full-runs, rebuilt-bytes, audit-input-rows, rebuild-status, rebuild}
 use Rattle.calls.proofs.Rows.{first-none, first-behind}
 use Rattle.rebuild.specs.Rebuild.{Fills}
+use Rattle.luwhenoka.specs.Answers.{rule-of, audit-by}
 
 -- a rebuild by what the audit of its source returned, and by the outcomes of its own two tests
 behind : Audited → (whole small : Bool) (done target : List ℕ) → Rebuilt
@@ -31,7 +32,7 @@ some a b c = all-more (number 16 (omega arith)) (all-more (number 17 (omega arit
     number n l e = omega (arith, l, e)
 
 module _ (half : ℕ) (source target scratch : List ℕ) {r : ℕ} {left : List ℕ}
-    (p : record { status = r; scratch = left } ≡ audit borrowed half source scratch) where
+    (p : record { status = r; scratch = left } ≡ audit-by true half source scratch) where
   abbrev done : List ℕ
   done = rebuilt-bytes half source (pages-in half target)
 
@@ -43,12 +44,12 @@ module _ (half : ℕ) (source target scratch : List ℕ) {r : ℕ} {left : List 
   rows =
       (16, not (length-ok half source))
       ∷ (17, not (scratch-ok borrowed (pages-in half source) scratch))
-      ∷ (21, not (sound half source))
+      ∷ (21, not (sound-before half source))
       ∷ []
 
   by-audit : behind (record { status = r; scratch = left }) (length-ok half target) small done target
       ≡ rebuild borrowed half source target scratch
-  unfolding behind rebuild rebuild-status audit audit-input-rows
+  unfolding behind rebuild rebuild-status audit-by rule-of audit-input-rows
   by-audit =
       ap (λ a. behind a (length-ok half target) small done target) p
       ∙ (λ j.
@@ -70,8 +71,8 @@ module _ (half : ℕ) (source target scratch : List ℕ) {r : ℕ} {left : List 
       ∙ by-audit
 
   module _ (z : r ≡ 0) where
-    pub audited-sound : sound half source ≡ true
-    unfolding audit audit-input-rows
+    pub audited-sound : sound-before half source ≡ true
+    unfolding audit-by rule-of audit-input-rows
     audited-sound =
         let all : first rows ≡ 0 = sym (ap (λ (a : Audited). a .status) p) ∙ z in
         let behind-16 = first-none 16 _ _ (omega arith) all .1 in

@@ -1,6 +1,6 @@
 -- The entry that has an instant: it stands in its page, and it is the last that starts at the instant or before. Assumes nothing.
 use Prim.Native.Nat.{ℕ, zero, suc, _+_, _≤_, _<_, min}
-use mathlib.Core.Path.{_≡_, refl, ap, _∙_}
+use mathlib.Core.Path.{_≡_, refl, sym, ap, _∙_}
 use mathlib.Core.Bool.{Bool, true, false, cond}
 use mathlib.Core.List.{List, [], _∷_, _++_}
 use native.Mathlib.Decide.{decLt}
@@ -10,9 +10,9 @@ use lib.ListN.{length}
 use borrow.Author.Tests.{leb-true, leb-false, le-leb, lt-leb}
 use Rattle.lists.specs.Lists.{listed}
 use Rattle.lists.proofs.Choices.{cond-one, either}
-use Rattle.lists.proofs.Listed.{length-listed}
+use Rattle.lists.proofs.Listed.{length-listed, listed-getD}
 use Rattle.page.specs.declared.Entry.{Entry}
-use Rattle.page.specs.Entries.{last-from, index-of}
+use Rattle.page.specs.Entries.{no-entry, at, last-from, index-of}
 use Rattle.page.specs.Layout.{capacity, entry-count, start-at, entry-at, entries-of}
 
 last-in : (t i found n : ℕ) (es : List Entry) → found < n → i + length es ≤ n → last-from t i found es < n
@@ -73,6 +73,20 @@ module _ (t : ℕ) (f : ℕ → Entry) where
           let e : n ≡ k = omega arith in
           let g : f n .start ≤ t = rw e h in
           rw (le-leb (f n .start) t g) e
+
+-- ---- of any list
+
+module _ (t : ℕ) (es : List Entry) where
+  index-listed : index-of t es ≡ index-of t (listed (length es) (at es))
+  index-listed = ap (index-of t) (sym (listed-getD es no-entry))
+
+  -- the entry behind the one found starts after t
+  pub index-later : suc (index-of t es) < length es → t < at es (suc (index-of t es)) .start
+  index-later l = rw index-listed (found-next t (at es) (length es) (rw index-listed at l))
+
+  -- an entry that starts at t or before, and every later one after t, is the one found
+  pub index-at : (k : ℕ) → k < length es → at es k .start ≤ t → ((i : ℕ) → k < i → i < length es → t < at es i .start) → index-of t es ≡ k
+  index-at k l h later = index-listed ∙ found-is t (at es) (length es) k l h later
 
 -- ---- of a page
 

@@ -10,7 +10,7 @@ use Rattle.rule.specs.declared.Pair.{Pair}
 use Rattle.rule.specs.Time.{END}
 use Rattle.page.specs.declared.Head.{Head}
 use Rattle.image.specs.Images.{pages-in, length-ok, image-bytes}
-use Rattle.image.specs.Sound.{sound}
+use Rattle.image.specs.Sound.{sound-before}
 use Rattle.image.specs.Instant.{look-up}
 use Rattle.tight.specs.Tight.{pages-used, tight, too-small}
 use Rattle.access.specs.declared.HeadCheck.the-variants.{Unfit}
@@ -22,7 +22,7 @@ use Rattle.answers.proofs.Sound.{sound-head, sound-walk}
 use Rattle.answers.proofs.Full.{full-is}
 use Rattle.rebuild.specs.Rebuild.{Rebuildable, Fills}
 
-module _ (half : ℕ) (source : List ℕ) (fits : sound half source ≡ true) where
+module _ (half : ℕ) (source : List ℕ) (fits : sound-before half source ≡ true) where
   -- the test of the head doesn't turn it back
   pub not-shut : Unfit ≡ head-check half source → ⊥
   not-shut e = false≢true (sym (shut half source e) ∙ unfold head-ok in sound-head half source fits)

@@ -1,7 +1,7 @@
 -- What bounds the pairs on every path: cut and heal keep it, combining adds the effect's measure. Over any measure that is bounded by
 -- sums. Assumes nothing.
 use Prim.Native.Nat.{ℕ, zero, suc, _+_, _-_, _≤_}
-use mathlib.Core.Bool.{Bool, true, false, cond}
+use mathlib.Core.Bool.{Bool, true, false, cond, _||_}
 use mathlib.Core.List.{List, [], _∷_}
 use native.Mathlib.Omega.{arith}
 use lib.Dec.{eqb, leb, ltb}
@@ -15,13 +15,13 @@ use Rattle.rule.specs.Time.{END, overlaps}
 use Rattle.page.specs.declared.Entry.{Entry}
 use Rattle.page.specs.Entries.{entry, at, index-of}
 use Rattle.steps.specs.Combine.{inside, next-start, took}
-use Rattle.steps.specs.Heal.{heals, sibling, left-of}
+use Rattle.steps.specs.Heal.{heals, carried, sibling, left-of}
 use Rattle.tree.specs.Tree.{Node, Subtree, Nodes, no-node, flat, Tree}
 use Rattle.tree.specs.Supply.{Supply}
 use Rattle.tree.specs.Cut.{cut-leaf, not-split, split, cut-node, State, root-node, grow-if-split, cut}
 use Rattle.tree.specs.Combine.{with-ends, combine-node, combine-nodes, combine-span}
 use Rattle.tree.specs.Heal.{Healing, push-nodes, pushed, joint, emptied, redistribute, merge, rebalance, heal-nodes}
-use Rattle.tree.specs.Heal.{collapse-if-single, heal}
+use Rattle.tree.specs.Heal.{joins-edge, collapse-if-single, heal}
 use Rattle.tree.specs.Conserved.{Norm-laws, Path-bounded}
 use Rattle.tree.proofs.Conservation.Cut.{inner-nodes, cut-case}
 
@@ -195,19 +195,19 @@ module _ {_⊕_ : Pair → Pair → Pair} {norm : Pair → ℕ} {Each : Pair →
         (all-splice j (all-more (emptied-within l above (x .entry .start) x h all) all-none) (all-splice (suc j) all-none a))
         (ltb half n)
 
-    pub nodes-within : (t l above : ℕ) (es : Nodes l) (S : Supply) → above ≤ most → Ways norm Each most l above es
-        → Ways norm Each most l above (heal-nodes half _⊕_ t l es S .nodes)
-    unfolding heal-nodes Path-bounded
-    nodes-within t zero above es S h a =
+    pub nodes-within : (edge : Bool) (t l above : ℕ) (es : Nodes l) (S : Supply) → above ≤ most → Ways norm Each most l above es
+        → Ways norm Each most l above (heal-nodes half _⊕_ edge t l es S .nodes)
+    unfolding heal-nodes carried Path-bounded
+    nodes-within edge t zero above es S h a =
         let i = index-of t (flat es) in
-        either (Ways norm Each most 0 above) (all-splice i all-none a) a (heals t (flat es) i)
-    nodes-within t (suc l) above es S h a =
+        either (Ways norm Each most 0 above) (all-splice i all-none a) a (edge || heals t (flat es) i)
+    nodes-within edge t (suc l) above es S h a =
         let i = index-of t (flat es) in
         let x = getD es i (no-node (suc l)) in
         let q = all-getD i a (none-within (suc l) above h) in
-        let r = heal-nodes half _⊕_ t l (x .subtree) S in
+        let r = heal-nodes half _⊕_ edge t l (x .subtree) S in
         let b = all-splice i
-        (all-more (q .0, q .1, nodes-within t l (above + norm (x .entry .pair)) (x .subtree) S (q .1) (q .2)) all-none) a in
+        (all-more (q .0, q .1, nodes-within edge t l (above + norm (x .entry .pair)) (x .subtree) S (q .1) (q .2)) all-none) a in
         either (λ (H : Healing (Subtree (suc l))). Ways norm Each most (suc l) above (H .nodes))
         (rebalance-within l above i _ (r .supply) h b)
         b
@@ -223,8 +223,9 @@ module _ {_⊕_ : Pair → Pair → Pair} {norm : Pair → ℕ} {Each : Pair →
         a
         (eqb (length es) 1)
 
-    pub heal-within : (t : ℕ) (Y : State) → Within-tree norm Each most (Y .tree) → Within-tree norm Each most (heal half _⊕_ t Y .tree)
+    pub heal-within : (totals : Bool) (t : ℕ) (Y : State) → Within-tree norm Each most (Y .tree)
+        → Within-tree norm Each most (heal half _⊕_ totals t Y .tree)
     unfolding heal
-    heal-within t Y a =
+    heal-within totals t Y a =
         collapsed-within (Y .tree .level) (Y .tree .root) _ _
-        (nodes-within t (Y .tree .level) 0 (Y .tree .nodes) (Y .supply) (omega arith) a)
+        (nodes-within (joins-edge _⊕_ totals t (Y .tree)) t (Y .tree .level) 0 (Y .tree .nodes) (Y .supply) (omega arith) a)

@@ -11,6 +11,7 @@ use Rattle.page.specs.Layout.{head-of}
 use Rattle.page.proofs.Laws.Offsets.{page-within}
 use Rattle.image.specs.Images.{pages-in}
 use Rattle.image.specs.Sound.{sound}
+use Rattle.soundness.proofs.Sound.{sound-old}
 use Rattle.calls.specs.Calls.{head}
 use Rattle.access.specs.Access.{Page-in}
 use Rattle.image.proofs.Sizes.{sized}
@@ -95,7 +96,7 @@ lacks-pages-requires c κs =
       record {
         half-least = start .pre .0 .0;
         half-most = start .pre .0 .1;
-        sound = passed (head .before .before);
+        sound = sound-old _ _ (passed (head .before .before));
         shown = read head;
       },
       later c,

@@ -1,5 +1,6 @@
 -- `heal::leaf::heal_leaf` meets its contract: the leaf loses the entry, or is not written. Assumes nothing.
-use mathlib.Core.Path.{_≡_, sym, _∙_, subst}
+use mathlib.Core.Path.{_≡_, sym, ap, _∙_, subst}
+use mathlib.Core.Bool.{_||_}
 use borrow.Author.Needs.{needs}
 use Rattle.image.specs.Images.{Image}
 use Rattle.steps.specs.Supply.{entries}
@@ -40,15 +41,15 @@ returns c X h s kind =
     let goes = removed .before .before in
     let at = goes .before .before .before in
     let e = read at X h s in
-    let test = sym (goes .before .heals .ensures X h 0 e) ∙ goes .if1 .taken in
-    subst (Encodes _ _) (leaf-healed (start at .args .hi) (start at .args .t) (start at .args .p) X (found at X h s) _ kind test)
+    let test = ap (λ b. start at .args .edge || b) (sym (goes .before .heals .ensures X h 0 e)) ∙ goes .if1 .taken in
+    subst (Encodes _ _) (leaf-healed (start at .args .hi) (start at .args .t) (start at .args .p) X (found at X h s) _ kind _ test)
     (removed .remove-entry .ensures X h 0 (e .has))
 
 returns-2 : tie.Need-returns-2
 returns-2 c X h s kind =
     let at = c .before .before .before in
-    let test = sym (c .before .heals .ensures X h 0 (read at X h s)) ∙ c .if1 .left in
-    subst (Encodes _ _) (leaf-kept (start at .args .hi) (start at .args .t) (start at .args .p) X (found at X h s) _ kind test) h
+    let test = ap (λ b. start at .args .edge || b) (sym (c .before .heals .ensures X h 0 (read at X h s))) ∙ c .if1 .left in
+    subst (Encodes _ _) (leaf-kept (start at .args .hi) (start at .args .t) (start at .args .p) X (found at X h s) _ kind _ test) h
 
 pub heal-leaf-spec : {M : Type 1} → statement M
 heal-leaf-spec =

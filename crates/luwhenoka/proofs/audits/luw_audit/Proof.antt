@@ -4,18 +4,19 @@ use borrow.Author.Needs.{needs}
 use Rattle.calls.specs.Refusals.{borrowed}
 use Rattle.calls.specs.Calls.{audit}
 use Rattle.calls.specs.Index.{index-audit}
+use Rattle.luwhenoka.specs.Answers.{rule-of, audit-by}
 use Rattle.luwhenoka.proofs.Laws.Judged.{half-ranged, by-half, by-refusal}
 use Rattle.luwhenoka.proofs.audits.luw_audit.Statement.{statement}
 use Rattle.luwhenoka.proofs.audits.luw_audit.Tie as tie
 
 returns : tie.Need-returns
-unfolding index-audit
+unfolding index-audit audit-by rule-of audit
 returns c =
     let did = c .before .before in
     let told = did .before .before .before in
     let judged = told .before .before in
     let args = judged .before .before .before .args in
-    did .audit .ensures
+    did .audit-by .ensures
     ∙ by-half (args .img .now) (sym (told .half .given .1) ∙ judged .judge .ensures) _
     (λ half. audit borrowed half (args .img .now) (args .scratch .now))
 

@@ -10,10 +10,10 @@ use Rattle.luwhenoka.proofs.rebuilds.rebuild.Statement.{statement}
 use Rattle.luwhenoka.proofs.rebuilds.rebuild.Tie as tie
 
 -- where the source had been audited, and the call's own start
-abbrev audited : tie.After-slice-known3 → tie.After-audit
+abbrev audited : tie.After-slice-known3 → tie.After-audit-by
 audited c = c .before .before
 
-abbrev began : tie.After-audit → tie.Start
+abbrev began : tie.After-audit-by → tie.Start
 began c = c .before .before .before .before .before
 
 -- and from where the target's length had been judged
@@ -21,12 +21,12 @@ abbrev passed : tie.After-length-fits → tie.Else1
 passed c = c .before .before
 
 returns : tie.Need-returns
-returns c = rebuild-refused _ _ _ _ (audited (c .before) .audit .ensures) (c .if1 .taken)
+returns c = rebuild-refused _ _ _ _ (audited (c .before) .audit-by .ensures) (c .if1 .taken)
 
 returns-2 : tie.Need-returns-2
 returns-2 c =
     let at = passed (c .before) in
-    rebuild-16 _ _ _ _ (audited (at .before) .audit .ensures) (at .if1 .left)
+    rebuild-16 _ _ _ _ (audited (at .before) .audit-by .ensures) (at .if1 .left)
     (sym (c .before .length-fits .ensures) ∙ not-true _ (c .if2 .taken))
 
 whole : (c : tie.Else2)
@@ -41,7 +41,7 @@ fill-target-requires c κs =
     let pre = began (audited (at .before)) .pre in (
       (pre .0, pre .1),
       (
-        audited-sound _ _ (began (audited (at .before)) .args .target .now) _ (audited (at .before) .audit .ensures) (at .if1 .left),
+        audited-sound _ _ (began (audited (at .before)) .args .target .now) _ (audited (at .before) .audit-by .ensures) (at .if1 .left),
         whole test,
       ),
     )
@@ -51,14 +51,14 @@ returns-3 c =
     let filled = c .before .before .before in
     let test = filled .before .before in
     let at = passed (test .before) in
-    rebuild-filled _ _ _ _ (audited (at .before) .audit .ensures) (at .if1 .left) (whole test) (filled .fill-target .ensures) (c .if3 .taken)
+    rebuild-filled _ _ _ _ (audited (at .before) .audit-by .ensures) (at .if1 .left) (whole test) (filled .fill-target .ensures) (c .if3 .taken)
 
 returns-4 : tie.Need-returns-4
 returns-4 c =
     let filled = c .before .before .before in
     let test = filled .before .before in
     let at = passed (test .before) in
-    rebuild-filled _ _ _ _ (audited (at .before) .audit .ensures) (at .if1 .left) (whole test) (filled .fill-target .ensures) (c .if3 .left)
+    rebuild-filled _ _ _ _ (audited (at .before) .audit-by .ensures) (at .if1 .left) (whole test) (filled .fill-target .ensures) (c .if3 .left)
 
 pub rebuild-spec : {M : Type 1} → statement M
 rebuild-spec =

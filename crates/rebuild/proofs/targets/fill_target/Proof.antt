@@ -6,7 +6,7 @@ use native.Mathlib.Omega.{arith}
 use lib.ListN.{length}
 use borrow.Author.Needs.{needs}
 use Rattle.image.specs.Images.{pages-in}
-use Rattle.image.specs.Sound.{sound}
+use Rattle.image.specs.Sound.{sound-before}
 use Rattle.soundness.proofs.Sound.{sound-whole}
 use Rattle.tight.specs.Tight.{pages-used}
 use Rattle.access.specs.Access.{Open-image}
@@ -26,7 +26,7 @@ began c = c .before .before .before
 abbrev read : tie.After-known-told → tie.After-open-head
 read c = c .before .before .before
 
-fits : (c : tie.After-open-head) → sound (began c .args .half) (began c .args .source .now) ≡ true
+fits : (c : tie.After-open-head) → sound-before (began c .args .half) (began c .args .source .now) ≡ true
 fits c = began c .pre .1 .0
 
 headed : (c : tie.After-known-told)
