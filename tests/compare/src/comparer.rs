@@ -232,6 +232,7 @@ impl Comparer {
         let recorded = recorded?;
         let change = Change { before, after, recorded: &recorded };
         self.tally.capacities.add_change(&change);
+        self.tally.edges.add(&change);
         self.tally.steps.add(&change)
     }
 

@@ -183,6 +183,52 @@ pub fn instant_of(image: &[u8], page: usize, random: &mut Random) -> u32 {
     u32_at(image, page, start_at(i))
 }
 
+// ---------------------------------------------------------------- neighbours
+
+/// A leaf entry: its start, its total, and where it is first in its leaf the level of the page whose entry separates that leaf from the
+/// one before; 0 for the others, and for the first of all.
+#[derive(Clone, Copy, PartialEq, Eq, Debug)]
+pub struct Neighbour {
+    pub start: u32,
+    pub total: Pair,
+    pub separator: u32,
+}
+
+/// The leaf entries of an image whose tree is fit, in their order.
+pub fn neighbours(image: &[u8]) -> Vec<Neighbour> {
+    let mut found = Vec::new();
+    collect_neighbours(image, head(image, ROOT) as usize, Pair { sum: 0, count: 0 }, 0, &mut found);
+    found
+}
+
+fn collect_neighbours(image: &[u8], page: usize, above: Pair, separator: u32, found: &mut Vec<Neighbour>) {
+    for (i, start) in starts_of(image, page).into_iter().enumerate() {
+        let total = combine(head(image, KIND), above, pair_at(image, page, i));
+        if level(image, page) == 0 {
+            found.push(Neighbour { start, total, separator: if i == 0 { separator } else { 0 } });
+            continue;
+        }
+        let child = u32_at(image, page, child_at(capacity(image), i)) as usize;
+        collect_neighbours(image, child, total, if i == 0 { separator } else { level(image, page) }, found);
+    }
+}
+
+/// The later of two neighbouring leaf entries with equal totals: each breaks document 02's (iv) where the kind is 1.
+pub fn equal_neighbours(image: &[u8]) -> Vec<Neighbour> {
+    neighbours(image).windows(2).filter(|two| two[0].total == two[1].total).map(|two| two[1]).collect()
+}
+
+/// Gives the leaf entry that starts at t another own pair, so that its total becomes this one; for kind 1.
+pub fn set_total(image: &mut [u8], t: u32, total: Pair) {
+    let is = pair_on_way(image, t);
+    let way = way(image, t);
+    let Place { page, i, .. } = way[way.len() - 1];
+    let own = pair_at(image, page, i);
+    let k = capacity(image);
+    put(image, page, sum_at(k, i), &(own.sum + total.sum - is.sum).to_le_bytes());
+    put(image, page, count_at(k, i), &(own.count + total.count - is.count).to_le_bytes());
+}
+
 // ---------------------------------------------------------------- making images
 
 /// Document 01's cases keep K = 24.

@@ -9,6 +9,7 @@ mod asking;
 mod calls;
 mod capacities;
 mod comparer;
+mod edges;
 mod groups;
 mod guarded;
 mod halves;

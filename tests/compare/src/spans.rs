@@ -9,7 +9,7 @@ const SORTS: [&str; 4] = ["in the leaf", "in its parent", "further up", "END"];
 const MOST_ABOVE: usize = 9;
 
 /// What a booking inside an entry, and its withdrawal, do: each has to occur at every K.
-const BOOKED: [&str; 2] = ["cut in three and healed to one", "cut in three in a page that split"];
+const BOOKED: [&str; 2] = ["cut in three and healed to one", "the same in a page that split"];
 
 #[derive(Clone, Default)]
 pub struct Spans {

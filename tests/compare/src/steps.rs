@@ -4,7 +4,8 @@
 use plain::RecordedChange;
 
 use crate::images::{
-    head, level, page_bytes, pages_of, u32_at, CAPACITY, ENTRY_COUNT_AT, FREE_LENGTH, HEIGHT, HIGH_MARK, KIND,
+    equal_neighbours, head, level, page_bytes, pages_of, u32_at, CAPACITY, ENTRY_COUNT_AT, FREE_LENGTH, HEIGHT,
+    HIGH_MARK, KIND,
 };
 
 /// What the steps of a change do: each has to occur for every kind.
@@ -93,7 +94,15 @@ impl Change<'_> {
             ("high mark", at_mark, self.rise(HIGH_MARK)),
         ];
         let differs = rises.iter().find(|(_, recorded, is)| recorded != is);
-        differs.map(|(what, recorded, is)| format!("{what}: rises by {is}, by the steps it would be {recorded}"))
+        differs
+            .map(|(what, recorded, is)| format!("{what}: rises by {is}, by the steps it would be {recorded}"))
+            .or_else(|| self.equal_neighbour())
+    }
+
+    /// Document 02, (iv): in the image that a change of kind 1 leaves "no two neighbouring leaf entries have equal totals".
+    fn equal_neighbour(&self) -> Option<String> {
+        let equal = if head(self.after, KIND) == 1 { equal_neighbours(self.after) } else { Vec::new() };
+        equal.first().map(|later| format!("neighbours: the total before {} is the same as behind it", later.start))
     }
 
     fn rise(&self, field: usize) -> i64 {

@@ -2,6 +2,7 @@
 
 use crate::calls::{Answer, Call, NAMES};
 use crate::capacities::Capacities;
+use crate::edges::Edges;
 use crate::halves::Halves;
 use crate::places::Places;
 use crate::rebuilds::Rebuilds;
@@ -28,6 +29,7 @@ pub struct Tally {
     averages: [u64; 3],
     halves: Halves,
     pub capacities: Capacities,
+    pub edges: Edges,
     places: Places,
     pub rebuilds: Rebuilds,
     pub scratches: Scratches,
@@ -46,6 +48,7 @@ impl Default for Tally {
             averages: [0; 3],
             halves: Halves::default(),
             capacities: Capacities::default(),
+            edges: Edges::default(),
             places: Places::default(),
             rebuilds: Rebuilds::default(),
             scratches: Scratches::default(),
@@ -85,6 +88,7 @@ impl Tally {
         add(&mut self.averages, &other.averages);
         self.halves.add_all(&other.halves);
         self.capacities.add_all(&other.capacities);
+        self.edges.add_all(&other.edges);
         self.places.add_all(&other.places);
         self.rebuilds.add_all(&other.rebuilds);
         self.scratches.add_all(&other.scratches);
@@ -118,6 +122,7 @@ impl Tally {
         self.scratches.print();
         self.steps.print();
         self.capacities.print();
+        self.edges.print();
         self.rebuilds.print();
     }
 
@@ -142,6 +147,7 @@ impl Tally {
         lacking.extend(self.halves.lacking());
         lacking.extend(self.steps.lacking());
         lacking.extend(self.capacities.lacking());
+        lacking.extend(self.edges.lacking());
         lacking.extend(self.scratches.lacking());
         lacking.extend(self.places.lacking());
         lacking.extend(self.rebuilds.lacking());

@@ -16,7 +16,7 @@ use crate::fit::{child_place, fit_head, fit_page, root_place, Place};
 use crate::page::{
     number_of_pages, read_capacity, read_head, write_head, write_page, Entry, Head, Page, HEAD_BYTES, UNUSED,
 };
-use crate::sound::is_sound;
+use crate::sound::{is_sound, is_sound_by_the_old_rule};
 use crate::steps::{five_steps, Effect, StepRecord};
 use crate::value::{
     average_of, combine, kind_in_range, lengthened_end, value_in_range, window_in_range, Average, Pair, Span, END,
@@ -39,7 +39,7 @@ pub const BAD_LENGTH: u32 = 16;
 /// "scratch shorter than n bytes"; by document 02 "17 now means shorter than" [`scratch_bytes`] of n
 pub const SHORT_SCRATCH: u32 = 17;
 /// "instant, listing: a page it meets is unfit; audit, change: image not sound"; by document 02 also "a bad K", and of a rebuild "21 (not
-/// sound) of the source"
+/// sound) of the source". By (iv) of "Older images" with two equal neighbours: they "get 21 on change and pass through the rebuild"
 pub const UNFIT: u32 = 21;
 /// "withdrawal, kind 2 or 3"
 pub const NO_WITHDRAWAL: u32 = 22;
@@ -384,7 +384,7 @@ pub fn audit(image: &[u8], scratch: &mut [u8]) -> u32 {
 /// sound) of the source first, then 16 of the target (scratch 0), 24 if n is too small."
 ///
 /// By (xi) the source is judged by its K like every image; by (vi) the scratch is as long as the source's n asks. The judging and 17 leave
-/// the scratch untouched.
+/// the scratch untouched. By (iv) older images "pass through the rebuild, which reads them by the old rule".
 pub fn rebuild(source: &[u8], target: &mut [u8], scratch: &mut [u8]) -> u32 {
     let n = match judge(source) {
         Ok(n) => n,
@@ -394,7 +394,7 @@ pub fn rebuild(source: &[u8], target: &mut [u8], scratch: &mut [u8]) -> u32 {
         return SHORT_SCRATCH;
     }
     scratch[..scratch_bytes(n)].fill(0);
-    if !is_sound(source) {
+    if !is_sound_by_the_old_rule(source) {
         return UNFIT;
     }
     rebuild_into(target, source)
@@ -405,7 +405,8 @@ pub fn rebuild(source: &[u8], target: &mut [u8], scratch: &mut [u8]) -> u32 {
 fn rebuild_into(target: &mut [u8], sound_source: &[u8]) -> u32 {
     let head = read_head(sound_source);
     let Some(n) = number_of_pages(target.len(), head.capacity()) else { return BAD_LENGTH };
-    let pages = tree_pages(&full_listing(sound_source), head.capacity());
+    let runs = full_listing(sound_source).expect("every page of a sound image is fit");
+    let pages = tree_pages(&runs, head.capacity());
     if 1 + pages.len() > n as usize {
         return PAGES_LACK;
     }
@@ -413,7 +414,7 @@ fn rebuild_into(target: &mut [u8], sound_source: &[u8]) -> u32 {
     ACCEPTED
 }
 
-/// "The full listing is that over [0, END)."
-fn full_listing(sound: &[u8]) -> Vec<Run> {
-    runs_over(sound, Span { start: 0, end: END }).expect("every page of a sound image is fit")
+/// "The full listing is that over [0, END)." None where a page is unfit.
+pub(crate) fn full_listing(image: &[u8]) -> Option<Vec<Run>> {
+    runs_over(image, Span { start: 0, end: END })
 }

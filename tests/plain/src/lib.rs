@@ -1,6 +1,6 @@
-//! The plain version of document 01, the Lent-Block Time Index, with six requests of document 02: (ii), search from the late end,
-//! which changes no answer, (iii), the rebuild into a clean image, (vi), a bit of scratch for a page, (viii), the start and end of an
-//! instant's leaf entry, (ix), averages that round to even, and (xi), pages of any capacity.
+//! The plain version of document 01, the Lent-Block Time Index, with seven requests of document 02: (ii), search from the late end,
+//! which changes no answer, (iii), the rebuild into a clean image, (iv), edges between pages that join, (vi), a bit of scratch for a page,
+//! (viii), the start and end of an instant's leaf entry, (ix), averages that round to even, and (xi), pages of any capacity.
 //!
 //! Written from the papers alone and plain before fast: this is what the proved library is compared with, byte for byte.
 //! Each function carries the sentence of document 01 or 02 that it follows, in quotation marks. `R1` to `R27` are the

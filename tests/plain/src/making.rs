@@ -6,8 +6,8 @@
 
 use crate::calls::lay_fresh;
 use crate::capacity::{Capacity, NO_FIELD, OF_DOCUMENT_01};
-use crate::page::{write_free_page, write_head, write_page, Entry, Head, Page, UNUSED};
-use crate::value::{Pair, Span, END};
+use crate::page::{read_page, write_free_page, write_head, write_page, Entry, Head, Page, UNUSED};
+use crate::value::{combine, Pair, Span, END, NOTHING, TOTALS};
 
 /// "an image of 512-byte pages without the field (FF there)": what document 01's format leaves.
 pub fn fresh_without_field(n: u32, kind: u32, window: u32) -> Vec<u8> {
@@ -62,8 +62,37 @@ pub trait Choice {
 // ---------------------------------------------------------------- sound images
 
 /// A sound image of this height whose leaf entries start `apart` from each other, with so many free pages in its chain; none
-/// where n is too small. Pages are numbered as they are come to, each ahead of those below it.
+/// where n is too small. Pages are numbered as they are come to, each ahead of those below it. For kind 1, where two neighbouring
+/// leaf entries would have equal totals, the later one's sum is moved by one.
 pub fn tree(wanted: &Wanted, apart: u32, chained: u32, choice: &mut dyn Choice) -> Option<Vec<u8>> {
+    let mut image = older_tree(wanted, apart, chained, choice)?;
+    if wanted.kind == TOTALS {
+        part_neighbours(&mut image, wanted.capacity, 1, NOTHING, &mut None);
+    }
+    Some(image)
+}
+
+/// Document 02, (iv): "a kind 1 image is sound only if no two neighbouring leaf entries have equal totals". From a page on, all leaf
+/// entries in their order; `above` is what the entries above add to, `before` the total of the leaf entry that came last. A sum is moved
+/// towards 0, or from 0 to 1, so that the bounds by changes hold as before unless they leave no room at all.
+fn part_neighbours(image: &mut [u8], capacity: Capacity, page: u32, above: Pair, before: &mut Option<Pair>) {
+    let mut contents = read_page(image, capacity, page).expect("it has just been laid");
+    let is_leaf = contents.is_leaf();
+    for entry in &mut contents.entries {
+        if !is_leaf {
+            part_neighbours(image, capacity, entry.child, combine(TOTALS, above, entry.pair), before);
+            continue;
+        }
+        if *before == Some(combine(TOTALS, above, entry.pair)) {
+            entry.pair.sum += if entry.pair.sum > 0 { -1 } else { 1 };
+        }
+        *before = Some(combine(TOTALS, above, entry.pair));
+    }
+    write_page(image, capacity, page, &contents);
+}
+
+/// The same with all pairs as they are chosen: sound by the old rule, and for kind 1 maybe not by (iv)'s.
+pub fn older_tree(wanted: &Wanted, apart: u32, chained: u32, choice: &mut dyn Choice) -> Option<Vec<u8>> {
     let mut pages = Vec::new();
     let mut start = 0;
     lay_below(wanted, wanted.height - 1, apart, &mut start, &mut pages, choice)?;
@@ -108,7 +137,7 @@ fn lay_below(
 
 /// An image of this height with one page for each level, fit at its place on one way, and the span of that way's leaf. Every
 /// other inner entry leads to the same page, which isn't fit there: such an image of two levels or more is sound at no K, and
-/// each instant outside the span meets an unfit page.
+/// each instant outside the span meets an unfit page. One of a single level is sound, for kind 1 by the same moving of sums as in [`tree`].
 pub fn one_way(wanted: &Wanted, choice: &mut dyn Choice) -> (Vec<u8>, Span) {
     assert!(wanted.n > wanted.height);
     let mut image = wanted.with_head(wanted.height + 1, 0);
@@ -125,6 +154,9 @@ pub fn one_way(wanted: &Wanted, choice: &mut dyn Choice) -> (Vec<u8>, Span) {
         if level > 0 {
             span = Span { start: span.start + chosen, end: span.end - behind };
         }
+    }
+    if wanted.kind == TOTALS {
+        part_neighbours(&mut image, wanted.capacity, wanted.height, NOTHING, &mut None);
     }
     (image, span)
 }

@@ -3,6 +3,9 @@
 //!
 //! "A. Cut at s. B. Cut at e′. C. Combine the effect into [s, e′). D. Heal at s. E. Heal at e′. Then changes rises by 1."
 //!
+//! Document 02, (iv), of heal: "For kind 1, heal at t shall also remove an entry that is first in its page when the totals on both sides
+//! are equal".
+//!
 //! The steps run on a sound image. Beside the new image each of them gives a [`StepRecord`]: the pages that document 01's
 //! sentence on what a step may write names, and how often it split, merged and so on.
 
@@ -10,7 +13,7 @@ use std::collections::BTreeSet;
 
 use crate::capacity::Capacity;
 use crate::page::{read_free_page, read_head, read_page, write_free_page, write_head, write_page, Entry, Head, Page};
-use crate::value::{combine, Pair, Span, END, NOTHING};
+use crate::value::{combine, Pair, Span, END, NOTHING, TOTALS};
 
 /// What a change brings: its pair, into its span [s, e′).
 #[derive(Clone, Copy, PartialEq, Eq, Debug)]
@@ -52,6 +55,9 @@ pub struct StepRecord {
     pub given_back: Vec<u32>,
     pub entries_cut: u32,
     pub entries_healed: u32,
+    /// Where the entry that went was first in its page: the level of the page whose entry "separates the two pages", from 1 on. Its
+    /// start and those of all entries below it on the way were carried. Else 0.
+    pub edge_level: u32,
     pub splits: u32,
     pub gives_from_left: u32,
     pub gives_from_right: u32,
@@ -63,7 +69,9 @@ pub struct StepRecord {
 
 impl StepRecord {
     /// "Each step may write only the head, pages on the way to its instant (C: to s and e′), the neighbour each turns
-    /// to, and pages taken or given back."
+    /// to, and pages taken or given back." Document 02, (iv), would let heal write pages on the way to t−1 too: "Each page written is the
+    /// head, lies on the way to t or to t−1, is a neighbour turned to or is given back." None is named here: all the starts that are
+    /// carried stand on the way to t.
     pub fn named_pages(&self) -> BTreeSet<u32> {
         let mut named = BTreeSet::from([0]);
         named.extend(self.ways.iter().flatten());
@@ -276,7 +284,9 @@ impl Work<'_> {
     // ------------------------------------------------------------ heal
 
     /// "Heal at t: only if t starts a leaf entry that isn't first in its page, with the same pair as the one before; it
-    /// goes." The two entries' own pairs are compared, and END starts no entry (R20).
+    /// goes." The two entries' own pairs are compared, and END starts no entry (R20). Document 02, (iv): "For kind 1, heal at t shall
+    /// also remove an entry that is first in its page when the totals on both sides are equal: the entry goes, and the new first start
+    /// is carried up". The entry before keeps its pair, and the pair of the one that goes is dropped.
     fn heal(&mut self, t: u32) {
         if t == END {
             return;
@@ -285,13 +295,55 @@ impl Work<'_> {
         let leaf_page = way[way.len() - 1];
         let mut leaf = self.page(leaf_page);
         let i = leaf.entry_at(t);
-        if leaf.entries[i].start != t || i == 0 || leaf.entries[i].pair != leaf.entries[i - 1].pair {
+        if leaf.entries[i].start != t {
+            return;
+        }
+        let is_first = i == 0;
+        let goes = if is_first { self.edge_joins(t) } else { leaf.entries[i].pair == leaf.entries[i - 1].pair };
+        if !goes {
             return;
         }
         leaf.entries.remove(i);
         self.write(leaf_page, &leaf);
         self.record.entries_healed += 1;
+        if is_first {
+            self.carry_up(&way, leaf.entries[0].start);
+        }
         self.after_losing_an_entry(&way);
+    }
+
+    /// Document 02, (iv): whether "the totals on both sides are equal" of the edge between two pages at t: those at t−1 and at t, sum
+    /// and count. Nothing stands before 0.
+    fn edge_joins(&self, t: u32) -> bool {
+        self.kind == TOTALS && t > 0 && self.total_at(t - 1) == self.total_at(t)
+    }
+
+    /// "An instant's answer combines the pairs on its way from root to leaf."
+    fn total_at(&self, t: u32) -> Pair {
+        let mut total = NOTHING;
+        for page in way_to(self.image, t) {
+            let page = self.page(page);
+            total = combine(self.kind, total, page.entries[page.entry_at(t)].pair);
+        }
+        total
+    }
+
+    /// Document 02, (iv): "the new first start is carried up to the parent entry that separates the two pages". Of the pages above the
+    /// leaf, each entry on the way starts where the one below it does as long as it is first in its page; the first one that isn't
+    /// separates the pages, and is the last to follow.
+    fn carry_up(&mut self, way: &[u32], new_start: u32) {
+        for above in (1..way.len()).rev() {
+            let (parent_page, child) = (way[above - 1], way[above]);
+            let mut parent = self.page(parent_page);
+            let i = parent.entry_of_child(child);
+            parent.entries[i].start = new_start;
+            self.write(parent_page, &parent);
+            if i > 0 {
+                self.record.edge_level = parent.level;
+                return;
+            }
+        }
+        unreachable!("an entry that starts above 0 isn't first in every page on its way");
     }
 
     /// What becomes of the last page of a way when an entry of it has gone.

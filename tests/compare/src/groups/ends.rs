@@ -64,7 +64,7 @@ fn every_call(comparer: &mut Comparer, image: &[u8], most: usize) {
     asked(comparer, &chosen);
     booked(comparer, &image, &chosen);
     damaged(comparer, &image, &entries);
-    // All pairs alike: one run, and still each entry has its own start and end.
+    // All pairs alike: one run, and still each entry has its own start and end, though for kind 1 such an image is not sound.
     alike(&mut image);
     comparer.lend(&image);
     assert_eq!(comparer.listing(0, END).runs, 1, "one run");
@@ -103,8 +103,8 @@ fn asked(comparer: &mut Comparer, entries: &[LeafEntry]) {
     }
 }
 
-/// A booking inside an entry of kind 1 makes three of it. Its withdrawal makes them one again, unless a page was split for them: an entry
-/// that is first in its page stays.
+/// A booking inside an entry of kind 1 makes three of it. Its withdrawal makes them one again, also where a page was split for them: by
+/// document 02, (iv), an entry that has become first in its page goes like any other.
 fn booked(comparer: &mut Comparer, image: &[u8], entries: &[LeafEntry]) {
     let wide = entries.iter().filter(|entry| entry.end - entry.start >= 3 && head(image, KIND) == 1);
     for entry in wide.step_by(7) {
@@ -118,11 +118,7 @@ fn booked(comparer: &mut Comparer, image: &[u8], entries: &[LeafEntry]) {
         let split = tree_pages(comparer.image()) > tree_pages(image);
         assert_eq!(comparer.book(true, 5, s, e), 0, "no cut, and so no page");
         for t in [entry.start, s, e] {
-            if split {
-                comparer.instant(t);
-            } else {
-                told(comparer, t, (entry.start, entry.end));
-            }
+            told(comparer, t, (entry.start, entry.end));
         }
         comparer.tally.spans.add_booked(image, split);
         comparer.lend(image);

@@ -6,6 +6,7 @@ use std::collections::BTreeSet;
 use plain::END;
 
 use crate::comparer::Comparer;
+use crate::groups::made::leaf_entries;
 use crate::images::{fresh, head, pages_of, Pool, CHANGES, HEIGHT, KIND};
 
 /// A booking: value, start and end.
@@ -29,7 +30,7 @@ pub fn alternate(comparer: &mut Comparer, image: &[u8], range: usize, changes: u
     let kind = head(image, KIND);
     comparer.lend(image);
     let mut live = Vec::new();
-    // Entries that no heal finds can pile up until every change is refused: hence a bound on the rounds.
+    // For kinds 2 and 3 entries that no heal finds can pile up until every change is refused: hence a bound on the rounds.
     for round in 0..400 {
         let most = 1 + comparer.random.below(range / 2);
         while live.len() < most {
@@ -76,6 +77,11 @@ fn taken_back(comparer: &mut Comparer, kind: u32, round: i64, mut live: Vec<Book
         live.retain(|booking| changed(comparer, true, *booking) != 0);
         if live.is_empty() {
             assert_eq!(comparer.listing(0, END).runs, 1, "all is withdrawn");
+            assert_eq!(
+                (leaf_entries(comparer.image()), head(comparer.image(), HEIGHT)),
+                (1, 1),
+                "and one entry is left"
+            );
         }
         return live;
     }

@@ -6,6 +6,7 @@ mod capacity;
 mod cycles;
 mod damage;
 mod documented;
+mod edges;
 mod ends;
 mod every_capacity;
 mod formats;
@@ -69,6 +70,27 @@ pub const GROUPS: &[Group] = &[
         parts: made::MADE_HEIGHTS,
         random: true,
         run: made::made_heights,
+    },
+    Group {
+        name: "edge_levels",
+        what: "edges between pages joined at every level, up to height 10, one by one and one after the other",
+        parts: edges::LEVELS,
+        random: true,
+        run: edges::edge_levels,
+    },
+    Group {
+        name: "edge_histories",
+        what: "short ranges of time at every K, where edges meet, with an audit after each change, and emptied",
+        parts: edges::HISTORIES,
+        random: true,
+        run: edges::edge_histories,
+    },
+    Group {
+        name: "equal_pairs",
+        what: "two neighbours made equal, in a page and across an edge of every level",
+        parts: edges::EQUAL,
+        random: true,
+        run: edges::equal_pairs,
     },
     Group {
         name: "heights",
@@ -239,6 +261,13 @@ pub const GROUPS: &[Group] = &[
         parts: 1,
         random: false,
         run: refusals::refusals,
+    },
+    Group {
+        name: "older_images",
+        what: "stored images that document 01's rule left, with equal neighbours",
+        parts: 1,
+        random: false,
+        run: edges::older_images,
     },
     Group { name: "averages", what: "averages of pairs", parts: 2, random: true, run: averages::averages },
     Group {

@@ -2,7 +2,7 @@
 //! counts to at most changes": ways whose sums and counts are just that, or one more.
 
 use crate::comparer::Comparer;
-use crate::images::{capacity, count_at, head, page_bytes, sum_at, way, Pool, CHANGES, KIND};
+use crate::images::{capacity, count_at, head, level, page_bytes, pages_of, sum_at, way, Pool, CHANGES, KIND};
 use crate::random::Random;
 
 pub fn pair_bounds(comparer: &mut Comparer, pool: &Pool, _: usize) {
@@ -26,12 +26,15 @@ pub fn pair_bounds(comparer: &mut Comparer, pool: &Pool, _: usize) {
             if comparer.random.one_in(8) {
                 comparer.audit();
                 comparer.changes_and_back();
+                // A rebuild asks for the same bounds, and not that neighbours differ.
+                comparer.rebuild(pages_of(whole));
             }
         }
     }
 }
 
-/// Sets all pairs of the pages on the way to nothing but for one entry each, mostly the way's own.
+/// Sets all pairs of the pages on the way to nothing but for one entry each, mostly the way's own; in the leaf for every other entry from
+/// there on, so that neighbours differ.
 fn lay_way(comparer: &mut Comparer, t: u32, changes: u32) {
     let (k, length) = (capacity(comparer.image()), page_bytes(comparer.image()));
     let places = way(comparer.image(), t);
@@ -41,8 +44,10 @@ fn lay_way(comparer: &mut Comparer, t: u32, changes: u32) {
     let counts = shares(i64::from(changes) + over, places.len(), &mut comparer.random);
     for (place, (sum, count)) in places.iter().zip(sums.into_iter().zip(counts)) {
         let chosen = if comparer.random.one_in(6) { comparer.random.below(place.entries) } else { place.i };
+        let is_leaf = level(comparer.image(), place.page) == 0;
         for i in 0..place.entries {
-            let (sum, count) = if i == chosen { (sum, count as i32) } else { (0, 0) };
+            let has_it = i == chosen || is_leaf && chosen.abs_diff(i) % 2 == 0;
+            let (sum, count) = if has_it { (sum, count as i32) } else { (0, 0) };
             comparer.set(length * place.page + sum_at(k, i), &sum.to_le_bytes());
             comparer.set(length * place.page + count_at(k, i), &count.to_le_bytes());
         }

@@ -5,6 +5,7 @@
 //! (`src/rebuilds.rs`). It holds anything before: random bytes mostly, or an image of another K, another n or another time. How many pages
 //! are enough is worked out here from the source's runs.
 
+use plain::sound::is_sound_by_the_old_rule;
 use plain::END;
 
 use crate::calls::{Answer, Call};
@@ -17,8 +18,8 @@ use crate::groups::made::{leaf_entries, swap_used, MADE};
 use crate::groups::random_bookings::Season;
 use crate::groups::search::{k_of, laid, Leaves, Shape, Starts};
 use crate::images::{
-    bytes_of, capacity, enter, fresh_of, head, is_turned_back, made, page_bytes, pages_of, put, scratch_bytes, Pool,
-    CAPACITIES, CAPACITY, CHANGES, HIGH_MARK, IMAGES, KIND, WINDOW,
+    bytes_of, capacity, enter, equal_neighbours, fresh_of, head, is_turned_back, made, page_bytes, pages_of, put,
+    scratch_bytes, Pool, CAPACITIES, CAPACITY, CHANGES, HIGH_MARK, IMAGES, KIND, WINDOW,
 };
 use crate::rebuilds::{fewest_pages, runs_of};
 
@@ -184,7 +185,8 @@ fn starts_of_every_sort(comparer: &mut Comparer, field: usize) {
 const BY_BYTES: usize = 3;
 pub const DAMAGED: usize = IMAGES + BY_BYTES;
 
-/// What an audit refuses a rebuild refuses, with the same number; else the target's pages tell.
+/// What an audit refuses a rebuild refuses, with the same number, but for images of kind 1 with equal neighbours and nothing else against
+/// them, which it "reads .. by the old rule" (document 02, (iv)); else the target's pages tell.
 pub fn rebuild_damaged(comparer: &mut Comparer, pool: &Pool, part: usize) {
     match part % DAMAGED {
         part if part < IMAGES => damaged(comparer, pool.image(part)),
@@ -227,7 +229,11 @@ fn each_byte(comparer: &mut Comparer, whole: &[u8]) {
 }
 
 fn as_audited(comparer: &mut Comparer) {
-    let audited = comparer.audit().status;
+    let mut audited = comparer.audit().status;
+    if audited == 21 && is_sound_by_the_old_rule(comparer.image()) {
+        assert!(head(comparer.image(), KIND) == 1 && !equal_neighbours(comparer.image()).is_empty());
+        audited = 0;
+    }
     let (n, page) = (comparer.pages(), page_bytes(comparer.image()));
     let few = 2 + comparer.random.below(6);
     for (target, of_sound) in [(n.clamp(2, 1_024) * page, None), (few * page, None), (few * page - 1, Some(16))] {

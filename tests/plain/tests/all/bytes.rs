@@ -4,14 +4,14 @@
 use crate::support::*;
 use plain::{enter_recorded, withdraw_recorded, RecordedChange, END};
 
-type HandEntry = (u32, i64, i32, u32);
+pub type HandEntry = (u32, i64, i32, u32);
 
 /// Of an image whose K is 24, which stands after changes.
 fn head(fields: [u32; 9]) -> Vec<u8> {
     head_of(fields, 24)
 }
 
-fn head_of(fields: [u32; 9], k: u32) -> Vec<u8> {
+pub fn head_of(fields: [u32; 9], k: u32) -> Vec<u8> {
     let mut bytes: Vec<u8> = fields.iter().chain([&k]).flat_map(|field| field.to_le_bytes()).collect();
     bytes.resize(32 + 20 * k as usize, 0xFF);
     bytes
@@ -22,7 +22,7 @@ fn tree_page(level: u32, entries: &[HandEntry]) -> Vec<u8> {
 }
 
 /// "a page has 32 + 20 × K bytes and each array K places"
-fn tree_page_of(k: usize, level: u32, entries: &[HandEntry]) -> Vec<u8> {
+pub fn tree_page_of(k: usize, level: u32, entries: &[HandEntry]) -> Vec<u8> {
     let mut bytes = Vec::new();
     bytes.extend_from_slice(&level.to_le_bytes());
     bytes.extend_from_slice(&(entries.len() as u32).to_le_bytes());
@@ -44,7 +44,7 @@ fn free_page(next: u32) -> Vec<u8> {
     free_page_of(24, next)
 }
 
-fn free_page_of(k: usize, next: u32) -> Vec<u8> {
+pub fn free_page_of(k: usize, next: u32) -> Vec<u8> {
     let mut bytes = vec![0xFF, 0, 0, 0];
     bytes.extend_from_slice(&next.to_le_bytes());
     bytes.resize(32 + 20 * k, 0xFF);
@@ -56,7 +56,7 @@ fn never_used() -> Vec<u8> {
 }
 
 /// Pages of one length each.
-fn assert_image(image: &[u8], pages: &[Vec<u8>]) {
+pub fn assert_image(image: &[u8], pages: &[Vec<u8>]) {
     let length = pages[0].len();
     assert_eq!(image.len(), length * pages.len());
     for (page, expected) in pages.iter().enumerate() {
@@ -471,10 +471,8 @@ fn split_at_capacity_4() {
     assert_image(&image[..4 * 112], &split([(5, 1), (7, 1)], 4));
 }
 
-/// "a neighbour gives from K/2 + 1 up": 10 goes, one entry is left, and the right neighbour gives its first of three. Then 40 goes
-/// next to a neighbour of two: both join, and the root is given back behind the right page.
-#[test]
-fn give_and_merge_at_capacity_4() {
+/// "a neighbour gives from K/2 + 1 up": 10 goes, one entry is left, and the right neighbour gives its first of three.
+fn given_at_4() -> Vec<u8> {
     let mut image = split_at_4();
     enter(&mut image, 5, 0, 20);
     enter(&mut image, 7, 20, END);
@@ -487,16 +485,37 @@ fn give_and_merge_at_capacity_4() {
         tree_page_of(4, 1, &[(0, 0, 0, 1), (30, 0, 0, 2)]),
     ];
     assert_image(&image[..4 * 112], &given);
+    image
+}
 
-    // 30 comes to (6, 2) like 20, but it is first in its page and stays; then 40 comes to (6, 2).
+/// Then 40 goes next to a neighbour of two: both join, and the root is given back behind the right page.
+#[test]
+fn give_and_merge_at_capacity_4() {
+    let mut image = given_at_4();
+    let recorded = enter(&mut image, 1, 40, END);
+    assert_eq!((recorded.steps[3].merges_with_left, given_back(&recorded)), (1, vec![2, 3]));
+    assert_eq!(recorded.steps[3].edge_level, 0);
+    let merged = [
+        head_of([8, 1, 1, 3, 2, 4, 1, 0, 6], 4),
+        tree_page_of(4, 0, &[(0, 5, 1, 0), (20, 7, 1, 0), (30, 8, 2, 0)]),
+        free_page_of(4, 0),
+        free_page_of(4, 2),
+    ];
+    assert_image(&image[..4 * 112], &merged);
+}
+
+/// Document 02, (iv): 30 comes to (6, 2) like 20. It is first in its page, and goes: document 01 alone would have kept it. 40 is left alone
+/// in its page, and joins as before.
+#[test]
+fn edge_and_merge_at_capacity_4() {
+    let mut image = given_at_4();
     enter(&mut image, -1, 20, 40);
     let recorded = withdraw(&mut image, 1, 30, 40);
-    assert_eq!(recorded.steps.iter().map(|step| step.entries_healed).sum::<u32>(), 0);
-    let recorded = enter(&mut image, -1, 40, END);
+    assert_eq!((recorded.steps[3].entries_healed, recorded.steps[3].edge_level), (1, 1));
     assert_eq!((recorded.steps[3].merges_with_left, given_back(&recorded)), (1, vec![2, 3]));
     let merged = [
-        head_of([8, 1, 1, 3, 2, 4, 1, 0, 8], 4),
-        tree_page_of(4, 0, &[(0, 5, 1, 0), (20, 6, 2, 0), (30, 6, 2, 0)]),
+        head_of([8, 1, 1, 3, 2, 4, 1, 0, 7], 4),
+        tree_page_of(4, 0, &[(0, 5, 1, 0), (20, 6, 2, 0), (40, 7, 1, 0)]),
         free_page_of(4, 0),
         free_page_of(4, 2),
     ];

@@ -168,13 +168,15 @@ fn level_and_number_of_entries() {
         set(image, 1, sum_at(11), &[0xFF; 16]);
     });
     check_left(&eleven, UNFIT);
-    // With 24 in order, and with 13.
+    // With 24 in order, and with 13. By document 02, (iv), neighbours have to differ, also from the first of page 2: each of the entries
+    // that are added has a sum of its own.
     for entry_count in [13, 24usize] {
         let more = touched(1, |image| {
             set(image, 1, ENTRY_COUNT_AT, &(entry_count as u32).to_le_bytes());
             for i in 11..entry_count {
                 set(image, 1, start_at(i), &(41 + i as u32).to_le_bytes());
-                set(image, 1, sum_at(i), &[0; 16]);
+                set(image, 1, sum_at(i), &(i as i64).to_le_bytes());
+                set(image, 1, count_at(i), &1u64.to_le_bytes());
             }
             // The last own start was 55.
             set(image, 1, start_at(11), &56u32.to_le_bytes());

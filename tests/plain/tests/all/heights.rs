@@ -74,6 +74,8 @@ fn heights_1_to_4_up_and_down() {
         }
         rack.check_all_quickly();
         assert_eq!(rack.timeline.runs(0, END).len(), 1);
+        // Document 02, (iv): no entry is left behind where a page ends.
+        assert_eq!((Node::of(&rack.image).leaf_entries(), height(&rack.image)), (1, 1));
         report(&format!(
             "heights, order {order}: {} bookings, heights on the way down {heights_seen:?}, {} leaf entries left",
             live.len(),

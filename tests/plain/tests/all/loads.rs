@@ -339,11 +339,12 @@ fn fill_1024_pages_until_24() {
     rack.check_all_quickly();
 }
 
-/// 5,000 random bookings on 1,024 pages, then all withdrawn. Dead entries are left.
+/// 5,000 random bookings on 1,024 pages, then all withdrawn. By document 01 alone some 460 dead entries at height 3 were left; by document
+/// 02, (iv), one entry is.
 /// Long: run it with `--ignored`.
 #[test]
 #[ignore]
-fn dead_entries_pile_up() {
+fn no_dead_entries_pile_up() {
     let mut rack = Rack::new(1_024, 1, 0, 72);
     rack.by_step = false;
     rack.audit_each = false;
@@ -368,6 +369,7 @@ fn dead_entries_pile_up() {
         height(&rack.image)
     ));
     assert_eq!(rack.timeline.runs(0, END).len(), 1);
+    assert_eq!((left, height(&rack.image)), (1, 1));
 }
 
 /// The quick book of these tests is the plain book.

@@ -8,6 +8,7 @@ mod average;
 mod bytes;
 mod capacity;
 mod damage;
+mod edges;
 mod ends;
 mod fitness;
 mod heights;

@@ -1,5 +1,9 @@
 //! The five steps a second time, on nested lists in place of pages in an image and by recursion from the root in place of
 //! a way walked back. After each change of the rack tree, chain and high mark must come out the same.
+//!
+//! Heal is told otherwise too. Document 02, (iv), removes for kind 1 "an entry that is first in its page when the totals on both sides are
+//! equal"; behind another entry of its page it goes where the pairs are equal, and so are the totals there. So for kind 1 totals are
+//! compared wherever the entry stands, and every start above is that of the page below it.
 
 use crate::support::*;
 use plain::{Pair, END};
@@ -76,6 +80,13 @@ impl Model {
     }
 
     fn heal(&mut self, t: u32) {
+        let goes = match self.kind {
+            1 => t > 0 && t < END && self.tree.pair_at(1, t - 1) == self.tree.pair_at(1, t),
+            _ => self.tree.own_pair_before(t).is_some_and(|pair| pair == self.tree.own_pair_at(t)),
+        };
+        if !goes || !self.tree.leaf_starts().contains(&t) {
+            return;
+        }
         heal_below(&mut self.tree, t, self.kind, self.half, &mut self.pages);
         if let Node::Inner { page, entries } = &mut self.tree {
             if entries.len() == 1 {
@@ -165,19 +176,14 @@ fn combine_into(node: &mut Node, kind: u32, pair: Pair, s: u32, end: u32, node_e
     }
 }
 
+/// Takes the leaf entry at t out.
 fn heal_below(node: &mut Node, t: u32, kind: u32, half: usize, pages: &mut Pages) {
     match node {
-        Node::Leaf { entries, .. } => {
-            let at = entries.iter().position(|(start, _)| *start == t);
-            if let Some(at) = at.filter(|at| *at > 0) {
-                if entries[at - 1].1 == entries[at].1 {
-                    entries.remove(at);
-                }
-            }
-        }
+        Node::Leaf { entries, .. } => entries.retain(|(start, _)| *start != t),
         Node::Inner { entries, .. } => {
             let at = entries.iter().take_while(|(start, _, _)| *start <= t).count() - 1;
             heal_below(&mut entries[at].2, t, kind, half, pages);
+            entries[at].0 = entries[at].2.first_start();
             if entry_count(&entries[at].2) == half - 1 {
                 let left = if at == 0 { 0 } else { at - 1 };
                 let neighbour = if at == 0 { 1 } else { at - 1 };

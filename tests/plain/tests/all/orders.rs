@@ -67,7 +67,7 @@ fn the_same_changes_in_any_order() {
     assert!(different_trees > 20);
 }
 
-/// Everything entered is withdrawn: the listing of a fresh image.
+/// Everything entered is withdrawn: the listing of a fresh image. By document 02, (iv), its one run is one leaf entry, so the height is 1.
 #[test]
 fn everything_withdrawn() {
     let mut random = Xorshift::new(6);
@@ -84,6 +84,7 @@ fn everything_withdrawn() {
         random.shuffle(&mut changes);
         let image = image_after(100, 1, 3, &changes, &mut tally);
         assert_eq!(full_listing(&image), full_listing(&fresh(2, 2, 0)));
+        assert_eq!((Node::of(&image).leaf_entries(), height(&image)), (1, 1));
     }
     tally.report("orders, everything withdrawn");
 }

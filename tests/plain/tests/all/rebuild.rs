@@ -143,7 +143,10 @@ fn assert_is_clean(source: &[u8], target: &[u8], runs: &[Run]) {
         "the pages used are the first ones"
     );
     assert!(word(target, 0, HIGH_MARK) <= word(source, 0, HIGH_MARK) && height(target) <= height(source));
-    assert!(leaf_pairs(&Node::of(target)).windows(2).all(|two| two[0].1 != two[1].1), "neighbours have different totals");
+    assert!(
+        leaf_pairs(&Node::of(target)).windows(2).all(|two| two[0].1 != two[1].1),
+        "neighbours have different totals"
+    );
     assert!(full_listing(target) == full_listing(source));
     for (i, run) in runs.iter().enumerate() {
         let end = runs.get(i + 1).map_or(END, |next| next.start);
@@ -694,11 +697,13 @@ fn scratch_by_the_source() {
     }
 }
 
-/// Random damage: a rebuild refuses exactly what an audit refuses, with the same number and what it does to the scratch.
+/// Random damage: a rebuild refuses exactly what an audit refuses, with the same number and what it does to the scratch; but for images of
+/// kind 1 that have two equal neighbours and are otherwise in order, which by document 02, (iv), "pass through the rebuild".
 #[test]
 fn damaged_sources() {
     let mut random = Xorshift::new(40);
     let mut by_status = [0; 25];
+    let mut older = 0;
     let whole: Vec<Vec<u8>> = (0..24)
         .map(|i| match i % 3 {
             0 => tall([4, 6, 4, 8][i / 3 % 4], 200, 3 + i as u32 % 2, 1 + i as u32 / 8, i as u64),
@@ -715,6 +720,13 @@ fn damaged_sources() {
             let at = random.below(within as u64) as usize;
             source[at] = random.pick(&[0, 1, 2, 0xFF, source[at] ^ 1, source[at].wrapping_add(1)]);
         }
+        if random.one_in(20) {
+            let totals = Node::of(&whole[round % whole.len()]).leaf_totals();
+            let i = random.below(totals.len() as u64) as usize;
+            if i > 0 && word(&source, 0, KIND) == 1 && source == whole[round % whole.len()] {
+                set_total(&mut source, totals[i].0, totals[i - 1].1);
+            }
+        }
         if random.one_in(40) {
             set_word(&mut source, 0, CAPACITY, random.below(27) as u32);
         }
@@ -722,7 +734,12 @@ fn damaged_sources() {
         let (mut scratch, mut of_audit) = (vec![7; length], vec![7; length]);
         let mut target = vec![0x6B; page_bytes(&source) * 200];
         let status = rebuild(&source, &mut target, &mut scratch);
-        assert_eq!(status, audit(&source, &mut of_audit));
+        let audited = audit(&source, &mut of_audit);
+        if status != audited {
+            assert_eq!((status, audited, word(&source, 0, KIND)), (0, 21, 1));
+            assert!(!Node::of(&source).equal_neighbours().is_empty());
+            older += 1;
+        }
         assert_eq!(scratch, of_audit);
         assert_eq!(status != 0, target.iter().all(|byte| *byte == 0x6B));
         by_status[status as usize] += 1;
@@ -730,8 +747,8 @@ fn damaged_sources() {
             rebuilt(&source, 200, &mut random).unwrap();
         }
     }
-    report(&format!("rebuild: damaged sources, by status {by_status:?}"));
-    assert!(by_status[0] > 1_000 && by_status[21] > 1_000 && by_status[16] > 0);
+    report(&format!("rebuild: damaged sources, by status {by_status:?}, {older} with equal neighbours"));
+    assert!(older > 30 && by_status[0] > 1_000 && by_status[21] > 1_000 && by_status[16] > 0);
 }
 
 // ---------------------------------------------------------------- seasons of changes
@@ -818,7 +835,7 @@ fn source_and_target_go_on_alike() {
     report(&format!("rebuild: {changes} changes made alike on source and target"));
 }
 
-/// Dead entries pile up over a season on a small image until 24 comes to nearly nothing booked; rebuilt into as many pages it has room.
+/// Bookings on a small image until 24: the pages are some two thirds full. Rebuilt into as many pages it has room.
 #[test]
 fn room_after_a_rebuild() {
     let mut random = Xorshift::new(43);
@@ -826,27 +843,14 @@ fn room_after_a_rebuild() {
     for (k, n) in [(4, 12), (6, 12), (10, 9), (24, 8)] {
         for seed in 0..6 {
             let mut rack = Rack::on(fresh_of(k, n, 1, 0), seed);
-            let mut live = Vec::new();
-            let mut refused = None;
-            for _ in 0..4_000 {
+            let (v, s) = loop {
                 let (s, v) = (random.below(100_000) as u32, random.between(1, 9));
-                if rack.enter(v, s, s + 7) == 0 {
-                    live.push((v, s, s + 7));
-                } else {
-                    refused = Some((v, s, s + 7));
-                    break;
+                if rack.enter(v, s, s + 7) != 0 {
+                    break (v, s);
                 }
-                if live.len() > k {
-                    let at = random.below(live.len() as u64) as usize;
-                    let (v, s, e) = live[at];
-                    if rack.withdraw(v, s, e) == 0 {
-                        live.swap_remove(at);
-                    }
-                }
-            }
-            let Some((v, s, e)) = refused else { continue };
+            };
             let Some(mut target) = rebuilt_rack(&rack, n, &mut random) else { panic!("as many pages are enough") };
-            if target.enter(v, s, e) == 0 {
+            if target.enter(v, s, s + 7) == 0 {
                 made_room += 1;
             }
             target.check_instants();

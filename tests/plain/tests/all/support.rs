@@ -42,6 +42,10 @@ pub struct Tally {
     pub inner_merges: u64,
     pub chain_taken: u64,
     pub greatest_height: u32,
+    /// Entries that went though first in their page, by the level of the page whose entry separated it from the one before; of these the
+    /// ones after which a page turned to its left neighbour, to its right one, after which the root was lost, and after which none turned.
+    pub edges: [u64; 10],
+    pub edges_turned: [u64; 4],
 }
 
 impl Tally {
@@ -79,6 +83,13 @@ impl Tally {
         self.inner_splits += u64::from(step.splits.saturating_sub(1));
         self.inner_gives += u64::from(gives > 0 && merges > 0);
         self.inner_merges += u64::from(merges.saturating_sub(1));
+        if step.edge_level > 0 {
+            self.edges[step.edge_level as usize] += 1;
+            self.edges_turned[0] += u64::from(step.gives_from_left + step.merges_with_left > 0);
+            self.edges_turned[1] += u64::from(step.gives_from_right + step.merges_with_right > 0);
+            self.edges_turned[2] += u64::from(step.roots_lost);
+            self.edges_turned[3] += u64::from(step.turned_to.is_empty());
+        }
     }
 
     pub fn add(&mut self, other: &Tally) {
@@ -104,13 +115,21 @@ impl Tally {
         self.inner_merges += other.inner_merges;
         self.chain_taken += other.chain_taken;
         self.greatest_height = self.greatest_height.max(other.greatest_height);
+        for (mine, theirs) in self.edges.iter_mut().zip(other.edges) {
+            *mine += theirs;
+        }
+        for (mine, theirs) in self.edges_turned.iter_mut().zip(other.edges_turned) {
+            *mine += theirs;
+        }
     }
 
     pub fn report(&self, name: &str) {
         report(&format!(
             "{name}: {} calls ({} changes accepted, {} refused, of these {} with 24; {} instants, {} listings, {} audits); \
              {} cuts, {} heals, {} splits, gives {} left {} right, merges {} left {} right, roots +{} -{}, \
-             of inner pages {} splits {} gives {} merges, {} pages taken from the chain, height up to {}",
+             of inner pages {} splits {} gives {} merges, {} pages taken from the chain, height up to {}; edges joined by \
+             their separator's level {:?}, then turned left {} right {}, roots lost {}, \
+             no page turned {}",
             self.calls(),
             self.changes_accepted,
             self.changes_refused,
@@ -132,6 +151,11 @@ impl Tally {
             self.inner_merges,
             self.chain_taken,
             self.greatest_height,
+            &self.edges[1..],
+            self.edges_turned[0],
+            self.edges_turned[1],
+            self.edges_turned[2],
+            self.edges_turned[3],
         ));
     }
 }
@@ -308,6 +332,19 @@ pub fn refused(status: u32, pages: u32) -> plain::Instant {
     plain::Instant { status, sum: 0, count: 0, pages, start: 0, end: 0 }
 }
 
+/// Gives the leaf entry that starts at t another own pair, so that its total becomes this one; for kind 1.
+pub fn set_total(image: &mut [u8], t: u32, total: Pair) {
+    let tree = Node::of(image);
+    let (own, is) = (tree.own_pair_at(t), tree.pair_at(1, t));
+    let way = tree.way(t);
+    let leaf = way[way.len() - 1];
+    let at = (0..capacity(image)).position(|i| get_u32(image, leaf, start_at(i)) == t).expect("t starts a leaf entry");
+    let entry = entry_in(capacity(image), at);
+    set(image, leaf, entry, &(own.sum + total.sum - is.sum).to_le_bytes());
+    set(image, leaf, entry + 8, &(own.count + total.count - is.count).to_le_bytes());
+    assert_eq!(Node::of(image).pair_at(1, t), total);
+}
+
 /// Where the leaf entry that has t starts and ends, without a look at fitness. Each page on the way narrows the span: an entry's end is
 /// the next start in its page, and the last one's stays that of the page.
 pub fn leaf_entry_at(image: &[u8], t: u32) -> (u32, u32) {
@@ -400,6 +437,77 @@ impl Node {
                 pairs
             }
         }
+    }
+
+    /// The leaf that has t, as its starts and own pairs.
+    fn leaf_at(&self, t: u32) -> &[(u32, Pair)] {
+        match self {
+            Node::Leaf { entries, .. } => entries,
+            Node::Inner { entries, .. } => entries.iter().rfind(|(start, _, _)| *start <= t).unwrap().2.leaf_at(t),
+        }
+    }
+
+    /// The own pair of the leaf entry that has t.
+    pub fn own_pair_at(&self, t: u32) -> Pair {
+        self.leaf_at(t).iter().rfind(|(start, _)| *start <= t).unwrap().1
+    }
+
+    /// The own pair of the entry before that one, if it stands in the same page.
+    pub fn own_pair_before(&self, t: u32) -> Option<Pair> {
+        let earlier: Vec<Pair> =
+            self.leaf_at(t).iter().filter(|(start, _)| *start <= t).map(|(_, pair)| *pair).collect();
+        earlier.iter().rev().nth(1).copied()
+    }
+
+    /// Every leaf entry in its order: its start and its total for kind 1.
+    pub fn leaf_totals(&self) -> Vec<(u32, Pair)> {
+        match self {
+            Node::Leaf { entries, .. } => entries.clone(),
+            Node::Inner { entries, .. } => {
+                let below = |(_, above, below): &(u32, Pair, Node)| -> Vec<(u32, Pair)> {
+                    let with = |own: Pair| Pair { sum: above.sum + own.sum, count: above.count + own.count };
+                    below.leaf_totals().into_iter().map(|(start, own)| (start, with(own))).collect()
+                };
+                entries.iter().flat_map(below).collect()
+            }
+        }
+    }
+
+    pub fn leaf_starts(&self) -> BTreeSet<u32> {
+        match self {
+            Node::Leaf { entries, .. } => entries.iter().map(|(start, _)| *start).collect(),
+            Node::Inner { entries, .. } => entries.iter().flat_map(|(_, _, below)| below.leaf_starts()).collect(),
+        }
+    }
+
+    pub fn first_start(&self) -> u32 {
+        match self {
+            Node::Leaf { entries, .. } => entries[0].0,
+            Node::Inner { entries, .. } => entries[0].0,
+        }
+    }
+
+    /// Where a leaf ends and the next one begins, with the level of the page that has the entry between them.
+    pub fn edges(&self) -> Vec<(u32, u32)> {
+        let Node::Inner { entries, .. } = self else { return Vec::new() };
+        let level = 1 + entries[0].2.depth();
+        let mut edges: Vec<(u32, u32)> = entries.iter().skip(1).map(|(start, _, _)| (*start, level)).collect();
+        edges.extend(entries.iter().flat_map(|(_, _, below)| below.edges()));
+        edges
+    }
+
+    /// How many levels there are below.
+    fn depth(&self) -> u32 {
+        match self {
+            Node::Leaf { .. } => 0,
+            Node::Inner { entries, .. } => 1 + entries[0].2.depth(),
+        }
+    }
+
+    /// Where two neighbouring leaf entries have equal totals: the later ones' starts. Of a sound kind 1 image there are none.
+    pub fn equal_neighbours(&self) -> Vec<u32> {
+        let totals = self.leaf_totals();
+        totals.windows(2).filter(|two| two[0].1 == two[1].1).map(|two| two[1].0).collect()
     }
 
     /// The pages met on the way to t; END is no instant.
@@ -690,8 +798,20 @@ impl Rack {
         self.tally.greatest_height = self.tally.greatest_height.max(height(&self.image));
         if self.audit_each {
             self.check_audit();
+            self.check_neighbours();
         }
         0
+    }
+
+    /// Document 02, (iv), for kind 1: "no two neighbouring leaf entries have equal totals, so its leaf entries number exactly the runs".
+    pub fn check_neighbours(&self) {
+        if self.book.kind != 1 {
+            return;
+        }
+        let tree = Node::of(&self.image);
+        assert_eq!(tree.equal_neighbours(), []);
+        let mut out = vec![0; 16 * tree.leaf_entries()];
+        assert_eq!(listing(&self.image, 0, END, &mut out).runs as usize, tree.leaf_entries());
     }
 
     pub fn check_audit(&mut self) {
@@ -807,6 +927,18 @@ fn check_by_step(before: &[u8], effect: &Effect, records: &[StepRecord], after: 
         assert_eq!(record.given_back.iter().copied().collect::<BTreeSet<u32>>(), &old - &new);
         // Neighbours turned to are those of the pages on the way, from the leaf up.
         assert!(tree.siblings_of_way(instants[0]).starts_with(&record.turned_to));
+        // Of kind 1: behind the cuts only s and e′ can stand between equal totals, D mends s and E mends e′.
+        if kind == 1 {
+            let may_be_equal: &[u32] = match step {
+                Step::CutAtStart => &[s],
+                Step::CutAtEnd | Step::Combine => &[s, end],
+                Step::HealAtStart => &[end],
+                Step::HealAtEnd => &[],
+            };
+            let equal = tree_after.equal_neighbours();
+            assert!(equal.iter().all(|start| may_be_equal.contains(start)), "{step:?} leaves {equal:?} equal");
+        }
+        check_edge(&tree, &tree_after, *step, record, instants[0]);
         // No step but C alters what an instant gives.
         if *step != Step::Combine {
             for t in [s, s.saturating_sub(1), end - 1, end.min(END - 1)] {
@@ -817,6 +949,31 @@ fn check_by_step(before: &[u8], effect: &Effect, records: &[StepRecord], after: 
     }
     count_the_change(&mut image);
     assert!(image == after, "the five steps one by one make the change");
+}
+
+/// What a heal did that took the first entry of a page. Document 02, (iv): "Each page written is the head, lies on the way to t or to t−1,
+/// is a neighbour turned to or is given back." No page is named because it lies on the way to t−1, so that none was written which only that
+/// way has, but for the neighbour that is turned to under the entry that separates both ways.
+fn check_edge(tree: &Node, after: &Node, step: Step, record: &StepRecord, t: u32) {
+    if record.edge_level == 0 {
+        return;
+    }
+    assert!(matches!(step, Step::HealAtStart | Step::HealAtEnd) && record.entries_healed == 1);
+    let (ways, before) = (tree.way(t), tree.way(t - 1));
+    let common = ways.iter().zip(&before).filter(|(one, other)| one == other).count();
+    // The page that separates both ways is the last that they share; the leaf has level 0.
+    assert_eq!(ways.len() - common, record.edge_level as usize);
+    assert!(!after.leaf_starts().contains(&t) && tree.leaf_starts().contains(&t));
+    // The page under the separating entry has a left neighbour, which leads to t−1. Of the pages that only the way to t−1 has it is the one
+    // that the step may name, if the turning comes up so far.
+    let only_before: BTreeSet<u32> = before[common..].iter().copied().collect();
+    let named = record.named_pages();
+    let named_before: Vec<u32> = only_before.iter().copied().filter(|page| named.contains(page)).collect();
+    let reaches_separator = record.turned_to.len() >= record.edge_level as usize;
+    assert_eq!(named_before, if reaches_separator { vec![before[common]] } else { vec![] });
+    if reaches_separator {
+        assert_eq!(record.turned_to[record.edge_level as usize - 1], before[common]);
+    }
 }
 
 /// Audit by the definition and by counting agree; whether the image is sound. One that is turned back by its K or its length
