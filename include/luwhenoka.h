@@ -14,6 +14,12 @@
  * bytes 36 to 39. Every other call reads it there. An older image, made before there was such a field, has FF in these four
  * bytes and is read as K = 24. A change keeps them as they are; a rebuild writes the number.
  *
+ * Joined entries. Where two neighbouring leaf entries of a kind 1 index come to have the same sum and count, a change makes
+ * them one, in a page and across the edge between two pages. A kind 1 image is sound only if it has no such two, so its leaf
+ * entries are as many as the runs of its full listing. An image that was changed before entries were joined across pages
+ * may have some: luw_instant, luw_average and luw_listing answer it, luw_audit, luw_enter and luw_withdraw refuse it with 21,
+ * and luw_rebuild reads it and writes a sound one.
+ *
  * Buffers. A buffer is a pointer and its length in bytes; no pointer need be aligned, and null is fine with length 0.
  * Buffers of one call must not overlap: nothing is promised where they do. Nor is it where somebody else writes one of them
  * during the call.
@@ -47,11 +53,14 @@
  *   turned back by the state
  *     21  LUW_UNSOUND         the image's field for its capacity names none; else
  *                             instant, average, listing: a page met is unfit;
- *                             audit, enter, withdraw: the image is not sound;
- *                             rebuild: the source is not sound
+ *                             audit, enter, withdraw: the image is not sound, for kind 1
+ *                             also if two neighbouring leaf entries have the same sum and
+ *                             count;
+ *                             rebuild: the source is not sound, where such neighbours
+ *                             don't count
  *     22  LUW_WITHDRAWAL_KIND the kind is 2 or 3                                   withdraw
  *     23  LUW_CHANGES_FULL    the index has had 1,000,000,000 changes              enter, withdraw
- *     24  LUW_PAGES_LACKING   the change takes more pages than are left            enter, withdraw
+ *     24  LUW_PAGES_LACKING   the change's cuts take more pages than are left      enter, withdraw
  *                             the target has fewer pages than the runs take        rebuild
  *
  * A refusal returns its status with zeros for every answer (luw_instant: the pages read too), and image, target and output
@@ -132,9 +141,11 @@ uint32_t luw_format(uint8_t *image, size_t image_length, uint32_t kind, uint32_t
  *
  * start and end are those of the leaf entry that has t: start <= t < end, and end is LUW_END for the last one. Every
  * instant of [start, end) gets this same answer, in all its fields, as long as the image isn't changed: nobody need ask
- * again before end. Sum and count may hold for longer than that, since neighbouring leaf entries may have equal ones; a
- * listing joins them, an instant doesn't. At every refusal start and end are 0. A program that was compiled with a header
- * without start and end has to be compiled anew: the struct was smaller.
+ * again before end. For kind 1, in every sound image, they are the start and the end of the run of the full listing that has
+ * t: right before start, and at end, sum or count is another. For kinds 2 and 3, and in an image of kind 1 from before entries
+ * were joined across pages, sum and count may hold for longer, since neighbouring leaf entries may have equal ones; a listing
+ * joins them, an instant doesn't. At every refusal start and end are 0. A program that was compiled with a header without
+ * start and end has to be compiled anew: the struct was smaller.
  */
 struct luw_instant_answer {
     uint32_t status;
@@ -201,7 +212,8 @@ struct luw_listing_answer luw_listing(const uint8_t *image, size_t image_length,
 
 /*
  * Whether the image is sound: head and all tree pages are fit, each page below the high mark but the head is once in the
- * tree or once in the chain of free pages, the chain is as long as the head says, and free and never used pages read as they should.
+ * tree or once in the chain of free pages, the chain is as long as the head says, free and never used pages read as they
+ * should, and for kind 1 no two neighbouring leaf entries have the same sum and count, in a page or across the edge of one.
  * Returns 0 if it is. Refusals: 16, 17, 21, and 21 for the capacity ahead of them.
  *
  * The first LUW_SCRATCH_BYTES(n) bytes of the scratch are 0 after 0, and after 21 where the capacity is good; any beyond
@@ -215,7 +227,11 @@ uint32_t luw_audit(const uint8_t *image, size_t image_length, uint8_t *scratch, 
  *
  * A refused change leaves every byte of the image. An accepted one leaves a sound image whose count of changes is one
  * higher. It may cut the tree's entries at both ends of what it covers, and each cut may take a page a level, and one more
- * for a new root, from the chain of free pages or at the high mark; 24 tells that there are not so many left.
+ * for a new root, from the chain of free pages or at the high mark; 24 tells that there are not so many left. The cuts alone
+ * decide that: pages that the same change would give back, where entries are joined afterwards, are not counted.
+ *
+ * A sound image of kind 1 whose full listing has m runs has m leaf entries, and its tree has at most
+ * 1 + (m - r) / (K / 2 - 1) pages; r is 1 if the root is a leaf, else 2.
  *
  * Refusals: 16, 17, 11, 13, 21, 23, 24, and 21 for the capacity ahead of them. The first LUW_SCRATCH_BYTES(n) bytes of the
  * scratch are 0 after 0, 22, 23 and 24, and after 21 where the capacity is good; any beyond keep theirs. At 16, 17, 11, 13
@@ -226,7 +242,11 @@ uint32_t luw_enter(uint8_t *image, size_t image_length, uint8_t *scratch, size_t
 
 /*
  * Takes the value v on the span [s, e) away again: -v and -1 are added where luw_enter would add v and 1, whether or not
- * such a booking is live. Kind 1 only. A withdrawal may need a page too, and be refused with 24.
+ * such a booking is live. Kind 1 only. A withdrawal may need a page too, and be refused with 24, also where it would have
+ * given one back.
+ *
+ * An index from which all that was entered has been withdrawn, in any order, is one leaf with one entry again, and its height
+ * is 1. The pages that it had are free, and its changes stay counted.
  *
  * Refusals: 16, 17, 11, 13, 21, 22, 23, 24, and 21 for the capacity ahead of them; image and scratch as at luw_enter.
  */
@@ -234,9 +254,13 @@ uint32_t luw_withdraw(uint8_t *image, size_t image_length, uint8_t *scratch, siz
                       int64_t v, uint32_t s, uint32_t e);
 
 /*
- * Writes the index of the source into the target, as tight as it can be. Entries that no listing shows, pages with few
- * entries and free ones pile up over many changes; the target has the fewest pages that its runs can have. It may have fewer
- * pages than the source, as many or more.
+ * Writes the index of the source into the target, as tight as it can be. Pages that are half full and free ones pile up over
+ * many changes, for kinds 2 and 3 also leaf entries that no listing shows; the target has the fewest pages that its runs can
+ * have. It may have fewer pages than the source, as many or more.
+ *
+ * Of the source the last point of luw_audit is not asked: neighbouring leaf entries of kind 1 with the same sum and count,
+ * which it may have from before they were joined across pages, become one in the target. The target is sound, and changes
+ * can go on there.
  *
  * The target lists what the source lists, its instants have the source's sums and counts, and further changes, where they
  * are accepted, do to its listing what they would have done to the source's. Kind, window, capacity and the number of changes

@@ -119,7 +119,7 @@ pub fn format(image: &mut [u8], kind: Kind, window: u32, capacity: u32) -> Resul
 /// What holds at an instant, and from when until when.
 ///
 /// Every instant from `start` up to but not including `end` gets this same answer, in all its fields, as long as the image isn't
-/// changed.
+/// changed. For totals, in every sound image, they are the start and the end of a run of the full listing.
 #[derive(Clone, Copy, PartialEq, Eq, Hash, Debug)]
 pub struct Instant {
     /// The sum of the values that count, or the greatest or least of them; 0 for nothing.
@@ -138,8 +138,9 @@ impl Instant {
     /// Until when the answer holds if the image isn't changed: no instant before that need be asked for. `None` if it holds for
     /// ever.
     ///
-    /// It is the end of the leaf entry. The sum and the count may hold for longer, since neighbouring entries may have equal ones;
-    /// a [`listing`] joins them.
+    /// It is the end of the leaf entry. For totals that is the end of the run, in every sound image: sum or count is another from
+    /// there on. For the greatest and the least, and in an image of totals from before leaf entries were joined across pages, both
+    /// may hold for longer, since neighbouring entries may have equal ones; a [`listing`] joins them.
     ///
     /// ```
     /// use luwhenoka::{enter, format, instant, scratch_bytes, Kind};
@@ -268,6 +269,10 @@ pub fn listing(image: &[u8], a: u32, b: u32, output: &mut [u8]) -> Result<usize,
 /// Whether the image of n pages is sound. Borrows the first [`scratch_bytes(n)`](scratch_bytes) bytes of the scratch, which
 /// are 0 afterwards; any beyond keep theirs.
 ///
+/// An image of totals is sound only if no two neighbouring leaf entries have the same sum and count, in a page or across the edge
+/// of one. One that was changed before entries were joined across pages may have such neighbours: [`instant`], [`average`] and
+/// [`listing`] answer it, this call, [`enter`] and [`withdraw`] refuse it, and [`rebuild`] makes a sound one of it.
+///
 /// Refusals: [`Unsound`](Refusal::Unsound) for a bad capacity, [`ImageLength`](Refusal::ImageLength) and
 /// [`ScratchShort`](Refusal::ScratchShort), all three with the scratch untouched; [`Unsound`](Refusal::Unsound) for an image
 /// that is not sound.
@@ -294,7 +299,12 @@ pub fn audit(image: &[u8], scratch: &mut [u8]) -> Result<(), Refusal> {
 /// Refusals: [`Unsound`](Refusal::Unsound) for a bad capacity, [`ImageLength`](Refusal::ImageLength),
 /// [`ScratchShort`](Refusal::ScratchShort), [`SpanEmpty`](Refusal::SpanEmpty), [`ValueRange`](Refusal::ValueRange), all five
 /// with the scratch untouched; [`Unsound`](Refusal::Unsound) for an image that is not sound,
-/// [`ChangesFull`](Refusal::ChangesFull), [`PagesLacking`](Refusal::PagesLacking). The image then keeps every byte.
+/// [`ChangesFull`](Refusal::ChangesFull), [`PagesLacking`](Refusal::PagesLacking). The image then keeps every byte. Pages lack by
+/// the cuts alone, at both ends of what is booked: those that the same change would give back are not counted.
+///
+/// Where neighbouring leaf entries of totals come to have the same sum and count they become one, so that a sound image has as
+/// many leaf entries as its full listing has runs. With m runs and capacity K its tree has at most 1 + (m − r) / (K / 2 − 1)
+/// pages; r is 1 if the root is a leaf, else 2.
 ///
 /// The capacity stays as it stands in the image: an older one, with FF there, keeps FF.
 ///
@@ -315,6 +325,8 @@ pub fn enter(image: &mut [u8], scratch: &mut [u8], v: i64, s: u32, e: u32) -> Re
 /// Takes the value `v` on [`s`, `e`) away again, whether or not such a booking is live. Scratch and refusals are those of
 /// [`enter`], and [`WithdrawalKind`](Refusal::WithdrawalKind).
 ///
+/// An index from which all that was entered has been withdrawn, in any order, is one leaf with one entry again.
+///
 /// ```
 /// use luwhenoka::{enter, format, instant, scratch_bytes, withdraw, Kind};
 ///
@@ -330,16 +342,22 @@ pub fn withdraw(image: &mut [u8], scratch: &mut [u8], v: i64, s: u32, e: u32) ->
 }
 
 /// Writes the index of the source into the target, in the fewest pages that have room for its runs. The target may have fewer
-/// pages than the source, as many or more, and may hold anything: every byte of it is written. It lists what the source lists
-/// and takes further changes as the source would have; kind, window, capacity and the number of changes are the source's.
-/// Borrows the first [`scratch_bytes(n)`](scratch_bytes) bytes of the scratch, for a source of n pages; they are 0 afterwards,
-/// and any beyond keep theirs.
+/// pages than the source, as many or more, and may hold anything: every byte of it is written. It lists what the source lists,
+/// and further changes do to its listing what they would have done to the source's; kind, window, capacity and the number of
+/// changes are the source's. Borrows the first [`scratch_bytes(n)`](scratch_bytes) bytes of the scratch, for a source of n pages;
+/// they are 0 afterwards, and any beyond keep theirs.
+///
+/// Over a season of changes pages that are half full and free ones pile up; of a greatest or least also leaf entries that no
+/// listing shows.
 ///
 /// Refusals: of the source [`Unsound`](Refusal::Unsound) for a bad capacity, [`ImageLength`](Refusal::ImageLength),
 /// [`ScratchShort`](Refusal::ScratchShort), all three with the scratch untouched, and [`Unsound`](Refusal::Unsound) if it is
 /// not sound; then [`ImageLength`](Refusal::ImageLength) for a target that isn't 2 to 1,024 pages of the source's capacity, and
 /// [`PagesLacking`](Refusal::PagesLacking) for one that has too few. The target then keeps every byte. As many pages as the
 /// source has are always enough.
+///
+/// Neighbouring leaf entries of totals with the same sum and count, for which [`audit`] refuses an image, are no reason here: the
+/// target is sound all the same.
 ///
 /// The capacity is written as a number: the target of an older source, with FF there, has 24.
 ///

@@ -28,13 +28,14 @@ pub enum Refusal {
     /// 17: a scratch shorter than [`scratch_bytes(n)`](crate::scratch_bytes), for an image or a source of n pages
     ScratchShort,
     /// 21: the image names no capacity, neither by an even number from 4 to 24 nor by the FF of an older image; or a page
-    /// that was met is unfit; of an audit or a change, the image is not sound, of a rebuild the source
+    /// that was met is unfit; of an audit or a change, the image is not sound, for totals also if two neighbouring leaf entries
+    /// have the same sum and count; of a rebuild, the source is not sound, where such neighbours don't count
     Unsound,
     /// 22: a withdrawal from an index of kind 2 or 3
     WithdrawalKind,
     /// 23: the index has had 1,000,000,000 changes
     ChangesFull,
-    /// 24: the change needs more pages than the image has left, or the rebuild more than the target has
+    /// 24: the cuts of the change need more pages than the image has left, or the rebuild more than the target has
     PagesLacking,
 }
 
