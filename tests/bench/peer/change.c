@@ -333,10 +333,72 @@ static void shrink_root(struct tree *tree) {
     tree->head.height -= 1;
 }
 
-/* Whether t starts entry i of a leaf, it isn't the first, and the one before has the same pair; children are 0 in both. */
-static bool heals(uint8_t *leaf, uint32_t i, uint32_t t) {
-    return i > 0 && start_of(leaf, i) == t
-        && memcmp(entry_bytes(leaf, i), entry_bytes(leaf, i - 1), ENTRY_BYTES) == 0;
+/*
+ * The level of the page whose entries separate the path's leaf from the one before it: above the leaf, the lowest one at
+ * which the path takes another entry than the first. 0 if it takes the first one everywhere, so that no leaf is before.
+ */
+static uint32_t separating_level(const struct tree *tree, const struct path *path) {
+    for (uint32_t level = 1; level < tree->head.height; level++) {
+        if (path->entry[level] > 0) {
+            return level;
+        }
+    }
+    return 0;
+}
+
+/*
+ * Whether the totals on both sides of the edge before the path's leaf are equal. Both have the pairs above the page that
+ * separates them, so they are compared from there on: down the path, and down the last entries of the pages before it.
+ */
+static bool edge_joins(const struct tree *tree, const struct path *path, uint32_t level) {
+    const uint8_t *left = page_at(tree, path->page[level]);
+    uint32_t i = path->entry[level] - 1;
+    int64_t sum = 0;
+    int32_t count = 0;
+    for (;; level--) {
+        struct entry before = entry_of(left, i);
+        struct entry after = entry_of(page_at(tree, path->page[level]), path->entry[level]);
+        sum += after.sum - before.sum;
+        count += after.count - before.count;
+        if (level == 0) {
+            return sum == 0 && count == 0;
+        }
+        left = page_at(tree, before.child);
+        i = entry_count(left) - 1;
+    }
+}
+
+/* Removes the first entry of the path's leaf; up to the separating level, entries on the path start where the leaf now does. */
+static void remove_first(struct tree *tree, const struct path *path, uint32_t level) {
+    uint8_t *leaf = page_at(tree, path->page[0]);
+    remove_entry(leaf, 0);
+    for (; level > 0; level--) {
+        set_start(page_at(tree, path->page[level]), path->entry[level], start_of(leaf, 0));
+    }
+}
+
+/* Whether entry i of a leaf, not the first, has the same pair as the one before; children are 0 in both. */
+static bool joins_before(uint8_t *leaf, uint32_t i) {
+    return memcmp(entry_bytes(leaf, i), entry_bytes(leaf, i - 1), ENTRY_BYTES) == 0;
+}
+
+/* Removes the leaf entry of the path if it joins the one before, across an edge for totals alone; whether it did. */
+static bool remove_joined(struct tree *tree, const struct path *path) {
+    uint8_t *leaf = page_at(tree, path->page[0]);
+    uint32_t i = path->entry[0];
+    if (i > 0) {
+        if (!joins_before(leaf, i)) {
+            return false;
+        }
+        remove_entry(leaf, i);
+        return true;
+    }
+    uint32_t level = separating_level(tree, path);
+    if (tree->head.kind != TOTALS || level == 0 || !edge_joins(tree, path, level)) {
+        return false;
+    }
+    remove_first(tree, path, level);
+    return true;
 }
 
 static void heal_at(struct tree *tree, uint32_t t) {
@@ -345,12 +407,9 @@ static void heal_at(struct tree *tree, uint32_t t) {
     }
     struct path path;
     find_path(tree, t, &path);
-    uint8_t *leaf = page_at(tree, path.page[0]);
-    uint32_t i = path.entry[0];
-    if (!heals(leaf, i, t)) {
+    if (!starts_leaf_entry(tree, &path, t) || !remove_joined(tree, &path)) {
         return;
     }
-    remove_entry(leaf, i);
     uint32_t top = tree->head.height - 1;
     for (uint32_t level = 0; level < top; level++) {
         if (entry_count(page_at(tree, path.page[level])) >= FEWEST_ENTRIES) {

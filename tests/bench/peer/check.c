@@ -262,3 +262,31 @@ bool page_fits(const uint8_t *page, const struct place *at) {
     bool fit = starts_fit(page, at, entries) & rest_fits(page, at, entries, FEWEST_ENTRIES);
     return fit && pairs_fit(page, at, entries);
 }
+
+/* ------------------------------------------------------------ neighbours in a leaf */
+
+/* The exact test, where the quick one fails: children are 0 in both, so whole entries are compared. */
+static bool pairs_differ(const uint8_t *leaf, uint32_t entries) {
+    const uint8_t *before = entries_of(leaf);
+    uint32_t equal = 0;
+    for (uint32_t i = 1; i < entries; i++) {
+        equal |= memcmp(before, before + ENTRY_BYTES, ENTRY_BYTES) == 0;
+        before += ENTRY_BYTES;
+    }
+    return equal == 0;
+}
+
+/*
+ * The quick test compares the low halves of sums alone, which differ in nearly all neighbours that do. It counts equal ones
+ * over all places, as unused places are known to be equal: if these are all, none in use is. A comparison of 32 bits is one
+ * that plain x86-64 has for vectors, and a test of counts beside that of sums would cost as much again.
+ */
+bool neighbours_differ(const uint8_t *leaf, uint32_t entries) {
+    const uint8_t *sums = entries_of(leaf);
+    uint32_t equal = 0;
+    for (uint32_t i = 0; i < MOST_ENTRIES - 1; i++) {
+        equal += load32(sums + ENTRY_BYTES * i) == load32(sums + ENTRY_BYTES * (i + 1));
+    }
+    uint32_t unused = entries < MOST_ENTRIES ? MOST_ENTRIES - 1 - entries : 0;
+    return equal == unused || pairs_differ(leaf, entries);
+}

@@ -245,6 +245,9 @@ struct place root_place(const struct head *head);
 bool root_fits(const uint8_t *page, const struct place *at);
 bool page_fits(const uint8_t *page, const struct place *at);
 
+/* Whether no two neighbouring entries of a fit leaf have the same pair. */
+bool neighbours_differ(const uint8_t *leaf, uint32_t entries);
+
 /* Whether a page reads as a free one. */
 bool free_page_fits(const uint8_t *page);
 

@@ -45,7 +45,8 @@ impl Even {
         pages
     }
 
-    /// Lays a page with so many entries and all below it; its number. Each stands ahead of those below it.
+    /// Lays a page with so many entries and all below it; its number. Each stands ahead of those below it. Neighbours in a leaf differ, and
+    /// its last entry from the next leaf's first, since no number of entries here is one more than a multiple of 7; above, all are alike.
     fn lay(&self, entries: usize, level: u32, start: u32, end: u32, pages: &mut Vec<Page>) -> u32 {
         let here = pages.len();
         pages.push(Page { level, entries: Vec::new() });
@@ -53,7 +54,7 @@ impl Even {
         for i in 0..entries {
             let ends = starts(i + 1);
             let child = if level == 0 { 0 } else { self.lay(self.entries(ends), level - 1, starts(i), ends, pages) };
-            let pair = Pair { sum: 1 + i as i64 % 7, count: 1 };
+            let pair = Pair { sum: if level == 0 { 1 + i as i64 % 7 } else { 1 }, count: 1 };
             pages[here].entries.push(Entry { start: starts(i), pair, child });
         }
         here as u32 + 1

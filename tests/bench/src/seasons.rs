@@ -1,5 +1,6 @@
-//! Images after a season of changes, made by the library: bookings are entered, and then replaced by others for long. Entries that no
-//! listing shows pile up, and pages are less and less full.
+//! Images after a season of changes, made by the library: bookings are entered, and then replaced by others for long. Pages are less
+//! full than they could be, and after withdrawals many are free. Entries that no listing shows are left in kinds 2 and 3 alone: for
+//! kind 1 leaf entries are as many as runs.
 
 use luwhenoka::{page_bytes, raw, scratch_bytes};
 use plain::calls::{ACCEPTED, PAGES_LACK};

@@ -66,7 +66,8 @@ pub fn booked(n: usize, bookings: &[Booking]) -> (Vec<u8>, usize) {
     (image, refused.unwrap_or(bookings.len()))
 }
 
-fn number(image: &[u8], at: usize) -> u32 {
+/// The number of four bytes at an offset.
+pub fn number(image: &[u8], at: usize) -> u32 {
     u32::from_le_bytes(image[at..at + 4].try_into().expect("4 bytes"))
 }
 

@@ -49,8 +49,9 @@ fn every_call(both: &mut Both, scratch: usize) {
     }
 }
 
-/// Trees with one page a level. Up to height 10 an instant on the way through their first entries is answered, though from
-/// height 2 on no such image is sound; any other meets a page that is unfit at its place. Height 11 is refused at the head.
+/// Trees with one page a level. Up to height 10 an instant on the way through their first entries is answered, though no such
+/// image is sound: neighbours in the leaf are equal, and from height 2 on any other instant meets a page that is unfit at its
+/// place. Height 11 is refused at the head.
 pub fn heights(both: &mut Both) {
     for height in 1..=11 {
         both.lend(&one_page_a_level(height));

@@ -4,6 +4,7 @@
 mod both;
 mod capacity;
 mod damage;
+mod edges;
 mod loads;
 mod refusals;
 
@@ -18,6 +19,7 @@ pub fn compare() {
     capacity::fields(&mut both);
     capacity::heights(&mut both);
     damage::bounds(&mut both);
+    edges::edges(&mut both, &images);
     for image in &images {
         damage::bytes(&mut both, image);
         damage::numbers(&mut both, image);
