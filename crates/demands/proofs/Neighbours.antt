@@ -1,10 +1,12 @@
 -- Document 02, (iv): leaf entries number the runs, the tree's pages are few by them, and an index that is empty again is one leaf with one
 -- entry. Assumes nothing.
 use Prim.Native.Nat.{ℕ, zero, suc, _+_, _*_, _-_, _≤_, _<_}
-use mathlib.Core.Path.{_≡_, refl, sym, ap, _∙_, subst}
-use mathlib.Core.Bool.{true}
+use mathlib.Core.Path.{_≡_, refl, sym, ap, _∙_, subst, subst⁻¹}
+use mathlib.Core.Logic.{⊎-elim}
+use mathlib.Core.Bool.{true, cond}
 use mathlib.Core.List.{List, [], _∷_}
 use native.Mathlib.Omega.{arith}
+use lib.Dec.{eqb}
 use lib.ListN.{length}
 use borrow.Author.Tests.{eq-eqb}
 use Rattle.lists.specs.Lists.{all-none}
@@ -24,27 +26,34 @@ use Rattle.image.proofs.Runs.{differ-joined}
 use Rattle.image.proofs.Tiles.{Tiles, done, more, tiles-le, neighbours-turn}
 use Rattle.soundness.proofs.Sound.{the-head, the-tree, sound-facts, sound-parts, sound-old}
 use Rattle.soundness.proofs.Entries.{full-entries, apart-number}
-use Rattle.tree.specs.Tree.{Tree}
+use Rattle.tree.specs.Tree.{Tree, pair-at}
 use Rattle.tree.specs.Cut.{State}
-use Rattle.tree.specs.Shape.{Leaf, root-least}
+use Rattle.tree.specs.Shape.{Leaf, Differs, root-least, Distinct}
 use Rattle.tree.specs.Runs.{runs-of}
 use Rattle.tree.specs.Counts.{pages-of}
+use Rattle.tree.proofs.Seg.{le-or-lt}
 use Rattle.tree.proofs.Few.{tree-few}
 use Rattle.invariant.specs.Invariant.{Own-structure}
 use Rattle.invariant.proofs.From.Load.{state-in}
 use Rattle.invariant.proofs.From.Shape.{root-fewest}
 use Rattle.invariant.proofs.From.Canonical.{canonical}
-use Rattle.invariant.proofs.From.Invariant.{sound-structure}
+use Rattle.invariant.proofs.From.Invariant.{sound-structure, sound-invariant}
+use Rattle.invariant.proofs.From.Look.{look-invariant}
+use Rattle.invariant.proofs.From.Starts.{started, start-told}
 use Rattle.invariant.proofs.From.Runs.{walked-runs}
 use Rattle.invariant.proofs.To.Height.{height-most}
 use Rattle.invariant.proofs.To.Sound.{tree-found}
-use Rattle.calls.specs.Calls.{head, runs-over, full-runs}
+use Rattle.calls.specs.Calls.{Instant, head, instant, runs-over, full-runs}
+use Rattle.calls.specs.Index.{index-instant}
 use Rattle.calls.specs.Changes.{Change}
 use Rattle.book.specs.Book.{empty-book, entered-all, book-of, items-pair, book-pair}
 use Rattle.claims.specs.Trace.{Trace}
 use Rattle.claims.specs.Demands.{Same-changes}
 use Rattle.claims.specs.Neighbours.{As-the-runs, Neighbours-joined}
-use Rattle.answers.proofs.Own.{sound-own}
+use Rattle.claims.specs.Until.{Holds-until}
+use Rattle.answers.proofs.Own.{sound-own, own-instant}
+use Rattle.answers.proofs.Sound.{sound-status, sound-pair}
+use Rattle.answers.proofs.Until.{until-when}
 use Rattle.answers.proofs.Full.{full-tiles}
 use Rattle.demands.proofs.Book.Books.{book-same-changes}
 use Rattle.demands.proofs.Traces.{Reached, reached, book-kind}
@@ -108,9 +117,80 @@ module _ (half : ℕ) (img : List ℕ) (two : 2 ≤ half) (bytes : Bytes img) (f
       low zero e n = e
       low (suc l) e n = absurd (omega (arith, few-pages, one))
 
+  -- ---- an instant's start and end are its run's
+
+  distinct : Distinct half (combine (h .kind)) (Y .tree)
+  unfolding image-of
+  distinct = sound-invariant half img some fits .distinct (eq-eqb _ 1 kind)
+
+  found : (u : ℕ) → look-up half img u .pair ≡ pair-at (combine (h .kind)) (Y .tree) u
+  found u = look-invariant half img some (sound-facts half img old) Y (structure .shown) u .looked .pair
+
+  -- the answer turns where a leaf entry starts
+  turns : (t : ℕ) → t < END → let s = look-up half img t .start in 0 < s → look-up half img s .pair ≡ look-up half img (s - 1) .pair → ⊥
+  unfolding Distinct
+  turns t below later same =
+      let s : ℕ = look-up half img t .start in
+      let e = start-told half img some (sound-facts half img old) Y (structure .shown) t in
+      let turn = subst⁻¹ (λ z. Differs (pair-at (combine (h .kind)) (Y .tree)) z) e
+      (started half (Differs (pair-at (combine (h .kind)) (Y .tree))) (Y .tree .level) t (distinct .spans) (omega arith) below) in
+      turn later (sym (found s) ∙ (same ∙ found (s - 1)))
+
+  own : (u : ℕ) → index-instant u img ≡ instant half u img
+  own u = own-instant (sound-own half img old) u
+
+  answered : (u : ℕ) → u < END → index-instant u img .status ≡ 0
+  answered u l = ap (λ (a : Instant). a .status) (own u) ∙ sound-status half img old u l
+
+  pair-is : (u : ℕ) → u < END → index-instant u img .pair ≡ look-up half img u .pair
+  pair-is u l = ap (λ (a : Instant). a .pair) (own u) ∙ sound-pair half img old u l
+
+  start-is : (u : ℕ) → u < END → index-instant u img .start ≡ look-up half img u .start
+  unfolding instant
+  start-is u l =
+      ap (λ (a : Instant). a .start) (own u) ∙ ap (λ n. cond (eqb n 0) (look-up half img u .start) 0) (sound-status half img old u l)
+
+  module _ (t : ℕ) (below : t < END) where
+    abbrev a : Instant
+    a = index-instant t img
+
+    holds : Holds-until t img a
+    holds = until-when .holds t img (answered t below)
+
+    -- at the start, where it isn't 0
+    turned : (s : ℕ) → s < END → a .start ≡ s → 0 < s → index-instant (s - 1) img .pair ≡ a .pair → ⊥
+    turned s high e later same =
+        turns t below (omega (arith, start-is t below)) (subst (λ z. look-up half img z .pair ≡ look-up half img (z - 1) .pair)
+        (sym e ∙ start-is t below)
+        (sym (pair-is s high)
+        ∙ (ap (λ (b : Instant). b .pair) (holds .same s (omega arith) (omega (arith, holds .before-end, holds .begun)))
+        ∙ (sym same ∙ pair-is (s - 1) (omega arith)))))
+
+  run-told : (t : ℕ) → t < END → let b = index-instant t img in
+      (0 < b .start → index-instant (b .start - 1) img .pair ≡ b .pair → ⊥)
+      × (b .end < END → index-instant (b .end) img .pair ≡ b .pair → ⊥)
+  run-told t below = (turned t below (index-instant t img .start) (omega (arith, holds t below .begun)) refl, next)
+    where
+      next : index-instant t img .end < END → index-instant (index-instant t img .end) img .pair ≡ index-instant t img .pair → ⊥
+      next high same =
+          let e : ℕ = index-instant t img .end in
+          let here = holds t below in
+          let there = holds e high in
+          let last : index-instant (e - 1) img ≡ index-instant t img =
+          here .same (e - 1) (omega (arith, here .begun, here .before-end)) (omega (arith, here .before-end)) in
+          let begins : index-instant e img .start ≡ e =
+          ⊎-elim (λ (k : e ≤ index-instant e img .start). omega (arith, there .begun, k))
+          (λ (k : index-instant e img .start < e).
+          let over : index-instant (e - 1) img ≡ index-instant e img =
+          there .same (e - 1) (omega arith) (omega (arith, there .before-end)) in
+          let ends : e ≡ index-instant e img .end = ap (λ (b : Instant). b .end) (sym last ∙ over) in
+          absurd (omega (arith, there .before-end, ends)))
+          (le-or-lt e (index-instant e img .start)) in
+          turned e high e high begins (omega (arith, here .before-end)) (ap (λ (b : Instant). b .pair) last ∙ sym same)
+
   as-the-runs : As-the-runs half img
   unfolding head
-  as-the-runs = record { numbered = numbered; few-pages = few-pages; one-run = one-run }
+  as-the-runs = record { numbered = numbered; few-pages = few-pages; run-told = run-told; one-run = one-run }
 
 -- ---- an index that is empty again
 

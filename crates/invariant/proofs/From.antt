@@ -12,3 +12,4 @@ pub mod Runs
 pub mod Invariant
 pub mod Canonical
 pub mod Look
+pub mod Starts

@@ -39,12 +39,12 @@ pub record Looked (w : Lookup) (p : Pair) (pages : ℕ) : Type 0 where
 
 module _ (half : ℕ) (h : Head) (img : List ℕ) (t : ℕ) where
   -- the page is fit in its context the entry found on a page is the tree's
-  record Step (l : ℕ) (p : ℕ) (es : Nodes l) : Type 0 where
-    inside : index-of t (entries-of half (page-at half img p)) < entry-count (page-at half img p)
-    same : entry-at half (page-at half img p) (index-of t (entries-of half (page-at half img p))) ≡ node-of l t es .entry
-    found : index-of t (flat es) < length es
+  pub record Step (l : ℕ) (p : ℕ) (es : Nodes l) : Type 0 where
+    pub inside : index-of t (entries-of half (page-at half img p)) < entry-count (page-at half img p)
+    pub same : entry-at half (page-at half img p) (index-of t (entries-of half (page-at half img p))) ≡ node-of l t es .entry
+    pub found : index-of t (flat es) < length es
 
-  step : (l : ℕ) (at : Page-context) (x : Node (Subtree (suc l))) → at .level ≡ l → l < free-level → 1 ≤ fewest half at
+  pub step : (l : ℕ) (at : Page-context) (x : Node (Subtree (suc l))) → at .level ≡ l → l < free-level → 1 ≤ fewest half at
       → PageFit half h at (page-at half img (x .entry .child)) → Stores (suc l) (image-of half img .page) x
       → Step l (x .entry .child) (x .subtree)
   unfolding Stores image-of entries-in node-of
@@ -65,7 +65,7 @@ module _ (half : ℕ) (h : Head) (img : List ℕ) (t : ℕ) where
         found = omega (arith, rw es at c);
       }
 
-  deeper : (l : ℕ) (x : Node (Subtree (suc l))) → index-of t (flat (x .subtree)) < length (x .subtree)
+  pub deeper : (l : ℕ) (x : Node (Subtree (suc l))) → index-of t (flat (x .subtree)) < length (x .subtree)
       → Stores (suc l) (image-of half img .page) x
       → Stores l (image-of half img .page) (node-of l t (x .subtree))
   unfolding Stores node-of
