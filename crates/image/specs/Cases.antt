@@ -170,7 +170,7 @@ alike-in kind =
 
 pub record Cases : Type 0 where
   -- An audit of a sound image looks at each page once.
-  pub whole-sound : sound-before 2 whole ≡ true
+  pub whole-sound : sound 2 whole ≡ true
   pub whole-audit : audit-looks 2 whole ≡ 3 ∷ 1 ∷ 2 ∷ 5 ∷ 4 ∷ 6 ∷ []
   -- It ends at an unfit page: no page after it is looked at, in the tree or elsewhere.
   pub left-hurt : audit-looks 2 (hurt 1 whole) ≡ 3 ∷ 1 ∷ []

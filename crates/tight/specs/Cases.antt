@@ -10,7 +10,7 @@ use Rattle.lists.specs.Lists.{listed}
 use Rattle.rule.specs.Pairs.{pair, none}
 use Rattle.page.specs.Entries.{entry}
 use Rattle.image.specs.Images.{tree, never-used, image-bytes, fresh}
-use Rattle.image.specs.Sound.{sound-before}
+use Rattle.image.specs.Sound.{sound}
 use Rattle.image.specs.Listing.{Run, run, walk-over}
 use Rattle.tight.specs.Tight.{page-entries, sizes, tight-cells, tight, too-small}
 use Rattle.tight.specs.Counts.{pages-on, runs-walked}
@@ -97,6 +97,6 @@ pub record Tight-cases : Type 0 where
   pub small-at-full : map (λ n. too-small 2 n 4) (1 ∷ 2 ∷ []) ≡ true ∷ false ∷ []
   -- The image is sound, and a walk over all time finds the runs. On each level it has the pages told. Leaf entries are counted as they stand,
   -- also where two neighbours have the same total.
-  pub sound-five : (sound-before 2 (image 4 5) ≡ true) × (walk-over 2 (image 4 5) 0 4294967295 .runs ≡ runs 5)
+  pub sound-five : (sound 2 (image 4 5) ≡ true) × (walk-over 2 (image 4 5) 0 4294967295 .runs ≡ runs 5)
   pub counted : (listed 3 (pages-on 2 (image 4 5)) ≡ 2 ∷ 1 ∷ 0 ∷ []) × (runs-walked 2 (image 4 5) ≡ 5)
   pub not-joined : runs-walked 2 (image-bytes 2 (tight 2 2 1 0 100 (run 0 none ∷ run 10 none ∷ []))) ≡ 2
