@@ -1,4 +1,6 @@
 // Numbers in bytes: reading and writing them at an offset of a slice, and runs of one byte.
+#![tactic(auto)]
+
 pub mod fill;
 pub mod read;
 mod sign;

@@ -1,1 +1,2 @@
 // The image as a whole: its definitions stand in specs/.
+#![tactic(auto)]

@@ -39,12 +39,12 @@ module _ {A : Type 0} {Q : A → Type 0} where
   pub all_take : {es : List A} (k : ℕ) → All Q es → All Q (take k es)
   all_take zero a = all_none
   all_take (suc k) all_none = all_none
-  all_take (suc k) (all_more q r) = all_more q (all_take k r)
+  all_take (suc k) (all_more {x = x} {xs = xs} q r) = all_more q (all_take {es = xs} k r)
 
   pub all_drop : {es : List A} (k : ℕ) → All Q es → All Q (drop k es)
   all_drop zero a = a
   all_drop (suc k) all_none = all_none
-  all_drop (suc k) (all_more q r) = all_drop k r
+  all_drop (suc k) (all_more {x = x} {xs = xs} q r) = all_drop {es = xs} k r
 
   pub all_splice : {xs es : List A} (i : ℕ) → All Q xs → All Q es → All Q (splice i xs es)
   unfolding splice

@@ -6,6 +6,8 @@
 //     32        4 × K   starts (u32)
 //     32 + 4K   16 × K  entries: sum (i64), count (i32), child (u32, 0 in a leaf)
 // A free page has 255 as its level and its next page at 4; the head has ten u32. All other bytes are FF.
+#![tactic(auto)]
+
 use layout::SLOTS;
 use rule::Pair;
 
@@ -20,7 +22,7 @@ pub mod slots;
 pub mod write;
 
 // An entry of a tree page: from start up to the next entry's start its pair counts; a leaf's child is 0.
-#[derive(Drop)]
+#[derive(Clone, Copy)]
 pub struct Entry {
     pub start: u32,
     pub pair: Pair,
@@ -28,7 +30,7 @@ pub struct Entry {
 }
 
 // The numbers of page 0, in the order in which they stand there.
-#[derive(Drop)]
+#[derive(Clone, Copy)]
 pub struct Head {
     pub pages: u32,
     pub height: u32,
@@ -44,7 +46,7 @@ pub struct Head {
 
 // A decoded tree page: its level, its count of entries, and an array for each of an entry's numbers. There is a slot more
 // than a written page has, for the entry that makes it split. What stands past its length means nothing.
-#[derive(Drop)]
+#[derive(Clone, Copy)]
 pub struct Page {
     pub level: u32,
     pub len: usize,
@@ -56,7 +58,7 @@ pub struct Page {
 
 // A page's context, document 01's place of a page in the tree: the level expected there, whether it is the root's, the span of the entry
 // that leads to it, and what the absolute sums and counts of the entries above it add to.
-#[derive(Drop)]
+#[derive(Clone, Copy)]
 pub struct PageContext {
     pub level: u32,
     pub is_root: bool,

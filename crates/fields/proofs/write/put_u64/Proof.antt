@@ -20,7 +20,7 @@ returns c =
     let s = args.s.now in
     let o = args.o in
     let v = args.v in
-    second.put_u322.ensures
+    second.put_u32-2.ensures
     ∙ ap (λ l. patch l (o + 4) (digits 4 (v / 4294967296))) first.put_u32.ensures
     ∙ patch_patch_next s o (digits 4 (v % 4294967296)) (digits 4 (v / 4294967296)) (o + 4)
     (ap (λ k. o + k) (length_digits 4 (v % 4294967296))) (omega arith)

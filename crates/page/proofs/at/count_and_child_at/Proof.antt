@@ -21,7 +21,7 @@ returns c =
     let s = args.s.now in
     let o = entry_offset args.half args.i + 8 in
     let r = c.get_u64.result in
-    let low : num (part s o 4) < 2 ^ 32 = u32.at_fits s o (bytes_of s known.shared_slice_known.given) in
+    let low : num (part s o 4) < 2 ^ 32 = u32.at_fits s o (bytes_of s known.shared_slice_known-1.given) in
     let both : r ≡ num (part s o 4) + 2 ^ 32 * num (part s (o + 4) 4) =
     c.get_u64.ensures ∙ ap (λ p. num (part s (p + 8) 8)) placed.entry_offset.ensures ∙ num_part_add s o 4 4 (omega arith) in
     let count : r % 2 ^ 32 ≡ num (part s o 4) = omega arith in

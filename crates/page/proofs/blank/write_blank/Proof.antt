@@ -21,7 +21,7 @@ returns c =
     let n : ℕ = sized.page_size.result - 8 in
     put_rest s (args.level ∷ args.second ∷ []) 8 n refl (omega arith)
     (put_next s 0 (args.level ∷ []) args.second 4 refl (omega arith) (put_first s 0 args.level first.put_u32.ensures)
-    second.put_u322.ensures) filled.fill.ensures
+    second.put_u32-2.ensures) filled.fill.ensures
     ∙ joined_two args.level args.second (unused n)
     ∙ ap (λ k. u32_bytes args.level ++ (u32_bytes args.second ++ unused (k - 8))) sized.page_size.ensures
 

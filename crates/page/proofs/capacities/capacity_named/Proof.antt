@@ -4,13 +4,13 @@ use Rattle.page.specs.Layout.{capacity_named}
 use Rattle.page.proofs.capacities.capacity_named.Statement.{statement}
 use Rattle.page.proofs.capacities.capacity_named.Tie as tie
 
-returns : tie.Need-returns
+returns : tie.Need-returns-then-field-eq-NO_FIELD
 unfolding capacity_named
-returns c = rw (eq-eqb _ _ c.if1.true)
+returns c = rw (eq-eqb _ _ c.if-field-eq-NO_FIELD.true)
 
-returns_2 : tie.Need-returns-2
+returns_2 : tie.Need-returns-else-field-eq-NO_FIELD
 unfolding capacity_named
-returns_2 c = rw (ne_eqb _ _ c.if1.false)
+returns_2 c = rw (ne_eqb _ _ c.if-field-eq-NO_FIELD.false)
 
 pub capacity_named_spec : {M : Type 1} → statement M
 capacity_named_spec = tie.close (tie.spec returns returns_2)

@@ -17,7 +17,7 @@ returns c =
     let o : ℕ = args.o in
     put_next s o (args.x ∷ args.y ∷ []) args.z (o + 8) refl (omega arith)
     (put_next s o (args.x ∷ []) args.y (o + 4) refl (omega arith) (put_first s o args.x first.put_u32.ensures)
-    second.put_u322.ensures) third.put_u323.ensures
+    second.put_u32-2.ensures) third.put_u32-3.ensures
 
 pub put_three_spec : {M : Type 1} → statement M
 put_three_spec =

@@ -18,15 +18,15 @@ returns c =
     let pages = height.before in
     λ j. record {
       pages = pages.get_u32.ensures j;
-      height = height.get_u322.ensures j;
-      root = root.get_u323.ensures j;
-      free = free.get_u324.ensures j;
-      chain = chain.get_u325.ensures j;
-      mark = mark.get_u326.ensures j;
-      kind = kind.get_u327.ensures j;
-      window = window.get_u328.ensures j;
-      changes = changes.get_u329.ensures j;
-      capacity = c.get_u3210.ensures j;
+      height = height.get_u32-2.ensures j;
+      root = root.get_u32-3.ensures j;
+      free = free.get_u32-4.ensures j;
+      chain = chain.get_u32-5.ensures j;
+      mark = mark.get_u32-6.ensures j;
+      kind = kind.get_u32-7.ensures j;
+      window = window.get_u32-8.ensures j;
+      changes = changes.get_u32-9.ensures j;
+      capacity = c.get_u32-10.ensures j;
     }
 
 pub read_head_spec : {M : Type 1} → statement M

@@ -24,7 +24,7 @@ returns c =
     let zs : List ℕ = h.kind ∷ h.window ∷ h.changes ∷ [] in
     put_next s 0 (xs ++ (ys ++ zs)) h.capacity 36 refl (omega arith)
     (put_more s 0 (xs ++ ys) zs 24 refl (omega arith)
-    (put_more s 0 xs ys 12 refl (omega arith) first.put_three.ensures second.put_three2.ensures) third.put_three3.ensures)
+    (put_more s 0 xs ys 12 refl (omega arith) first.put_three.ensures second.put_three-2.ensures) third.put_three-3.ensures)
     fourth.put_u32.ensures
 
 pub write_numbers_spec : {M : Type 1} → statement M

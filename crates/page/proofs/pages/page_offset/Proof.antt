@@ -6,7 +6,7 @@ use Rattle.page.specs.Layout.{page_size}
 use Rattle.page.proofs.pages.page_offset.Statement.{statement}
 use Rattle.page.proofs.pages.page_offset.Tie as tie
 
-product : (c : tie.After-page-size)
+product : (c : tie.After-page_size)
     → let args = c.before.args in c.page_size.result * args.p ≡ page_size args.half * args.p
 product c = ap (λ k. k * c.before.args.p) c.page_size.ensures
 

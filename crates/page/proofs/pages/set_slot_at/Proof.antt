@@ -12,9 +12,9 @@ returns c =
     let sized = written.before.before in
     let found = sized.before in
     let args = found.before.before.args in
-    let o = found.page_offset.ensures in
+    let o = found.page_offset-a.ensures in
     let m = sized.page_size.ensures in
-    back_page args.img.now (page_size args.half) args.p o m (omega arith) written.set_slot.auto.1.0
+    back_page args.img.now (page_size args.half) args.p o m (omega arith) written.set_slot.auto.s
     (written.set_slot.ensures
     ∙ ap (with_entry args.half args.i args.e) (lent_page args.img.now (page_size args.half) args.p o m))
 

@@ -11,8 +11,8 @@ returns c =
     let sized = written.before.before in
     let found = sized.before in
     let args = found.before.before.args in
-    back_page args.img.now (page_size args.half) args.p found.page_offset.ensures
-    sized.page_size.ensures (omega arith) written.write_blank.auto.1.0
+    back_page args.img.now (page_size args.half) args.p found.page_offset-a.ensures
+    sized.page_size.ensures (omega arith) written.write_blank.auto.s
     written.write_blank.ensures
 
 pub write_blank_at_spec : {M : Type 1} → statement M

@@ -11,7 +11,7 @@ returns c =
     let written = c.before.before in
     let sized = written.before.before in
     let img = sized.before.before.args.img.now in
-    back_patch img 0 sized.page_size.result _ (omega arith) (omega arith) written.write_head.auto.1.0
+    back_patch img 0 sized.page_size.result _ (omega arith) (omega arith) written.write_head.auto.s
     ∙ ap (patch img 0) written.write_head.ensures
 
 pub write_head_at_spec : {M : Type 1} → statement M

@@ -21,13 +21,13 @@ record Got (half : ℕ) (s : List ℕ) (i : ℕ) (ts : List ℕ) (us vs : List �
   counts : Filled 25 (pos 0) (λ j. (pair_at half s j).count) i vs
   children : Filled 25 0 (λ j. child_at half s j) i ws
 
-abbrev invariant_loop : tie.invariant-loop
+abbrev invariant_loop : tie.invariant-loop-i
 invariant_loop half s starts₀ sums₀ counts₀ children₀ past i₀ starts sums counts children i = Got half s i starts sums counts children
 
-abbrev decreases_loop : tie.decreases-loop
+abbrev decreases_loop : tie.decreases-loop-i
 decreases_loop half s starts₀ sums₀ counts₀ children₀ past i₀ starts sums counts children i = past - i
 
-loop_holds : tie.Need-loop-init invariant_loop decreases_loop
+loop_holds : tie.Need-loop-i-init invariant_loop decreases_loop
 loop_holds c =
     let args = c.before.before.args in
     let half = args.half in
@@ -40,7 +40,7 @@ loop_holds c =
       children = filled_none 25 0 (λ j. child_at half s j) _ refl;
     }
 
-loop_again : tie.Need-loop-preserved invariant_loop decreases_loop
+loop_again : tie.Need-loop-i-preserved invariant_loop decreases_loop
 loop_again c =
     let count = c.before in
     let sum = count.before in
@@ -49,17 +49,17 @@ loop_again c =
     let args = at.before.before.before.args in
     let half = args.half in
     let s : List ℕ = args.s.now in
-    let i : ℕ = at.loop.i in
-    let g = at.loop.invariant in
+    let i : ℕ = at.loop-i.i in
+    let g = at.loop-i.invariant in
     let h : i < 25 = omega arith in
     record {
       within = omega arith;
-      starts = filled_more 25 0 (λ j. start_at s j) i at.loop.starts start.start_at.result h start.start_at.ensures g.starts;
-      sums = filled_more 25 (pos 0) (λ j. (pair_at half s j).sum) i at.loop.sums _ h
+      starts = filled_more 25 0 (λ j. start_at s j) i at.loop-i.starts start.start_at.result h start.start_at.ensures g.starts;
+      sums = filled_more 25 (pos 0) (λ j. (pair_at half s j).sum) i at.loop-i.sums _ h
           (result_is w64 sum.sum_at.type_inv sum.sum_at.ensures) g.sums;
-      counts = filled_more 25 (pos 0) (λ j. (pair_at half s j).count) i at.loop.counts _ h
+      counts = filled_more 25 (pos 0) (λ j. (pair_at half s j).count) i at.loop-i.counts _ h
           (result_is w32 count.count_at.type_inv count.count_at.ensures) g.counts;
-      children = filled_more 25 0 (λ j. child_at half s j) i at.loop.children c.child_at.result h c.child_at.ensures
+      children = filled_more 25 0 (λ j. child_at half s j) i at.loop-i.children c.child_at.result h c.child_at.ensures
           g.children;
     }
 
@@ -70,12 +70,12 @@ returns c =
     let args = at.before.before.before.args in
     let half = args.half in
     let s : List ℕ = args.s.now in
-    let g = at.loop.invariant in
+    let g = at.loop-i.invariant in
     record {
       level = c.before.level_of.ensures;
       len = c.entry_count.ensures;
       entries = shown_entries _ half s c.entry_count.ensures (λ i h.
-          let l : i < at.loop.i = omega arith in
+          let l : i < at.loop-i.i = omega arith in
           λ j. record {
             start = g.starts.holds i l j;
             pair = record { sum = g.sums.holds i l j; count = g.counts.holds i l j };

@@ -14,9 +14,9 @@ returns c =
     let start = placed.before.before.before.before in
     let first = start.before in
     let args = first.before.before.before.args in
-    let e : start.fill.new.0 ≡ patch args.s.now (start_offset args.i) (unused 4) =
+    let e : start.fill.new.s ≡ patch args.s.now (start_offset args.i) (unused 4) =
     start.fill.ensures ∙ ap (λ o. patch args.s.now o (unused 4)) first.start_offset.ensures in
-    entry.fill2.ensures ∙ (λ j. patch (e j) (placed.entry_offset.ensures j) (unused 16))
+    entry.fill-2.ensures ∙ (λ j. patch (e j) (placed.entry_offset.ensures j) (unused 16))
 
 pub clear_slot_spec : {M : Type 1} → statement M
 clear_slot_spec =

@@ -22,13 +22,13 @@ record Opened (half : ℕ) (before : List ℕ) (n i j : ℕ) (s : List ℕ) : Ty
   bytes : (level : ℕ) (es : List Entry) → length es ≡ n → before ≡ page_bytes half level (n + 1) es
       → s ≡ page_bytes half level (n + 1) (opened j es)
 
-abbrev invariant_loop : tie.invariant-loop
+abbrev invariant_loop : tie.invariant-loop-j
 invariant_loop half s₀ i e n j₀ s j = Opened half s₀ n i j s
 
-abbrev decreases_loop : tie.decreases-loop
+abbrev decreases_loop : tie.decreases-loop-j
 decreases_loop half s₀ i e n j₀ s j = j
 
-loop_holds : tie.Need-loop-init invariant_loop decreases_loop
+loop_holds : tie.Need-loop-j-init invariant_loop decreases_loop
 loop_holds c = record {
   from = omega arith;
   within = omega arith;
@@ -49,21 +49,21 @@ step half level number j k es q h l moved read before =
     ∙ page_copied half level number (opened (suc k) es) k (suc k) (omega arith) (omega arith) (omega arith) (omega arith)
     ∙ ap (page_bytes half level number) (opened_more k es no_entry h)
 
-loop_again : tie.Need-loop-preserved invariant_loop decreases_loop
+loop_again : tie.Need-loop-j-preserved invariant_loop decreases_loop
 loop_again c =
     let moved = c.before.before in
     let read = moved.before in
     let turn = read.before.before.before in
-    let at = turn.before in
-    let j = at.loop.j in
+    let at = turn in
+    let j = at.loop-j.j in
     record {
       from = omega arith;
       within = omega arith;
-      few = at.loop.invariant.few;
+      few = at.loop-j.invariant.few;
       size = omega arith;
       bytes = λ level es n e.
           step _ level _ j (j - 1) es (omega arith) (omega arith) (omega arith) moved.set_slot.ensures read.entry_at.ensures
-          (at.loop.invariant.bytes level es n e);
+          (at.loop-j.invariant.bytes level es n e);
     }
 
 -- the entry is written, and the page says how many it has
@@ -85,13 +85,13 @@ returns c level es within e =
     let at = left.before in
     let put = at.before.before.before in
     let counted = put.before.before in
-    let start = counted.before.before.before in
+    let start = counted.before in
     let half = start.args.half in
-    let n = counted.entry_count.result in
-    let same : length es ≡ n = sym (counted.entry_count.ensures ∙ tree_count half level es within (omega arith) e) in
-    let i : at.loop.j ≡ start.args.i = omega arith in
-    written half level n start.args.i es start.args.e same at.loop.invariant.few (omega arith) set.set_slot2.ensures
-    (at.loop.invariant.bytes level es same (tree_numbered half level es (n + 1) e put.put_u32.ensures)
+    let n = counted.entry_count-n.result in
+    let same : length es ≡ n = sym (counted.entry_count-n.ensures ∙ tree_count half level es within (omega arith) e) in
+    let i : at.loop-j.j ≡ start.args.i = omega arith in
+    written half level n start.args.i es start.args.e same at.loop-j.invariant.few (omega arith) set.set_slot-2.ensures
+    (at.loop-j.invariant.bytes level es same (tree_numbered half level es (n + 1) e put.put_u32.ensures)
     ∙ ap (λ k. page_bytes half level (n + 1) (opened k es)) i)
 
 pub insert_slot_spec : {M : Type 1} → statement M

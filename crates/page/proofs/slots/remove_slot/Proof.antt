@@ -24,13 +24,13 @@ record Closed (half : ℕ) (before : List ℕ) (n i j : ℕ) (s : List ℕ) : Ty
   bytes : (level : ℕ) (es : List Entry) → length es ≡ n + 1 → before ≡ page_bytes half level n es
       → s ≡ page_bytes half level n (closed j (splice i [] es) es)
 
-abbrev invariant_loop : tie.invariant-loop
+abbrev invariant_loop : tie.invariant-loop-j
 invariant_loop half s₀ i n last j₀ s j = Closed half s₀ n i j s
 
-abbrev decreases_loop : tie.decreases-loop
+abbrev decreases_loop : tie.decreases-loop-j
 decreases_loop half s₀ i n last j₀ s j = last - j
 
-loop_holds : tie.Need-loop-init invariant_loop decreases_loop
+loop_holds : tie.Need-loop-j-init invariant_loop decreases_loop
 loop_holds c = record {
   from = omega arith;
   within = omega arith;
@@ -52,20 +52,20 @@ step half level number i j es h g l moved read before =
     ∙ page_copied half level number (closed j rs es) (suc j) j (omega arith) (omega arith) (omega arith) (omega arith)
     ∙ ap (page_bytes half level number) (closed_more i j es no_entry h g ∙ ap (λ k. closed k rs es) (sym (add-one j)))
 
-loop_again : tie.Need-loop-preserved invariant_loop decreases_loop
+loop_again : tie.Need-loop-j-preserved invariant_loop decreases_loop
 loop_again c =
     let moved = c.before.before in
     let read = moved.before in
     let turn = read.before.before.before in
-    let at = turn.before in
+    let at = turn in
     record {
       from = omega arith;
       within = omega arith;
-      few = at.loop.invariant.few;
+      few = at.loop-j.invariant.few;
       size = omega arith;
       bytes = λ level es n e.
-          step _ level _ _ at.loop.j es at.loop.invariant.from (omega arith) (omega arith) moved.set_slot.ensures
-          read.entry_at.ensures (at.loop.invariant.bytes level es n e);
+          step _ level _ _ at.loop-j.j es at.loop-j.invariant.from (omega arith) (omega arith) moved.set_slot.ensures
+          read.entry_at.ensures (at.loop-j.invariant.bytes level es n e);
     }
 
 -- the last slot is unused, and the page says how many it has
@@ -88,13 +88,13 @@ returns c level es within e =
     let at = left.before in
     let put = at.before.before.before in
     let counted = put.before.before in
-    let start = counted.before.before.before in
+    let start = counted.before in
     let half = start.args.half in
-    let n = counted.entry_count.result - 1 in
-    let same : length es ≡ n + 1 = omega (arith, counted.entry_count.ensures ∙ tree_count half level es within (omega arith) e) in
-    let j : at.loop.j ≡ n = omega arith in
-    cleared half level n start.args.i es same at.loop.invariant.few (omega arith) clear.clear_slot.ensures
-    (at.loop.invariant.bytes level es same (tree_numbered half level es n e put.put_u32.ensures)
+    let n = counted.entry_count-n.result - 1 in
+    let same : length es ≡ n + 1 = omega (arith, counted.entry_count-n.ensures ∙ tree_count half level es within (omega arith) e) in
+    let j : at.loop-j.j ≡ n = omega arith in
+    cleared half level n start.args.i es same at.loop-j.invariant.few (omega arith) clear.clear_slot.ensures
+    (at.loop-j.invariant.bytes level es same (tree_numbered half level es n e put.put_u32.ensures)
     ∙ ap (λ k. page_bytes half level n (closed k (splice start.args.i [] es) es)) j)
 
 pub remove_slot_spec : {M : Type 1} → statement M

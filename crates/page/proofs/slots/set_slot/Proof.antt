@@ -10,10 +10,10 @@ use Rattle.page.specs.Layout.{with_entry}
 use Rattle.page.proofs.slots.set_slot.Statement.{statement}
 use Rattle.page.proofs.slots.set_slot.Tie as tie
 
-sum_fits : (c : tie.After-struct-told) → SFits w64 c.before.before.before.args.e.pair.sum
+sum_fits : (c : tie.After-struct_told-1) → SFits w64 c.before.before.before.args.e.pair.sum
 sum_fits c = search rules
 
-count_fits : (c : tie.After-struct-told) → SFits w32 c.before.before.before.args.e.pair.count
+count_fits : (c : tie.After-struct_told-1) → SFits w32 c.before.before.before.args.e.pair.count
 count_fits c = search rules
 
 returns : tie.Need-returns

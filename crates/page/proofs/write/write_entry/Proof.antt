@@ -29,19 +29,19 @@ returns c =
     let entered = first.before.before.before in
     let args = entered.args in
     let s : List ℕ = patch args.s.now (start_offset args.i) (u32_bytes args.start) in
-    let q : placed.entry_offset.result ≡ entry_offset args.half args.i = placed.entry_offset.ensures in
+    let q : placed.entry_offset-o.result ≡ entry_offset args.half args.i = placed.entry_offset-o.ensures in
     let o : ℕ = entry_offset args.half args.i in
     let k : to_z w64 (of_z w64 args.sum) ≡ args.sum = to_z-of_z w64 args.sum entered.ranges.sum in
     let l : to_z w32 (of_z w32 args.count) ≡ args.count = to_z-of_z w32 args.count entered.ranges.count in
-    let f : sum.put_i64.new.0 ≡ patch s o (i64_bytes args.sum) = sum.put_i64.ensures
+    let f : sum.put_i64.new.s ≡ patch s o (i64_bytes args.sum) = sum.put_i64.ensures
     ∙ (λ j. patch ((start.put_u32.ensures ∙ ap (λ p. patch args.s.now p (u32_bytes args.start)) first.start_offset.ensures) j)
     (q j) (i64_bytes (k j))) in
-    let g : count.put_i32.new.0 ≡ patch (patch s o (i64_bytes args.sum)) (o + 8) (i32_bytes args.count)
+    let g : count.put_i32.new.s ≡ patch (patch s o (i64_bytes args.sum)) (o + 8) (i32_bytes args.count)
     = count.put_i32.ensures ∙ (λ j. patch (f j) (q j + 8) (i32_bytes (l j))) in
     let n : length (u32_bytes args.start) ≡ 4 = u32.length_bytes args.start in
     let m : length s ≡ length args.s.now =
     length_patch args.s.now (start_offset args.i) (u32_bytes args.start) (omega arith) in
-    child.put_u322.ensures
+    child.put_u32-2.ensures
     ∙ (λ j. patch (g j) (q j + 12) (u32_bytes args.child))
     ∙ patch_entry s o (entry args.start (record { sum = args.sum; count = args.count }) args.child) (omega arith)
 

@@ -26,17 +26,17 @@ record Written (half : ℕ) (p : Page) (i : ℕ) (s : List ℕ) : Type 0 where
   size : length s ≡ page_size half
   bytes : s ≡ page_bytes half p.level p.len (listed i (λ j. slot_at p j))
 
-abbrev invariant_loop : tie.invariant-loop
+abbrev invariant_loop : tie.invariant-loop-i
 invariant_loop half s₀ p number i₀ s i = Written half p i s
 
-abbrev decreases_loop : tie.decreases-loop
+abbrev decreases_loop : tie.decreases-loop-i
 decreases_loop half s₀ p number i₀ s i = number - i
 
-loop_holds : tie.Need-loop-init invariant_loop decreases_loop
+loop_holds : tie.Need-loop-i-init invariant_loop decreases_loop
 unfolding listed
 loop_holds c =
     let args = c.before.before.before.before.before.args in
-    let p = args.t3 in
+    let p = args.p in
     record {
       within = omega arith;
       size = omega arith;
@@ -62,18 +62,18 @@ step half p i h a b e f =
     page_listed_more half p.level p.len i (λ j. slot_at p j) h e
     (λ j. entry (get_or p.starts i 0) (record { sum = sum j; count = count j }) (get_or p.children i 0)) f
 
-loop_again : tie.Need-loop-preserved invariant_loop decreases_loop
+loop_again : tie.Need-loop-i-preserved invariant_loop decreases_loop
 loop_again c =
     let written = c.before.before in
     let count = written.before.before in
     let sum = count.before in
     let at = sum.before.before.before.before in
-    let p = at.before.before.before.before.before.before.args.t3 in
+    let p = at.before.before.before.before.before.before.args.p in
     record {
       within = omega arith;
       size = omega arith;
-      bytes = step _ p at.loop.i (omega arith) sum.write_entry_arg3.given count.write_entry_arg4.given
-          written.write_entry.ensures at.loop.invariant.bytes;
+      bytes = step _ p at.loop-i.i (omega arith) sum.write_entry-arg-in-loop-i-2-1.given count.write_entry-arg-in-loop-i-3-1.given
+          written.write_entry.ensures at.loop-i.invariant.bytes;
     }
 
 returns : tie.Need-returns invariant_loop decreases_loop
@@ -82,9 +82,9 @@ returns c =
     let at = c.before in
     let args = at.before.before.before.before.before.before.args in
     let half = args.half in
-    let p = args.t3 in
-    let e : at.loop.i ≡ p.len = omega arith in
-    at.loop.invariant.bytes
+    let p = args.p in
+    let e : at.loop-i.i ≡ p.len = omega arith in
+    at.loop-i.invariant.bytes
     ∙ ap (λ k. page_bytes half p.level p.len (listed k (λ j. slot_at p j))) e
     ∙ page_whole half p.level p.len (entry_list p) (length_shown p)
 

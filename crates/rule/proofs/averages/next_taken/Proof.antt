@@ -7,10 +7,10 @@ use Rattle.rule.proofs.Rounding.{even_bits}
 use Rattle.rule.proofs.averages.next_taken.Statement.{statement}
 use Rattle.rule.proofs.averages.next_taken.Tie as tie
 
-mul_twice : tie.Need-overflow-mul-twice
+mul_twice : tie.Need-overflow_mul-twice
 mul_twice c = omega (arith, c.requires)
 
-rem_result : tie.Need-nonzero-rem-result
+rem_result : tie.Need-nonzero_rem-result
 rem_result c =
     let quotient = c.args.quotient in
     rw (to_z-of_z c.ranges.quotient)
