@@ -1,1 +1,2 @@
 // Demands 2 and 3 over the definitions of the calls: theory alone.
+#![tactic(auto)]

@@ -66,8 +66,8 @@ module _ {A : Type 0} {Q : Asked A} where
   pub seg_part : {lo hi : ℕ} {es : List (Node A)} (k : ℕ) → Seg Q lo hi es → Parted Q lo hi k es
   seg_part {lo} zero s = record { mid = lo; front = done; back = s }
   seg_part {lo} (suc k) done = record { mid = lo; front = done; back = done }
-  seg_part (suc k) (more e lt q r) =
-      let p = seg_part k r in
+  seg_part {lo = lo} {hi = hi} (suc k) (more {mid = mid} {x = x} {es = es} e lt q r) =
+      let p = seg_part {lo = mid} k r in
       record { mid = p.mid; front = more e lt q p.front; back = p.back }
 
 -- the starts rise

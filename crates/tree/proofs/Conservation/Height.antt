@@ -79,7 +79,7 @@ unfolding all_pages times_spare held pages_of times_below times
 held_all p Y = omega (arith, times_append p (pages_of Y.tree) Y.supply.chain)
 
 -- no page is held twice, and page 0 not at all: all pages of tree and chain lie below the high mark
-module _ (Y : State) (once : (p : ℕ) → held p Y ≤ 1) (head_Apart : held 0 Y ≡ 0) where
+module _ (Y : State) (once : (p : ℕ) → held p Y ≤ 1) (head_apart : held 0 Y ≡ 0) where
   all_within : Within (Y.supply.mark - 1) (all_pages Y)
   all_within p h = (go p h, past (leb Y.supply.mark p) refl)
     where
