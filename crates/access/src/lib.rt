@@ -1,5 +1,7 @@
 // The image as it is lent to a call: any bytes of any length. What every call looks at before it trusts anything there: the
 // length, and the head; one page of it; and the fresh image that a format leaves. Document 01, "The page".
+#![tactic(auto)]
+
 use page::Head;
 
 pub mod fresh;
@@ -8,7 +10,7 @@ pub mod lengths;
 pub mod pages;
 
 // What the head's page shows: a fit head's numbers, or that it is unfit.
-#[derive(Drop)]
+#[derive(Clone, Copy)]
 pub enum HeadCheck {
     Fit(Head),
     Unfit,

@@ -1,4 +1,6 @@
 // Enter and withdraw: the rows that turn a booking back, in document 01's order, and the change that an accepted one makes.
+#![tactic(auto)]
+
 use page::Head;
 
 pub mod book;
@@ -8,7 +10,7 @@ pub mod input;
 pub mod state;
 
 // What the rows on the image's state say: the head of an image that takes the change, or the status of the row that turns it back.
-#[derive(Drop)]
+#[derive(Clone, Copy)]
 pub enum StateCheck {
     Accepted(Head),
     Refused(u32),

@@ -1,13 +1,15 @@
 // Steps A and B of a change: cut at an instant. Document 01, "One change in five steps".
 // The contracts are the definitions of `steps` (specs/Cut.antt), for every image that the bytes encode and that can be cut
 // (specs/Cuttable.antt).
+#![tactic(auto)]
+
 pub mod cut;
 pub mod entries;
 pub mod root;
 pub mod split;
 
 // What an entry that was cut became: itself, or two. Then the right one's start and its child page.
-#[derive(Drop)]
+#[derive(Clone, Copy)]
 pub enum SplitOutcome {
     Same,
     Split(u32, u32),

@@ -1,4 +1,6 @@
 // Fitness: is the head fit, is a page fit in its context in the tree. Document 01, "The page".
+#![tactic(auto)]
+
 pub mod bounds;
 pub mod contexts;
 pub mod entries;
@@ -11,7 +13,7 @@ pub mod unused;
 // What an entry of a page may hold, in bounds that serve every kind and level, so that one loop tests all entries:
 // an absolute sum of at most `sum` and `each` for every one of its count, a count from -`below` on, at most `span` above that,
 // and a child from `first` on, below `past`.
-#[derive(Drop)]
+#[derive(Clone, Copy)]
 pub struct Limits {
     pub sum: u64,
     pub each: u64,

@@ -2,6 +2,8 @@
 // `steps`, at the kind's rule.
 // Each contract is over every image that the bytes encode and that is ready for it (specs/Edges.antt, specs/Healable.antt).
 // Everything is done on the bytes of the pages, entry by entry: no page is decoded, so that a heal takes little stack.
+#![tactic(auto)]
+
 pub mod carry;
 pub mod collapse;
 pub mod edges;

@@ -1,4 +1,6 @@
 // The walk of a span listing. Document 01, "Span listing".
+#![tactic(auto)]
+
 use page::{Head, PageContext};
 use rule::Pair;
 use runs::Run;
@@ -13,7 +15,7 @@ pub mod walks;
 
 // What is listed: the span [a, b) of an image of pages of this capacity, half of it here, with this head; whether every page met is known
 // to be fit; and whether runs are written or only counted.
-#[derive(Drop)]
+#[derive(Clone, Copy)]
 pub struct SpanQuery {
     pub half: usize,
     pub head: Head,
@@ -24,7 +26,7 @@ pub struct SpanQuery {
 }
 
 // Where the walk stands: a page, its context, and the pair that the entries above it combine to.
-#[derive(Drop)]
+#[derive(Clone, Copy)]
 pub struct Cursor {
     pub at: PageContext,
     pub page: u32,
@@ -32,28 +34,28 @@ pub struct Cursor {
 }
 
 // The entries of a page that overlap the span: from one index up to, but not including, another.
-#[derive(Drop)]
+#[derive(Clone, Copy)]
 pub struct EntryRange {
     pub from: usize,
     pub to: usize,
 }
 
 // A page's count of entries, or that it is unfit.
-#[derive(Drop)]
+#[derive(Clone, Copy)]
 pub enum PageCheck {
     Entries(usize),
     Unfit,
 }
 
 // The open run after a walk, or that a page was unfit.
-#[derive(Drop)]
+#[derive(Clone, Copy)]
 pub enum WalkAnswer {
     Fit(Run),
     Unfit,
 }
 
 // The number of runs, or that a page was unfit.
-#[derive(Drop)]
+#[derive(Clone, Copy)]
 pub enum RunCount {
     Runs(u32),
     Unfit,

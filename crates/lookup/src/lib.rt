@@ -1,6 +1,8 @@
 // An instant's answer: the entry that has it in each page on its path, and their pairs combined.
 // Document 01, "The page": "An instant's answer combines the pairs on its way from root to leaf."
 // Document 02, (viii): "the instant answer gains the start and end of its leaf entry."
+#![tactic(auto)]
+
 use page::Entry;
 use rule::Pair;
 
@@ -9,21 +11,21 @@ pub mod levels;
 pub mod look_up;
 
 // Where the entry that has an instant was found: its index in the page, and its end.
-#[derive(Drop)]
+#[derive(Clone, Copy)]
 pub struct FoundAt {
     pub index: usize,
     pub end: u32,
 }
 
 // A level's answer: the entry that has the instant, and its end; or a page that is unfit.
-#[derive(Drop)]
+#[derive(Clone, Copy)]
 pub enum LevelAnswer {
     Entry(Entry, u32),
     Unfit,
 }
 
 // A pair that holds from `start` until `end`, those of the leaf entry that has the instant.
-#[derive(Drop)]
+#[derive(Clone, Copy)]
 pub struct Holding {
     pub pair: Pair,
     pub start: u32,
@@ -31,7 +33,7 @@ pub struct Holding {
 }
 
 // What a lookup finds: the pair and how long it holds, or that a page is unfit; and how many tree pages were read.
-#[derive(Drop)]
+#[derive(Clone, Copy)]
 pub enum LookupAnswer {
     Answered(Holding, u32),
     Unfit(u32),

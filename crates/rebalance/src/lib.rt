@@ -2,6 +2,8 @@
 // steps"; the definitions are those of `steps`, at the kind's rule. Each contract is over every image that the bytes encode and that is
 // ready for it (specs/Siblings.antt). All is done on the bytes of the pages, entry by entry: no page is decoded, so that it takes little
 // stack.
+#![tactic(auto)]
+
 pub mod merge;
 pub mod push;
 pub mod rebalance;
@@ -9,7 +11,7 @@ pub mod redistribute;
 pub mod share;
 
 // Two siblings, by their page numbers.
-#[derive(Drop)]
+#[derive(Clone, Copy)]
 pub struct SiblingPages {
     pub left: u32,
     pub right: u32,

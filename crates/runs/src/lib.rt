@@ -1,4 +1,6 @@
 // The open run of a listing: updated in place at every leaf entry. Document 01, "Span listing".
+#![tactic(auto)]
+
 use rule::Pair;
 
 pub mod collector;
@@ -13,7 +15,7 @@ pub const RUN_COUNT_OFFSET: usize = 4;
 pub const RUN_SUM_OFFSET: usize = 8;
 
 // The run that a walk is in, and how many runs it has opened so far; none at first.
-#[derive(Drop)]
+#[derive(Clone, Copy)]
 pub struct Run {
     pub start: u32,
     pub pair: Pair,

@@ -7,7 +7,7 @@ use native.Mathlib.Nat.{add-zero, add-suc, mul-zero, mul-suc, mul-add, mul-le-mu
 use native.Mathlib.Omega.{arith}
 use lib.ListN.{length, length-append, length-map, get_or, get_or-eq_default}
 use borrow.Author.Tests.{ltb-false}
-use Rattle.lists.specs.Lists.{listed, concat_map, sum}
+use Rattle.lists.specs.Lists.{concat_map, sum}
 use Rattle.lists.proofs.Listed.{listed_get_or}
 use Rattle.lists.proofs.Concat.{concat_map_more}
 use Rattle.fields.specs.Bytes.{Bytes, patch, unused}

@@ -15,21 +15,21 @@ use Rattle.access.proofs.fresh.write_fresh.Statement.{statement}
 use Rattle.access.proofs.fresh.write_fresh.Tie as tie
 
 -- where the root's page, and where the head's page had been written, and the call's start
-abbrev rooted : tie.After-fill-arg → tie.After-write-fresh-root
+abbrev rooted : tie.After-fill-arg-1 → tie.After-write_fresh_root
 rooted c = c.before.before.before
 
-abbrev headed : tie.After-write-fresh-root-arg → tie.After-write-fresh-head
+abbrev headed : tie.After-write_fresh_root-arg-1 → tie.After-write_fresh_head
 headed c = c.before.before.before
 
-abbrev began : tie.After-page-size → tie.Start
+abbrev began : tie.After-page_size-size → tie.Start
 began c = c.before.before
 
-size : (c : tie.After-page-size) → Sized (began c).args.half (began c).args.img.now
+size : (c : tie.After-page_size-size) → Sized (began c).args.half (began c).args.img.now
 size c = sized _ _ (began c).requires.2
 
 -- two pages at the least
-two : (c : tie.After-page-size) → 2 * c.page_size.result ≤ length (began c).args.img.now
-two c = omega (arith, (size c).size, c.page_size.ensures, mul-le-mul_left (page_size (began c).args.half) (size c).least)
+two : (c : tie.After-page_size-size) → 2 * c.page_size-size.result ≤ length (began c).args.img.now
+two c = omega (arith, (size c).size, c.page_size-size.ensures, mul-le-mul_left (page_size (began c).args.half) (size c).least)
 
 returns : tie.Need-returns
 unfolding unused
@@ -41,13 +41,13 @@ returns c =
     let args = (began paged).args in
     let half = args.half in
     let img : List ℕ = args.img.now in
-    let e = paged.page_size.ensures in
+    let e = paged.page_size-size.ensures in
     let z = size paged in
-    fresh_written half args.kind args.window args.field (pages_in half img) (began paged).pre.0 z.least img z.size
+    fresh_written half args.kind args.window args.field (pages_in half img) (began paged).requires.0 z.least img z.size
     (head.write_fresh_head.ensures
     ∙ ap (λ n. patch img 0 (head_bytes half (fresh n args.kind args.window args.field).head)) (pages_counted half img e))
     root.write_fresh_root.ensures
-    (rest.fill.ensures ∙ (λ j. patch root.write_fresh_root.last.1.0 (2 * e j) (unused (length img - 2 * e j))))
+    (rest.fill.ensures ∙ (λ j. patch root.write_fresh_root.new.img (2 * e j) (unused (length img - 2 * e j))))
 
 pub write_fresh_spec : {M : Type 1} → statement M
 write_fresh_spec =
@@ -55,7 +55,7 @@ write_fresh_spec =
     (tie.spec
     (λ c κs. omega arith)
     (λ c. omega arith)
-    (λ c. omega (arith, pages_counted _ (began c.before).args.img.now c.before.page_size.ensures, (size c.before).most))
+    (λ c. omega (arith, pages_counted _ (began c.before).args.img.now c.before.page_size-size.ensures, (size c.before).most))
     (λ c κs. omega (arith, two c.before))
     (λ c κs. omega (arith, two (headed c).before.before))
     (λ c. omega (arith, two (headed (rooted c).before).before.before))

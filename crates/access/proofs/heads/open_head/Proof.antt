@@ -20,7 +20,7 @@ use Rattle.access.proofs.heads.open_head.Statement.{statement}
 use Rattle.access.proofs.heads.open_head.Tie as tie
 
 -- the call's start
-abbrev began : tie.After-page-at → tie.Start
+abbrev began : tie.After-page_at-s → tie.Start
 began c = c.before.before
 
 first : (c : tie.Start) → PageIn c.args.half c.args.img.now 0
@@ -30,17 +30,17 @@ first c =
     let one : 0 < pages_in half c.args.img.now = omega (arith, z.least) in
     omega (arith, z.size, page_within half one)
 
-page_long : (c : tie.After-page-at) → length c.page_at.result.now ≡ page_size (began c).args.half
-page_long c = ap length c.page_at.ensures ∙ page_length _ _ 0 (first (began c))
+page_long : (c : tie.After-page_at-s) → length c.page_at-s.result.now ≡ page_size (began c).args.half
+page_long c = ap length c.page_at-s.ensures ∙ page_length _ _ 0 (first (began c))
 
-read : (c : tie.After-read-head) → c.read_head.result ≡ head_of (page_at (began c.before).args.half (began c.before).args.img.now 0)
-read c = c.read_head.ensures ∙ ap head_of c.before.page_at.ensures
+read : (c : tie.After-read_head-h) → c.read_head-h.result ≡ head_of (page_at (began c.before).args.half (began c.before).args.img.now 0)
+read c = c.read_head-h.ensures ∙ ap head_of c.before.page_at-s.ensures
 
 -- whichever of the two tests it was
-tested : (c : tie.After-struct-known) {fit : Bool} → let sized = c.before in
+tested : (c : tie.After-struct_known-1) {fit : Bool} → let sized = c.before in
     let args = (began sized.before.before).args in
-    fit ≡ head_fit args.half sized.before.read_head.result.pages sized.before.before.page_at.result.now
-    → (eqb (sized.page_size.result * sized.before.read_head.result.pages) (length args.img.now) && fit)
+    fit ≡ head_fit args.half sized.before.read_head-h.result.pages sized.before.before.page_at-s.result.now
+    → (eqb (sized.page_size.result * sized.before.read_head-h.result.pages) (length args.img.now) && fit)
     ≡ head_fit args.half (pages_in args.half args.img.now) (page_at args.half args.img.now 0)
 tested c e =
     let sized = c.before in
@@ -49,10 +49,10 @@ tested c e =
     let args = start.args in
     let pages = ap (λ (h : Head). h.pages) (read head) in
     (λ j. eqb (sized.page_size.ensures j * pages j) (length args.img.now)
-    && (e ∙ (λ i. head_fit args.half (pages i) (head.before.page_at.ensures i))) j)
-    ∙ own_pages args.half args.img.now start.pre.2
+    && (e ∙ (λ i. head_fit args.half (pages i) (head.before.page_at-s.ensures i))) j)
+    ∙ own_pages args.half args.img.now start.requires.2
 
-returns : tie.Need-returns
+returns : tie.Need-returns-then-half-eq-MOST_HALF
 unfolding head_check
 returns c =
     let fit = c.before in
@@ -62,15 +62,15 @@ returns c =
     c.checked.ensures
     ∙ (λ j. cond
     (tested known (fit.head_fit.ensures
-    ∙ ap (λ k. head_fit k head.read_head.result.pages head.before.page_at.result.now) (sym test.if1.true)) j)
+    ∙ ap (λ k. head_fit k head.read_head-h.result.pages head.before.page_at-s.result.now) (sym test.if-half-eq-MOST_HALF.true)) j)
     (Fit (read head j)) Unfit)
 
-returns_2 : tie.Need-returns-2
+returns_2 : tie.Need-returns
 unfolding head_check
 returns_2 c =
     let fit = c.before in
     let known = fit.before.before in
-    c.checked2.ensures ∙ (λ j. cond (tested known fit.head_fit2.ensures j) (Fit (read known.before.before j)) Unfit)
+    c.checked-2.ensures ∙ (λ j. cond (tested known fit.head_fit-2.ensures j) (Fit (read known.before.before j)) Unfit)
 
 pub open_head_spec : {M : Type 1} → statement M
 open_head_spec =
@@ -83,10 +83,10 @@ open_head_spec =
     (λ c.
     let sized = c.before in
     let few : sized.page_size.result ≤ 512 = omega (arith, sized.page_size.ensures, (began sized.before.before).requires.1) in
-    omega (arith, mul-le-mul_right sized.before.read_head.result.pages few))
-    (λ c κs. (omega arith, omega arith, page_long c.before.before.before.before ∙ ap page_size c.if1.true))
+    omega (arith, mul-le-mul_right sized.before.read_head-h.result.pages few))
+    (λ c κs. (omega arith, omega arith, page_long c.before.before.before.before ∙ ap page_size c.if-half-eq-MOST_HALF.true))
     (λ c κs. search rules) returns
     (λ c κs.
     let start = began c.before.before.before.before in
-    (start.pre.0, start.pre.1, page_long c.before.before.before.before))
+    (start.requires.0, start.requires.1, page_long c.before.before.before.before))
     (λ c κs. search rules) returns_2)

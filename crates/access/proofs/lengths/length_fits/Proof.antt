@@ -17,17 +17,17 @@ returns c =
     let counted = c.before in
     let n = length counted.before.before.args.img.now in
     λ j.
-    eqb n (c.page_size.ensures j * counted.page_count.ensures j)
-    && (leb 2 (counted.page_count.ensures j) && leb (counted.page_count.ensures j) 1024)
+    eqb n (c.page_size.ensures j * counted.page_count-n.ensures j)
+    && (leb 2 (counted.page_count-n.ensures j) && leb (counted.page_count-n.ensures j) 1024)
 
-product : tie.Need-overflow-mul-result
+product : tie.Need-overflow_mul-result
 unfolding pages_in
 product c =
     let counted = c.before in
     let args = counted.before.before.args in
     let n = length args.img.now in
-    let same : c.page_size.result * counted.page_count.result ≡ page_size args.half * (n / page_size args.half) =
-    λ j. c.page_size.ensures j * counted.page_count.ensures j in
+    let same : c.page_size.result * counted.page_count-n.result ≡ page_size args.half * (n / page_size args.half) =
+    λ j. c.page_size.ensures j * counted.page_count-n.ensures j in
     omega (arith, same, mul-div-le n (page_size args.half))
 
 pub length_fits_spec : {M : Type 1} → statement M

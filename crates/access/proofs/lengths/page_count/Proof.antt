@@ -8,10 +8,10 @@ use Rattle.access.proofs.Laws.{pages_counted}
 use Rattle.access.proofs.lengths.page_count.Statement.{statement}
 use Rattle.access.proofs.lengths.page_count.Tie as tie
 
-returns : tie.Need-returns
-returns c = pages_counted _ _ (ap page_size (sym c.if1.true))
+returns : tie.Need-returns-then-half-eq-MOST_HALF
+returns c = pages_counted _ _ (ap page_size (sym c.if-half-eq-MOST_HALF.true))
 
-returns_2 : tie.Need-returns-2
+returns_2 : tie.Need-returns
 returns_2 c = pages_counted _ _ c.page_size.ensures
 
 pub page_count_spec : {M : Type 1} → statement M

@@ -12,7 +12,7 @@ returns c =
     let sized = c.before in
     let found = sized.before in
     let args = found.before.before.args in
-    lent_page args.img.now (page_size args.half) args.p found.page_offset.ensures sized.page_size.ensures
+    lent_page args.img.now (page_size args.half) args.p found.page_offset-a.ensures sized.page_size.ensures
 
 pub page_at_spec : {M : Type 1} → statement M
 page_at_spec =

@@ -10,17 +10,17 @@ use Rattle.audit.proofs.unused.never_used.Statement.{statement}
 use Rattle.audit.proofs.unused.never_used.Tie as tie
 
 -- so many words are so many pages
-words : (c : tie.After-page-size) (m : ℕ) → 8 * (c.page_size.result / 8 * m) ≡ page_size c.before.before.args.half * m
+words : (c : tie.After-page_size-words) (m : ℕ) → 8 * (c.page_size-words.result / 8 * m) ≡ page_size c.before.before.args.half * m
 words c m =
-    let whole : 8 * (c.page_size.result / 8) ≡ page_size c.before.before.args.half = omega (arith, c.page_size.ensures) in
-    sym (mul_assoc 8 (c.page_size.result / 8) m) ∙ ap (λ k. k * m) whole
+    let whole : 8 * (c.page_size-words.result / 8) ≡ page_size c.before.before.args.half = omega (arith, c.page_size-words.ensures) in
+    sym (mul_assoc 8 (c.page_size-words.result / 8) m) ∙ ap (λ k. k * m) whole
 
 -- and few enough to be multiplied
-few : (c : tie.After-page-size) (m : ℕ) → c.page_size.result / 8 * m ≤ 64 * m
-few c m = mul-le-mul_right m (omega (arith, c.page_size.ensures, c.before.before.requires.0))
+few : (c : tie.After-page_size-words) (m : ℕ) → c.page_size-words.result / 8 * m ≤ 64 * m
+few c m = mul-le-mul_right m (omega (arith, c.page_size-words.ensures, c.before.before.requires.0))
 
 -- the pages before the mark and from there on are all of them
-inside : (c : tie.After-page-size) → let args = c.before.before.args in
+inside : (c : tie.After-page_size-words) → let args = c.before.before.args in
     page_size args.half * args.mark + page_size args.half * (args.n - args.mark) ≡ page_size args.half * args.n
 inside c =
     let args = c.before.before.args in

@@ -8,35 +8,35 @@ use Rattle.audit.proofs.walk.audit_root.Statement.{statement}
 use Rattle.audit.proofs.walk.audit_root.Tie as tie
 
 -- the walk stands at the root
-standing : (c : tie.After-root-context) → let args = c.before.before.args in
-    Standing args.half args.img.now args.h c.root_context.result args.h.root
-standing c = let pre = c.before.before.requires in root_standing pre.0 pre.1 pre.2 c.root_context.ensures
+standing : (c : tie.After-root_context-at) → let args = c.before.before.args in
+    Standing args.half args.img.now args.h c.root_context-at.result args.h.root
+standing c = let pre = c.before.before.requires in root_standing pre.0 pre.1 pre.2 c.root_context-at.ensures
 
-page_fit_requires : tie.Need-page-fit-requires
+page_fit_requires : tie.Need-page_fit-requires
 page_fit_requires c κs =
     let w = standing c.before in
     ((w.half_least, standing_size w c.page_at.ensures), standing_bounded w)
 
-returns : tie.Need-returns
+returns : tie.Need-returns-then-not-page_fit
 returns c =
     let fit = c.before in
     let root = fit.before.before in
     let args = root.before.before.args in
-    page_unfit args.half _ _ _ _ (tested _ _ _ _ _ fit.before.page_at.ensures fit.page_fit.ensures (not-true _ c.if1.true))
-    ∙ ap (λ b. page_count args.half args.h args.img.now b args.h.root) root.root_context.ensures
+    page_unfit args.half _ _ _ _ (tested _ _ _ _ _ fit.before.page_at.ensures fit.page_fit.ensures (not-true _ c.if-not-page_fit.true-raw))
+    ∙ ap (λ b. page_count args.half args.h args.img.now b args.h.root) root.root_context-at.ensures
 
-audit_page_requires : tie.Need-audit-page-requires
+audit_page_requires : tie.Need-audit_page-requires
 audit_page_requires c κs =
     let fit = c.before in
     let lent = fit.before in
-    (standing lent.before, tested _ _ _ _ _ lent.page_at.ensures fit.page_fit.ensures (not-false _ c.if1.false))
+    (standing lent.before, tested _ _ _ _ _ lent.page_at.ensures fit.page_fit.ensures (not-false _ c.if-not-page_fit.false-raw))
 
-returns_2 : tie.Need-returns-2
+returns_2 : tie.Need-returns
 returns_2 c =
     let fit = c.before.before in
     let root = fit.before.before in
     let args = root.before.before.args in
-    c.audit_page.ensures ∙ ap (λ b. page_count args.half args.h args.img.now b args.h.root) root.root_context.ensures
+    c.audit_page.ensures ∙ ap (λ b. page_count args.half args.h args.img.now b args.h.root) root.root_context-at.ensures
 
 pub audit_root_spec : {M : Type 1} → statement M
 audit_root_spec =

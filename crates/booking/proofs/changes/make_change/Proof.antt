@@ -11,7 +11,7 @@ apply_requires c κs =
     let far = c.before.before in
     let known = far.before in
     let start = known.before in
-    accepted_some start.requires (bytes_of start.args.img.now known.slice_known.given) far.effect_end.ensures
+    accepted_some start.requires (bytes_of start.args.img.now known.slice_known-1.given) far.effect_end-end.ensures
     (rw (to_z-of_z start.ranges.v) at c.effect.ensures)
 
 returns : tie.Need-returns
@@ -21,7 +21,7 @@ returns c =
     let far = effect.before.before in
     let known = far.before in
     let start = known.before in
-    accepted_changed start.requires (bytes_of start.args.img.now known.slice_known.given) far.effect_end.ensures
+    accepted_changed start.requires (bytes_of start.args.img.now known.slice_known-1.given) far.effect_end-end.ensures
     (rw (to_z-of_z start.ranges.v) at effect.effect.ensures) did.apply.ensures
 
 pub make_change_spec : {M : Type 1} → statement M

@@ -24,78 +24,78 @@ use Rattle.booking.proofs.state.check_state.Statement.{statement}
 use Rattle.booking.proofs.state.check_state.Tie as tie
 
 -- the call's start, from where its image had been found sound
-abbrev began : tie.Else1 → tie.Start
+abbrev began : tie.Else-not-sound → tie.Start
 began c = c.before.before.before
 
-within : (c : tie.Else1) → let args = (began c).args in PageIn args.half args.img.now 0
+within : (c : tie.Else-not-sound) → let args = (began c).args in PageIn args.half args.img.now 0
 within c =
     let half = (began c).args.half in
     let z = sized half _ (began c).requires.0.2 in
     let one : 0 < pages_in half (began c).args.img.now = omega (arith, z.least) in
     omega (arith, z.size, page_within half one)
 
-passed : (c : tie.Else1) → sound (began c).args.half (began c).args.img.now ≡ true
-passed c = sym c.before.sound.ensures ∙ not-false _ c.if1.false
+passed : (c : tie.Else-not-sound) → sound (began c).args.half (began c).args.img.now ≡ true
+passed c = sym c.before.sound.ensures ∙ not-false _ c.if-not-sound.false-raw
 
-read : (c : tie.After-read-head) → c.read_head.result ≡ head (began c.before.before).args.half
+read : (c : tie.After-read_head-h) → c.read_head-h.result ≡ head (began c.before.before).args.half
     (began c.before.before).args.img.now
 unfolding head
-read c = c.read_head.ensures ∙ ap head_of c.before.page_at.ensures
+read c = c.read_head-h.ensures ∙ ap head_of c.before.page_at.ensures
 
-returns : tie.Need-returns
-returns c = late_21 _ _ _ _ _ (sym c.before.sound.ensures ∙ not-true _ c.if1.true)
+returns : tie.Need-returns-then-not-sound
+returns c = late_21 _ _ _ _ _ (sym c.before.sound.ensures ∙ not-true _ c.if-not-sound.true-raw)
 
-returns_2 : tie.Need-returns-2
+returns_2 : tie.Need-returns-then-withdraws-h
 returns_2 c =
     let head = c.before.before in
-    late_22 _ _ _ _ _ (passed head.before.before) (read head) c.if2.true
+    late_22 _ _ _ _ _ (passed head.before.before) (read head) c.if-withdraws-h.true
 
-returns_3 : tie.Need-returns-3
+returns_3 : tie.Need-returns-then-h-eq-MOST_CHANGES
 returns_3 c =
     let side = c.before.before in
     let head = side.before.before in
-    late_23 _ _ _ _ _ (passed head.before.before) (read head) side.if2.false (eq-eqb _ _ c.if3.true)
+    late_23 _ _ _ _ _ (passed head.before.before) (read head) side.if-withdraws-h.false (eq-eqb _ _ c.if-h-eq-MOST_CHANGES.true)
 
 -- where the head had been read
-abbrev headed : tie.After-effect-end → tie.After-read-head
+abbrev headed : tie.After-effect_end → tie.After-read_head-h
 headed c = c.before.before.before.before.before
 
 -- where the effect ends, which is behind its start
-later : (c : tie.After-effect-end) → (began (headed c).before.before).args.s < c.effect_end.result
+later : (c : tie.After-effect_end) → (began (headed c).before.before).args.s < c.effect_end.result
 unfolding effect_end
 later c =
     let start = began (headed c).before.before in
-    omega (arith, c.effect_end.ensures, start.pre.1, start.fits.e)
+    omega (arith, c.effect_end.ensures, start.requires.1, start.ranges.e)
 
 -- what is answered once the pages had been counted
-module _ (c : tie.After-lacks-pages) where
+module _ (c : tie.After-lacks_pages) where
   abbrev start : tie.Start
   start = began (headed c.before).before.before
 
-  counted : cond c.lacks_pages.result (Refused 24) (Accepted (headed c.before).read_head.result)
+  counted : cond c.lacks_pages.result (Refused 24) (Accepted (headed c.before).read_head-h.result)
       ≡ state_check start.args.half (side_of start.args.withdraws) start.args.s start.args.e start.args.img.now
   counted =
       let end = c.before in
       let full = end.before in
       let side = full.before.before in
       let head = side.before.before in
-      late_last _ _ _ _ _ (passed head.before.before) (read head) side.if2.false (ne_eqb _ _ full.if3.false)
+      late_last _ _ _ _ _ (passed head.before.before) (read head) side.if-withdraws-h.false (ne_eqb _ _ full.if-h-eq-MOST_CHANGES.false)
       end.effect_end.ensures c.lacks_pages.ensures
 
-returns_4 : tie.Need-returns-4
-returns_4 c = rw c.if4.true at (counted c.before)
+returns_4 : tie.Need-returns-then-lacks_pages
+returns_4 c = rw c.if-lacks_pages.true at (counted c.before)
 
-returns_5 : tie.Need-returns-5
-returns_5 c = rw c.if4.false at (counted c.before)
+returns_5 : tie.Need-returns
+returns_5 c = rw c.if-lacks_pages.false at (counted c.before)
 
-lacks_pages_requires : tie.Need-lacks-pages-requires
+lacks_pages_requires : tie.Need-lacks_pages-requires
 unfolding head
 lacks_pages_requires c κs =
     let head = headed c in
     let start = began head.before.before in (
       record {
-        half_least = start.pre.0.0;
-        half_most = start.pre.0.1;
+        half_least = start.requires.0.0;
+        half_most = start.requires.0.1;
         sound = sound_old _ _ (passed head.before.before);
         shown = read head;
       },

@@ -5,33 +5,33 @@ use Rattle.change.proofs.apply.apply.Statement.{statement}
 use Rattle.change.proofs.apply.apply.Tie as tie
 
 -- where each step was made, from the one after it
-abbrev at_a : tie.After-cut2 → tie.After-cut
+abbrev at_a : tie.After-cut-2 → tie.After-cut
 at_a c = c.before.before.before.before
 
-abbrev at_b : tie.After-combine-span → tie.After-cut2
+abbrev at_b : tie.After-combine_span → tie.After-cut-2
 at_b c = c.before.before.before.before
 
-abbrev at_c : tie.After-heal → tie.After-combine-span
+abbrev at_c : tie.After-heal → tie.After-combine_span
 at_c c = c.before.before.before.before
 
-abbrev at_d : tie.After-heal2 → tie.After-heal
+abbrev at_d : tie.After-heal-2 → tie.After-heal
 at_d c = c.before.before.before.before
 
-abbrev at_e : tie.After-count-change → tie.After-heal2
+abbrev at_e : tie.After-count_change → tie.After-heal-2
 at_e c = c.before.before.before.before
 
-combine_span_requires : tie.Need-combine-span-requires
+combine_span_requires : tie.Need-combine_span-requires
 combine_span_requires c κs =
     let b = c.before.before.before in
     let a = at_a b in
-    some_c _ _ _ _ _ a.cut.ensures b.cut2.ensures a.before.before.before.pre
+    some_c _ _ _ _ _ a.cut.ensures b.cut-2.ensures a.before.before.before.requires
 
 heal_requires : tie.Need-heal-requires
 heal_requires c κs =
     let d = c.before.before.before in
     let b = at_b d in
     let a = at_a b in
-    some_d _ _ _ _ _ a.cut.ensures b.cut2.ensures d.combine_span.ensures a.before.before.before.pre
+    some_d _ _ _ _ _ a.cut.ensures b.cut-2.ensures d.combine_span.ensures a.before.before.before.requires
 
 heal_requires_2 : tie.Need-heal-requires-2
 heal_requires_2 c κs =
@@ -39,17 +39,17 @@ heal_requires_2 c κs =
     let d = at_c f in
     let b = at_b d in
     let a = at_a b in
-    some_e _ _ _ _ _ a.cut.ensures b.cut2.ensures d.combine_span.ensures f.heal.ensures a.before.before.before.pre
+    some_e _ _ _ _ _ a.cut.ensures b.cut-2.ensures d.combine_span.ensures f.heal.ensures a.before.before.before.requires
 
-count_change_requires : tie.Need-count-change-requires
+count_change_requires : tie.Need-count_change-requires
 count_change_requires c κs =
     let g = c.before.before.before in
     let f = at_d g in
     let d = at_c f in
     let b = at_b d in
     let a = at_a b in
-    some_count _ _ _ _ _ a.cut.ensures b.cut2.ensures d.combine_span.ensures f.heal.ensures g.heal2.ensures
-    a.before.before.before.pre
+    some_count _ _ _ _ _ a.cut.ensures b.cut-2.ensures d.combine_span.ensures f.heal.ensures g.heal-2.ensures
+    a.before.before.before.requires
 
 returns : tie.Need-returns
 returns c =
@@ -59,7 +59,7 @@ returns c =
     let d = at_c f in
     let b = at_b d in
     let a = at_a b in
-    changed _ _ _ _ _ a.cut.ensures b.cut2.ensures d.combine_span.ensures f.heal.ensures g.heal2.ensures
+    changed _ _ _ _ _ a.cut.ensures b.cut-2.ensures d.combine_span.ensures f.heal.ensures g.heal-2.ensures
     k.count_change.ensures
 
 pub apply_spec : {M : Type 1} → statement M

@@ -7,17 +7,17 @@ use Rattle.combine_span.specs.SpanCombinable.{combine_span_by, SpanCombinable}
 use Rattle.combine_span.proofs.root.combine_span.Statement.{statement}
 use Rattle.combine_span.proofs.root.combine_span.Tie as tie
 
-abbrev start : tie.After-head-of → tie.Start
-start c = c.before.before.before
+abbrev start : tie.After-head_of-h → tie.Start
+start c = c.before.before
 
-headed : (c : tie.After-head-of) → Headed (start c).args.half (start c).args.img.now c.head_of.result
+headed : (c : tie.After-head_of-h) → Headed (start c).args.half (start c).args.img.now c.head_of-h.result
     (SpanCombinable (start c).args.q)
-headed c = some_headed (start c).requires c.head_of.ensures
+headed c = some_headed (start c).requires c.head_of-h.ensures
 
-sub_combine_page : tie.Need-overflow-sub-combine-page
+sub_combine_page : tie.Need-overflow_sub-h
 sub_combine_page c = (headed c.before.before).ready.least
 
-combine_page_requires : tie.Need-combine-page-requires
+combine_page_requires : tie.Need-combine_page-requires
 combine_page_requires c κs =
     let k = headed c.before.before in
     record { image = _; holds = k.holds; ready = k.ready.root }
@@ -29,8 +29,8 @@ returns c X h r =
     let read = call.before.before.before in
     let args = (start read).args in
     by_head (λ Y. Encodes args.half args.img.now Y → SpanCombinable args.q Y
-    → Encodes args.half call.combine_page.new.1.0 (combine_span_by args.q Y))
-    (read.head_of.ensures X h tt) (λ k t. call.combine_page.ensures _ k t.root) h r
+    → Encodes args.half call.combine_page.new.img (combine_span_by args.q Y))
+    (read.head_of-h.ensures X h tt) (λ k t. call.combine_page.ensures _ k t.root) h r
 
 pub combine_span_spec : {M : Type 1} → statement M
 combine_span_spec =

@@ -7,5 +7,5 @@ pub cut_leaf_entry_spec : {M : Type 1} → statement M
 cut_leaf_entry_spec =
     tie.close
     (tie.spec
-    (λ c. leaf_same c.before.before.args.e c.before.before.args.t c.if1.true)
-    (λ c. leaf_two c.before.before.args.e c.before.before.args.t c.if1.false))
+    (λ c. leaf_same c.before.before.args.e c.before.before.args.t c.if-e-t.true)
+    (λ c. leaf_two c.before.before.args.e c.before.before.args.t c.if-e-t.false))

@@ -15,31 +15,31 @@ use Rattle.cut.proofs.root.grow_root.Statement.{statement}
 use Rattle.cut.proofs.root.grow_root.Tie as tie
 
 -- the places, from the last back to the start
-abbrev rooted : tie.After-save-arg → tie.After-set-root
+abbrev rooted : tie.After-save-arg-1 → tie.After-set_root
 rooted c = c.before.before.before
 
-abbrev took : tie.After-set-root-arg → tie.After-take
+abbrev took : tie.After-set_root-arg-1 → tie.After-take-p
 took c = c.before.before.before
 
-abbrev read : tie.After-take → tie.After-head-of
+abbrev read : tie.After-take-p → tie.After-head_of-h
 read c = c.before.before
 
-headed : (c : tie.After-head-of)
-    → let args = c.before.before.before.args in Headed args.half args.img.now c.head_of.result RootGrowable
-headed c = some_headed c.before.before.before.requires c.head_of.ensures
+headed : (c : tie.After-head_of-h)
+    → let args = c.before.args in Headed args.half args.img.now c.head_of-h.result RootGrowable
+headed c = some_headed c.before.requires c.head_of-h.ensures
 
-set_root_requires : tie.Need-set-root-requires
+set_root_requires : tie.Need-set_root-requires
 set_root_requires c κs =
     let taking = took c.before in
     let k = headed (read taking) in
-    record { image = _; holds = (taking.take.ensures _ k.holds k.ready.takable).1; ready = tt }
+    record { image = _; holds = (taking.take-p.ensures _ k.holds k.ready.takable).1; ready = tt }
 
 save_requires : tie.Need-save-requires
 save_requires c κs =
     let raised = rooted c.before in
     let taking = took raised.before.before in
     let k = headed (read taking) in
-    let q = taking.take.ensures _ k.holds k.ready.takable in (
+    let q = taking.take-p.ensures _ k.holds k.ready.takable in (
       record {
         image = _;
         holds = raised.set_root.ensures _ q.1 tt;
@@ -55,13 +55,13 @@ returns c X h r =
     let raised = rooted made.before in
     let taking = took raised.before.before in
     let head = read taking in
-    let args = head.before.before.before.args in
+    let args = head.before.args in
     let es = entry 0 none args.root ∷ entry args.start none args.q ∷ [] in
     by_head (λ Y. Encodes args.half args.img.now Y → RootGrowable Y
-    → Encodes args.half saved.save.new.1.0 (grow_root es Y))
-    (head.head_of.ensures X h tt)
+    → Encodes args.half saved.save.new.img (grow_root es Y))
+    (head.head_of-h.ensures X h tt)
     (λ k ready.
-    let q = taking.take.ensures _ k ready.takable in
+    let q = taking.take-p.ensures _ k ready.takable in
     grow_root_holds _ _ q.0 made.new_root.ensures
     (saved.save.ensures _ (raised.set_root.ensures _ q.1 tt) (within_rooted (spare_within q.0 ready.takable) _ _)))
     h r

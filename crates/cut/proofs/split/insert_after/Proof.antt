@@ -23,11 +23,11 @@ use Rattle.cut.proofs.split.insert_after.Statement.{statement}
 use Rattle.cut.proofs.split.insert_after.Tie as tie
 
 -- where the entry had been read, and the start
-abbrev read : tie.After-entry-count-in → tie.After-entry-of
-read c = c.before.before.before
+abbrev read : tie.After-entry_count_in → tie.After-entry_of-old
+read c = c.before.before
 
-abbrev began : tie.After-entry-count-in → tie.Start
-began c = (read c).before.before.before
+abbrev began : tie.After-entry_count_in → tie.Start
+began c = (read c).before.before
 
 -- of every image that the bytes encode: how many entries there are, and with the new one
 module _ (c : tie.After-capacity) {X : Image} (h : Encodes (began c.before).args.half (began c.before).args.img.now X) {l : ℕ}
@@ -42,7 +42,7 @@ module _ (c : tie.After-capacity) {X : Image} (h : Encodes (began c.before).args
   i = (began c.before).args.i
 
   abbrev new : Entry
-  new = entry (began c.before).args.start (read c.before).entry_of.result.pair (began c.before).args.child
+  new = entry (began c.before).args.start (read c.before).entry_of-old.result.pair (began c.before).args.child
 
   count : (c.before.entry_count_in.result ≡ length (entries X p))
       × (c.before.entry_count_in.result ≤ capacity (began c.before).args.half)
@@ -59,7 +59,7 @@ module _ (c : tie.After-capacity) {X : Image} (h : Encodes (began c.before).args
   gained =
       inserted_after_is i (began c.before).args.start (began c.before).args.child (entries X p) r.has_entry.inside
       (ap (λ e. entry (began c.before).args.start e.pair (began c.before).args.child)
-      ((read c.before).entry_of.ensures X h l r.has_entry))
+      ((read c.before).entry_of-old.ensures X h l r.has_entry))
 
   -- what is done to the page with the new one is done as asked
   asked : {out : SplitOutcome} {after : List ℕ}
@@ -82,19 +82,19 @@ module _ (c : tie.After-capacity) {X : Image} (h : Encodes (began c.before).args
 fits : (c : tie.After-capacity) → (began c.before).args.i < 24
 fits c = from (began c.before).requires (λ X h r. omega (arith, r.1.has_entry.inside, count c h r.1, h.half_most))
 
-returns : tie.Need-returns
+returns : tie.Need-returns-then-entry_count_in-capacity
 returns c X h l r =
     let inserted = c.before.before in
     let test = inserted.before.before in
-    let k = room test.before h r test.if1.true in
+    let k = room test.before h r test.if-entry_count_in-capacity.true in
     asked test.before h r
     (saved_as _ _ l _ X (omega (arith, longer test.before h r, k.room)) (inserted.insert_entry.ensures X h l k))
 
-returns_2 : tie.Need-returns-2
+returns_2 : tie.Need-returns
 returns_2 c X h l r =
     let halved = c.before.before in
     let test = halved.before.before in
-    let k = splittable test.before h r test.if1.false in
+    let k = splittable test.before h r test.if-entry_count_in-capacity.false in
     asked test.before h r
     (halved_as _ _ l _ X (omega (arith, longer test.before h r, k.full)) (halved.split.ensures X h l k))
 
@@ -106,10 +106,10 @@ insert_after_spec =
     (λ c. omega (arith, fits c.before.before))
     (λ c κs.
     let test = c.before in
-    readied (began test.before.before).requires (λ X h r. (_, room test.before h r.1 test.if1.true)))
+    readied (began test.before.before).requires (λ X h r. (_, room test.before h r.1 test.if-entry_count_in-capacity.true)))
     (λ c. search rules) returns
     (λ c. omega (arith, fits c.before.before))
     (λ c κs.
     let test = c.before in
-    readied (began test.before.before).requires (λ X h r. (_, splittable test.before h r.1 test.if1.false)))
+    readied (began test.before.before).requires (λ X h r. (_, splittable test.before h r.1 test.if-entry_count_in-capacity.false)))
     (λ c. search rules) returns_2)

@@ -11,8 +11,8 @@ returns : tie.Need-returns
 unfolding slot_at
 returns c =
     let args = c.before.before.before.before.args in
-    entry_passed (slot_at args.t1 args.i) (omega arith) (omega arith)
-    ∙ sym (at_shown args.t1 args.i (omega arith))
+    entry_passed (slot_at args.p args.i) (omega arith) (omega arith)
+    ∙ sym (at_shown args.p args.i (omega arith))
 
 pub entry_at_spec : {M : Type 1} → statement M
 entry_at_spec =

@@ -12,14 +12,14 @@ use Rattle.edit.proofs.insert.insert.Tie as tie
 
 replace_requires : tie.Need-replace-requires
 replace_requires c κs =
-    let one_more : c.copy_range.result.len ≡ c.before.args.p.len + 1 =
-    has_len c.copy_range.ensures ∙ simp (length-append, length-drop, first_slots_length) (omega arith) in
+    let one_more : c.copy_range-opened.result.len ≡ c.before.args.p.len + 1 =
+    has_len c.copy_range-opened.ensures ∙ simp (length-append, length-drop, first_slots_length) (omega arith) in
     omega arith
 
 returns : tie.Need-returns
 returns c =
     let args = c.before.before.args in
-    has_as (has_then (λ es. splice args.i (args.e ∷ []) es) c.before.copy_range.ensures c.replace.ensures)
+    has_as (has_then (λ es. splice args.i (args.e ∷ []) es) c.before.copy_range-opened.ensures c.replace.ensures)
     (insert_entries args.p args.i args.e (omega arith))
 
 pub insert_spec : {M : Type 1} → statement M

@@ -4,7 +4,7 @@ use mir.Facts.{sfits_widen}
 use Rattle.fit.proofs.contexts.context_under.Statement.{statement}
 use Rattle.fit.proofs.contexts.context_under.Tie as tie
 
-cast_magnitude : tie.Need-overflow-cast-magnitude
+cast_magnitude : tie.Need-overflow_cast-pair
 cast_magnitude c =
     let sum = c.before.before.before in
     let start = sum.before.before.before in
@@ -20,7 +20,7 @@ returns c =
     let f : SFits w64 start.args.pair.sum = search rules in
     let g : SFits w32 start.args.pair.count = search rules in
     let w : SFits w64 start.args.pair.count = sfits_widen tt g in
-    rw (rw (to_z-of_z f) at sum.magnitude.ensures.0, rw (to_z-of_z g, to_z-of_z w) at count.magnitude2.ensures.0)
+    rw (rw (to_z-of_z f) at sum.magnitude.ensures.0, rw (to_z-of_z g, to_z-of_z w) at count.magnitude-2.ensures.0)
 
 pub context_under_spec : {M : Type 1} → statement M
 context_under_spec =

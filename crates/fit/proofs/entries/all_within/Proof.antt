@@ -10,30 +10,30 @@ use Rattle.fit.specs.Limits.{entry_ok, Tells}
 use Rattle.fit.proofs.entries.all_within.Statement.{statement}
 use Rattle.fit.proofs.entries.all_within.Tie as tie
 
-abbrev invariant_loop : tie.invariant-loop
+abbrev invariant_loop : tie.invariant-loop-i
 invariant_loop half s n l over₀ i₀ over i = (i ≤ n) × Tells half l s i (top_clear over)
 
-abbrev decreases_loop : tie.decreases-loop
+abbrev decreases_loop : tie.decreases-loop-i
 decreases_loop half s n l over₀ i₀ over i = n - i
 
 -- the place where the limits were handed over
-abbrev start : tie.At-loop invariant_loop decreases_loop → tie.Start invariant_loop decreases_loop
+abbrev start : tie.At-loop-i invariant_loop decreases_loop → tie.Start invariant_loop decreases_loop
 start c = c.before.before
 
-loop_again : tie.Need-loop-preserved invariant_loop decreases_loop
+loop_again : tie.Need-loop-i-preserved invariant_loop decreases_loop
 loop_again c =
     let word = c.before in
     let sum = word.before in
     let turn = sum.before.before in
     let s = (start turn).args.s.now in
-    let i = turn.loop.i in
+    let i = turn.loop-i.i in
     let x = sum.sum_bits_at.result in
     let w = word.count_and_child_at.result in (
       omega arith,
       λ h at limits.
-          top_or turn.loop.over c.overstep.result
-          ∙ ap₂ ◌&&◌ (turn.loop.invariant.1 h at limits)
-          (c.overstep.ensures
+          top_or turn.loop-i.over c.overstep-over.result
+          ∙ ap₂ ◌&&◌ (turn.loop-i.invariant.1 h at limits)
+          (c.overstep-over.ensures
           ∙ limits.same x (w % 2 ^ 32) (w / 2 ^ 32) (omega arith) (omega arith)
           ∙ ap₂ ◌&&◌ (ap (child_ok h.pages at.level) word.count_and_child_at.ensures.1)
           (ap (pair_ok h at) (λ j. record { sum = sum.sum_bits_at.ensures j; count = word.count_and_child_at.ensures.0 j })))
@@ -44,8 +44,8 @@ returns : tie.Need-returns invariant_loop decreases_loop
 returns c h at limits =
     let turn = c.before in
     let args = (start turn).args in
-    let e : turn.loop.i ≡ args.n = omega arith in
-    turn.loop.invariant.1 h at limits ∙ ap (λ n. every n (entry_ok args.half h at args.s.now)) e
+    let e : turn.loop-i.i ≡ args.n = omega arith in
+    turn.loop-i.invariant.1 h at limits ∙ ap (λ n. every n (entry_ok args.half h at args.s.now)) e
 
 pub all_within_spec : {M : Type 1} → statement M
 all_within_spec =

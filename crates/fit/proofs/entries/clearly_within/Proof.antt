@@ -6,30 +6,30 @@ use Rattle.fit.proofs.Laws.Clear.{Under, or_least, under_more, clearly_tells}
 use Rattle.fit.proofs.entries.clearly_within.Statement.{statement}
 use Rattle.fit.proofs.entries.clearly_within.Tie as tie
 
-abbrev invariant_loop : tie.invariant-loop
+abbrev invariant_loop : tie.invariant-loop-i
 invariant_loop half s n l sums₀ marks₀ i₀ sums marks i = (i ≤ n) × ((j : ℕ) → j < i → Under half l s sums marks j)
 
-abbrev decreases_loop : tie.decreases-loop
+abbrev decreases_loop : tie.decreases-loop-i
 decreases_loop half s n l sums₀ marks₀ i₀ sums marks i = n - i
 
-loop_again : tie.Need-loop-preserved invariant_loop decreases_loop
+loop_again : tie.Need-loop-i-preserved invariant_loop decreases_loop
 loop_again c =
     let sum = c.before in
     let bits = sum.before in
     let turn = bits.before.before in
-    let x = sum.wrapping_add_u64.result in
-    let m = c.count_and_child_at.result in (
+    let x = sum.wrapping_add_u64-sums.result in
+    let m = c.count_and_child_at-marks.result in (
       omega arith,
-      below_more _ _ (λ j k. under_more x m (turn.loop.invariant.1 j k))
+      below_more _ _ (λ j k. under_more x m (turn.loop-i.invariant.1 j k))
           (record {
             bits = bits.sum_bits_at.result;
             mark = m;
             fits = omega arith;
             sum = bits.sum_bits_at.ensures;
-            count = c.count_and_child_at.ensures.0;
-            child = c.count_and_child_at.ensures.1;
-            under_sums = omega (arith, sum.wrapping_add_u64.ensures, or_least turn.loop.sums x);
-            under_marks = (or_least turn.loop.marks m).1;
+            count = c.count_and_child_at-marks.ensures.0;
+            child = c.count_and_child_at-marks.ensures.1;
+            under_sums = omega (arith, sum.wrapping_add_u64-sums.ensures, or_least turn.loop-i.sums x);
+            under_marks = (or_least turn.loop-i.marks m).1;
           }),
     )
 
@@ -39,7 +39,7 @@ returns c passed =
     let start = turn.before.before in
     let parts = (and-eq-true_iff _ _).0 passed in
     clearly_tells start.requires.1.0 start.requires.1.1 (leb-true _ _ parts.0) (leb-true _ _ parts.1)
-    (λ i k. turn.loop.invariant.1 i (omega arith))
+    (λ i k. turn.loop-i.invariant.1 i (omega arith))
 
 pub clearly_within_spec : {M : Type 1} → statement M
 clearly_within_spec =

@@ -9,7 +9,7 @@ unfolding entry_count_ok
 returns c =
     let few = c.before in
     let counted = few.before in
-    λ j. leb (few.fewest.ensures j) (counted.entry_count.ensures j) && leb (counted.entry_count.ensures j) (c.capacity.ensures j)
+    λ j. leb (few.fewest.ensures j) (counted.entry_count-len.ensures j) && leb (counted.entry_count-len.ensures j) (c.capacity.ensures j)
 
 pub entry_count_ok_spec : {M : Type 1} → statement M
 entry_count_ok_spec = tie.close (tie.spec (λ c κs. search rules) (λ c. search rules) (λ c κs. search rules) (λ c κs. search rules) returns)

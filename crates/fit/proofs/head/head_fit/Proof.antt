@@ -14,12 +14,12 @@ returns c =
     let sized = ranged.before in
     let read = sized.before in
     let args = read.before.before.args in
-    ap₂ ◌&&◌ (ranged.ranges_ok.ensures ∙ ap (ranges_ok args.pages) read.read_head.ensures)
-    (ap₂ ◌&&◌ (named.field_ok.ensures ∙ ap (λ (h : Head). field_ok args.half h.capacity) read.read_head.ensures)
-    (c.all_ff.ensures ∙ ap (λ k. all_are 255 (part args.s.now 40 (k - 40))) sized.page_size.ensures))
+    ap₂ ◌&&◌ (ranged.ranges_ok.ensures ∙ ap (ranges_ok args.pages) read.read_head-h.ensures)
+    (ap₂ ◌&&◌ (named.field_ok.ensures ∙ ap (λ (h : Head). field_ok args.half h.capacity) read.read_head-h.ensures)
+    (c.all_ff.ensures ∙ ap (λ k. all_are 255 (part args.s.now 40 (k - 40))) sized.page_size-rest.ensures))
 
 pub head_fit_spec : {M : Type 1} → statement M
 head_fit_spec =
     tie.close
     (tie.spec (λ c κs. search rules) (λ c κs. search rules) (λ c. search rules) (λ c κs. search rules) (λ c κs. search rules)
-    (λ c κs. omega (arith, c.before.before.page_size.ensures)) returns)
+    (λ c κs. omega (arith, c.before.before.page_size-rest.ensures)) returns)

@@ -15,7 +15,7 @@ returns c =
     let s = start.args.s.now in
     let at = start.args.at in
     ap₂ ◌&&◌ (ap (λ x. eqb x at.lo) first.start_at.ensures)
-    (ap₂ ◌&&◌ rises.rising.ensures (ap (λ x. ltb x at.hi) c.before.start_at2.ensures))
+    (ap₂ ◌&&◌ rises.rising.ensures (ap (λ x. ltb x at.hi) c.before.start_at-2.ensures))
     ∙ ap (λ n. eqb (start_at s 0) at.lo
     && (every (n - 1) (λ i. ltb (start_at s i) (start_at s (suc i))) && ltb (start_at s (n - 1)) at.hi)) start.requires.0
 

@@ -21,7 +21,7 @@ returns c =
     let words : 8 * (2 * (sized.capacity.result - n)) ≡ 16 * (capacity half - n) = omega (arith, past) in
     ap₂ ◌&&◌ gap.eights_ff.ensures
     (ap₂ ◌&&◌ (starts.all_ff.ensures ∙ (λ j. all_are 255 (part s (placed.start_offset.ensures j) (4 * past j))))
-    (c.eights_ff2.ensures ∙ (λ j. all_are 255 (part s (entries.entry_offset.ensures j) (words j)))))
+    (c.eights_ff-2.ensures ∙ (λ j. all_are 255 (part s (entries.entry_offset.ensures j) (words j)))))
     ∙ ap (λ n. all_are 255 (part s 8 24)
     && (all_are 255 (part s (start_offset n) (4 * (capacity half - n)))
     && all_are 255 (part s (entry_offset half n) (16 * (capacity half - n))))) start.requires.len

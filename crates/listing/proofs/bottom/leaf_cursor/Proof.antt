@@ -6,10 +6,10 @@ use Rattle.listing.proofs.Laws.Bottom.{leaf_itself, leaf_below}
 use Rattle.listing.proofs.bottom.leaf_cursor.Statement.{statement}
 use Rattle.listing.proofs.bottom.leaf_cursor.Tie as tie
 
-inner : (c : tie.Else1) → 1 ≤ c.before.before.before.args.on.at.level
-inner c = omega (arith, c.if1.false)
+inner : (c : tie.Else-on-eq0) → 1 ≤ c.before.before.before.args.on.at.level
+inner c = omega (arith, c.if-on-eq0.false)
 
-cursor_below_requires : tie.Need-cursor-below-requires
+cursor_below_requires : tie.Need-cursor_below-requires
 cursor_below_requires c κs =
     let pre = c.before.before.before.requires in
     (pre.0, (pre.1 (inner c), inner c))
@@ -17,5 +17,5 @@ cursor_below_requires c κs =
 pub leaf_cursor_spec : {M : Type 1} → statement M
 leaf_cursor_spec =
     tie.close
-    (tie.spec (λ c. leaf_itself _ _ _ _ c.if1.true) cursor_below_requires
+    (tie.spec (λ c. leaf_itself _ _ _ _ c.if-on-eq0.true) cursor_below_requires
     (λ c. c.cursor_below.ensures ∙ leaf_below _ _ _ _ (inner c.before)))

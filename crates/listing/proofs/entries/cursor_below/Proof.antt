@@ -8,10 +8,10 @@ use Rattle.listing.proofs.Laws.Stands.{page_within, Lent, lent, sits_bounded}
 use Rattle.listing.proofs.entries.cursor_below.Statement.{statement}
 use Rattle.listing.proofs.entries.cursor_below.Tie as tie
 
-known : (c : tie.After-page-at) → Lent c.before.before.args.q.half c.page_at.result.now c.before.before.args.i
-known c = lent c.before.before.requires.0 c.before.before.requires.1.0 c.page_at.ensures
+known : (c : tie.After-page_at-s) → Lent c.before.before.args.q.half c.page_at-s.result.now c.before.before.args.i
+known c = lent c.before.before.requires.0 c.before.before.requires.1.0 c.page_at-s.ensures
 
-context_below_requires : tie.Need-context-below-requires
+context_below_requires : tie.Need-context_below-requires
 context_below_requires c κs =
     let l = known c.before in
     let pre = c.before.before.before.requires in
@@ -22,8 +22,8 @@ returns c =
     let down = c.before.before in
     let lend = down.before.before in
     let args = lend.before.before.args in
-    let at = down.context_below.ensures ∙ ap (λ s. context_below args.q.half s args.on.at args.i) lend.page_at.ensures in
-    let page = c.before.child_at.ensures ∙ ap (λ s. child_at args.q.half s args.i) lend.page_at.ensures in
+    let at = down.context_below.ensures ∙ ap (λ s. context_below args.q.half s args.on.at args.i) lend.page_at-s.ensures in
+    let page = c.before.child_at.ensures ∙ ap (λ s. child_at args.q.half s args.i) lend.page_at-s.ensures in
     λ j. record { at = at j; page = page j; above = c.total_at.ensures j }
 
 pub cursor_below_spec : {M : Type 1} → statement M

@@ -7,7 +7,7 @@ use Rattle.listing.proofs.Laws.Stands.{page_within, lent}
 use Rattle.listing.proofs.entries.run_start.Statement.{statement}
 use Rattle.listing.proofs.entries.run_start.Tie as tie
 
-start_at_requires : tie.Need-start-at-requires
+start_at_requires : tie.Need-start_at-requires
 start_at_requires c κs =
     let pre = c.before.before.requires in
     omega (arith, lent pre.0 pre.1 c.page_at.ensures)

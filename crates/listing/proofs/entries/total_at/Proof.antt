@@ -9,19 +9,19 @@ use Rattle.listing.proofs.Laws.Stands.{page_within, fit_facts, combinable, lent}
 use Rattle.listing.proofs.entries.total_at.Statement.{statement}
 use Rattle.listing.proofs.entries.total_at.Tie as tie
 
-abbrev lend : tie.After-pair-at → tie.After-page-at
+abbrev lend : tie.After-pair_at → tie.After-page_at
 lend c = c.before
 
-abbrev start : tie.After-pair-at → tie.Start
+abbrev start : tie.After-pair_at → tie.Start
 start c = (lend c).before.before.before
 
 -- the pair read is the page's
-read : (c : tie.After-pair-at)
+read : (c : tie.After-pair_at)
     → let args = (start c).args in
     c.pair_at.result ≡ pair_at args.q.half (bytes_at args.q.half args.img.now args.on) args.i
 read c = c.pair_at.ensures ∙ ap (λ s. pair_at (start c).args.q.half s (start c).args.i) c.before.page_at.ensures
 
-pair_at_requires : tie.Need-pair-at-requires
+pair_at_requires : tie.Need-pair_at-requires
 pair_at_requires c κs =
     let pre = c.before.before.before.requires in
     omega (arith, lent pre.0 pre.1 c.page_at.ensures)

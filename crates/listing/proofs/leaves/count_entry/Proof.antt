@@ -8,11 +8,11 @@ use Rattle.listing.proofs.Laws.Leaves.{counted_one}
 use Rattle.listing.proofs.leaves.count_entry.Statement.{statement}
 use Rattle.listing.proofs.leaves.count_entry.Tie as tie
 
-abbrev start : tie.After-total-at → tie.Start
+abbrev start : tie.After-total_at → tie.Start
 start c = c.before.before.before
 
 -- the run that the code has found
-found : (c : tie.After-total-at)
+found : (c : tie.After-total_at)
     → entry_walk (start c).args.img.now (start c).args.q (start c).args.on (start c).args.i ≡
     one_run c.before.run_start.result c.total_at.result
 found c =

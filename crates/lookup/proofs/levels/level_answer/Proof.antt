@@ -7,7 +7,7 @@ use Rattle.lookup.specs.Levels.{level_answer}
 use Rattle.lookup.proofs.levels.level_answer.Statement.{statement}
 use Rattle.lookup.proofs.levels.level_answer.Tie as tie
 
-page_answer_requires : tie.Need-page-answer-requires
+page_answer_requires : tie.Need-page_answer-requires
 page_answer_requires c κs =
     let start = c.before.before in
     ((start.requires.0.0, ap length c.page_at.ensures ∙ page_length _ _ _ start.requires.0.1), start.requires.1)

@@ -12,27 +12,27 @@ use Rattle.neighbours.specs.Edges.{next_differs}
 use Rattle.neighbours.proofs.leaves.all_apart.Statement.{statement}
 use Rattle.neighbours.proofs.leaves.all_apart.Tie as tie
 
-abbrev invariant_loop : tie.invariant-loop
+abbrev invariant_loop : tie.invariant-loop-i
 invariant_loop half s n apart₀ i₀ apart i = Passed (n - 1) (λ j. next_differs half s j) i apart
 
-abbrev decreases_loop : tie.decreases-loop
+abbrev decreases_loop : tie.decreases-loop-i
 decreases_loop half s n apart₀ i₀ apart i = n - i
 
-loop_again : tie.Need-loop-preserved invariant_loop decreases_loop
+loop_again : tie.Need-loop-i-preserved invariant_loop decreases_loop
 loop_again c =
     let second = c.before in
     let first = second.before in
     let turn = first.before.before in
     let args = turn.before.before.args in
-    passed_more turn.loop.invariant first.before.loop_test.true
+    passed_more turn.loop-i.invariant first.before.loop-i-test.true
     (ap not
     (c.same_pair.ensures
     ∙ ap₂ same_pair first.pair_at.ensures
-    (second.pair_at2.ensures ∙ ap (pair_at args.half args.s.now) (add-one turn.loop.i))))
+    (second.pair_at-in-loop-i.ensures ∙ ap (pair_at args.half args.s.now) (add-one turn.loop-i.i))))
 
 pub all_apart_spec : {M : Type 1} → statement M
 all_apart_spec =
     tie.close
     (tie.spec invariant_loop decreases_loop (λ c. passed_none _ _) (λ c. omega arith) (λ c κs. (omega arith, omega arith)) (λ c. omega arith)
     (λ c κs. (omega arith, omega arith)) (λ c κs. search rules) (λ c. omega arith) (λ c. omega arith) loop_again
-    (λ c. passed_all c.before.loop.invariant c.loop_test.false))
+    (λ c. passed_all c.before.loop-i.invariant c.loop-i-test.false))

@@ -8,11 +8,11 @@ use Rattle.neighbours.specs.Edges.{next_differs}
 use Rattle.neighbours.proofs.leaves.clearly_apart.Statement.{statement}
 use Rattle.neighbours.proofs.leaves.clearly_apart.Tie as tie
 
-returns_2 : tie.Need-returns-2
+returns_2 : tie.Need-returns-then-half-eq-MOST_HALF
 returns_2 c passed =
     let known = c.before in
     let args = known.before.before.before.args in
-    ap (λ k. every (args.n - 1) (λ i. next_differs k args.s.now i)) known.if2.true ∙ c.rows_apart.ensures passed
+    ap (λ k. every (args.n - 1) (λ i. next_differs k args.s.now i)) known.if-half-eq-MOST_HALF.true ∙ c.rows_apart.ensures passed
 
 pub clearly_apart_spec : {M : Type 1} → statement M
 clearly_apart_spec =

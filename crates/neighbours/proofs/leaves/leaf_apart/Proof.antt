@@ -7,5 +7,5 @@ use Rattle.neighbours.proofs.leaves.leaf_apart.Tie as tie
 pub leaf_apart_spec : {M : Type 1} → statement M
 leaf_apart_spec =
     tie.close
-    (tie.spec (λ c κs. search rules) (λ c. sym (c.before.clearly_apart.ensures c.if1.true))
+    (tie.spec (λ c κs. search rules) (λ c. sym (c.before.clearly_apart.ensures c.if-clearly_apart.true))
     (λ c κs. search rules) (λ c. search rules))

@@ -15,11 +15,11 @@ returns c =
     let apart = first.before in
     let count = apart.before in
     let args = count.before.before.args in
-    let n = count.entry_count.ensures in
+    let n = count.entry_count-n.ensures in
     λ j. record {
       apart = (apart.leaf_apart.ensures ∙ ap (λ k. every (k - 1) (λ i. next_differs args.half args.s.now i)) n) j;
       first = first.pair_at.ensures j;
-      last = (c.pair_at2.ensures ∙ ap (λ k. pair_at args.half args.s.now (k - 1)) n) j;
+      last = (c.pair_at-2.ensures ∙ ap (λ k. pair_at args.half args.s.now (k - 1)) n) j;
     }
 
 pub leaf_edges_spec : {M : Type 1} → statement M

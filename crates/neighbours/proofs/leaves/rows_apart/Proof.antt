@@ -9,15 +9,15 @@ use Rattle.neighbours.proofs.Laws.{from_first, rows_all}
 use Rattle.neighbours.proofs.leaves.rows_apart.Statement.{statement}
 use Rattle.neighbours.proofs.leaves.rows_apart.Tie as tie
 
-returns_3 : tie.Need-returns-3
+returns_3 : tie.Need-returns
 returns_3 c passed =
     let middle = c.before.before in
     let first = middle.before.before in
     let args = first.before.before.args in
     rows_all args.half args.n (λ i. next_differs args.half args.s.now i) (omega arith)
-    (sym (from_first _ _) ∙ first.sums_apart.ensures (not-false _ middle.before.if1.false))
-    (middle.sums_apart2.ensures (not-false _ c.before.if2.false))
-    (c.sums_apart3.ensures passed)
+    (sym (from_first _ _) ∙ first.sums_apart.ensures (not-false _ middle.before.if-not-sums_apart.false-raw))
+    (middle.sums_apart-2.ensures (not-false _ c.before.if-not-sums_apart-2.false-raw))
+    (c.sums_apart-3.ensures passed)
 
 pub rows_apart_spec : {M : Type 1} → statement M
 rows_apart_spec =

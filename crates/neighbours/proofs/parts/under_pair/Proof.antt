@@ -9,7 +9,7 @@ returns : tie.Need-returns
 unfolding under_pair
 returns c =
     let args = c.before.before.args in
-    ap₂ (λ p q. record { apart = args.e.apart; first = p; last = q }) c.before.combine.ensures c.combine2.ensures
+    ap₂ (λ p q. record { apart = args.e.apart; first = p; last = q }) c.before.combine.ensures c.combine-2.ensures
 
 pub under_pair_spec : {M : Type 1} → statement M
 under_pair_spec = tie.close (tie.spec (λ c κs. search rules) (λ c κs. search rules) returns)

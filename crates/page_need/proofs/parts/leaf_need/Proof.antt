@@ -8,5 +8,5 @@ pub leaf_need_spec : {M : Type 1} → statement M
 leaf_need_spec =
     tie.close
     (tie.spec
-    (λ c. sym (leaf_starts c.before.before.args.t c.before.before.args.e c.if1.true))
-    (λ c. sym (leaf_divides c.before.before.args.t c.before.before.args.e c.if1.false)))
+    (λ c. sym (leaf_starts c.before.before.args.t c.before.before.args.e c.if-e-t.true))
+    (λ c. sym (leaf_divides c.before.before.args.t c.before.before.args.e c.if-e-t.false)))

@@ -8,19 +8,19 @@ use Rattle.page_need.proofs.Counts.{page_need_few, page_need_over}
 use Rattle.page_need.proofs.parts.page_need.Statement.{statement}
 use Rattle.page_need.proofs.parts.page_need.Tie as tie
 
-returns : tie.Need-returns
+returns : tie.Need-returns-then-n-below
 returns c =
     let at = c.before in
     let args = at.before.before.args in
-    sym (page_need_few args.half args.n args.below (omega (arith, at.capacity.ensures, c.if1.true)))
+    sym (page_need_few args.half args.n args.below (omega (arith, at.capacity.ensures, c.if-n-below.true)))
 
-returns_2 : tie.Need-returns-2
+returns_2 : tie.Need-returns
 returns_2 c =
     let else = c.before in
     let at = else.before in
     let args = at.before.before.args in
     let d : args.below.pages + 1 ≡ suc args.below.pages = omega arith in
-    ap (need 1) d ∙ sym (page_need_over args.half args.n args.below (omega (arith, at.capacity.ensures, else.if1.false)))
+    ap (need 1) d ∙ sym (page_need_over args.half args.n args.below (omega (arith, at.capacity.ensures, else.if-n-below.false)))
 
 pub page_need_spec : {M : Type 1} → statement M
 page_need_spec =

@@ -8,26 +8,26 @@ use Rattle.page_need.proofs.Opening.{opened_leads, asked_first, asked_both}
 use Rattle.page_need.proofs.verdict.cuts_need.Statement.{statement}
 use Rattle.page_need.proofs.verdict.cuts_need.Tie as tie
 
-leads : (c : tie.After-root-entry) → let start = c.before.before in
-    Leads start.args.half start.args.img.now start.args.s END start.args.h.height c.root_entry.result
+leads : (c : tie.After-root_entry-root) → let start = c.before.before in
+    Leads start.args.half start.args.img.now start.args.s END start.args.h.height c.root_entry-root.result
 leads c =
     let start = c.before.before in
-    opened_leads start.requires.0 (bytes_of start.args.img.now c.before.shared_slice_known.given) start.args.s
-    c.root_entry.ensures
+    opened_leads start.requires.0 (bytes_of start.args.img.now c.before.shared_slice_known-1.given) start.args.s
+    c.root_entry-root.ensures
 
-returns : tie.Need-returns
+returns : tie.Need-returns-then-e-eq-END
 returns c =
     let root = c.before.before in
     let start = root.before.before in
-    asked_first start.requires.0 start.args.s start.args.e root.root_entry.ensures (omega (arith, c.before.if1.true))
+    asked_first start.requires.0 start.args.s start.args.e root.root_entry-root.ensures (omega (arith, c.before.if-e-eq-END.true))
     c.one_cut.ensures
 
-returns_2 : tie.Need-returns-2
+returns_2 : tie.Need-returns
 returns_2 c =
     let root = c.before.before in
     let start = root.before.before in
-    asked_both start.requires.0 start.args.s start.args.e root.root_entry.ensures
-    (omega (arith, start.well_formed, c.before.if1.false)) c.both_cuts.ensures
+    asked_both start.requires.0 start.args.s start.args.e root.root_entry-root.ensures
+    (omega (arith, start.well_formed, c.before.if-e-eq-END.false)) c.both_cuts.ensures
 
 pub cuts_need_spec : {M : Type 1} → statement M
 cuts_need_spec =
@@ -37,5 +37,5 @@ cuts_need_spec =
     returns
     (λ c κs.
     let start = c.before.before.before in
-    (leads c.before, (start.requires.1, omega (arith, start.well_formed, c.if1.false))))
+    (leads c.before, (start.requires.1, omega (arith, start.well_formed, c.if-e-eq-END.false))))
     returns_2)

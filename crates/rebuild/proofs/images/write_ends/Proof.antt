@@ -9,17 +9,17 @@ use Rattle.page.specs.Layout.{page_size, head_bytes}
 use Rattle.rebuild.proofs.images.write_ends.Statement.{statement}
 use Rattle.rebuild.proofs.images.write_ends.Tie as tie
 
-abbrev start : tie.After-page-size → tie.Start
+abbrev start : tie.After-page_size → tie.Start
 start c = c.before.before
 
 -- where the last page used ends
-end : (c : tie.After-page-size) → c.page_size.result * (start c).args.h.mark ≡ page_size (start c).args.half * (start c).args.h.mark
+end : (c : tie.After-page_size) → c.page_size.result * (start c).args.h.mark ≡ page_size (start c).args.half * (start c).args.h.mark
 end c = ap (λ k. k * (start c).args.h.mark) c.page_size.ensures
 
-head_room : tie.Need-write-head-at-requires
+head_room : tie.Need-write_head_at-requires
 head_room c κs =
     let begun = start c.before.before.before.before.before.before in
-    omega (arith, mul-le-mul_left (page_size begun.args.half) begun.pre.2)
+    omega (arith, mul-le-mul_left (page_size begun.args.half) begun.requires.2)
 
 returns : tie.Need-returns
 unfolding unused

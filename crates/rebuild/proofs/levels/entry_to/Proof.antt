@@ -10,7 +10,7 @@ use Rattle.rebuild.specs.Levels.{page_entry}
 use Rattle.rebuild.proofs.levels.entry_to.Statement.{statement}
 use Rattle.rebuild.proofs.levels.entry_to.Tie as tie
 
-start_at_requires : tie.Need-start-at-requires
+start_at_requires : tie.Need-start_at-requires
 start_at_requires c κs =
     let start = c.before.before in
     let args = start.args in

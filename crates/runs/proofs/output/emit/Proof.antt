@@ -5,19 +5,19 @@ use Rattle.runs.proofs.Laws.Steps.{output_on, output_new}
 use Rattle.runs.proofs.output.emit.Statement.{statement}
 use Rattle.runs.proofs.output.emit.Tie as tie
 
-returns : tie.Need-returns
-returns c = sym (output_on _ _ _ (sym c.before.goes_on.ensures ∙ c.if1.true))
+returns : tie.Need-returns-then-goes_on
+returns c = sym (output_on _ _ _ (sym c.before.goes_on.ensures ∙ c.if-goes_on.true))
 
-put_run_requires : tie.Need-put-run-requires
+put_run_requires : tie.Need-put_run-requires
 put_run_requires c κs =
     let before = c.before.before.before in
-    before.before.before.requires (sym before.goes_on.ensures ∙ c.before.before.if1.false)
+    before.before.before.requires (sym before.goes_on.ensures ∙ c.before.before.if-goes_on.false)
 
-returns_2 : tie.Need-returns-2
+returns_2 : tie.Need-returns
 returns_2 c =
     let call = c.before.before in
     let branch = call.before.before.before in
-    call.put_run.ensures ∙ sym (output_new _ _ _ (sym branch.before.goes_on.ensures ∙ branch.if1.false))
+    call.put_run.ensures ∙ sym (output_new _ _ _ (sym branch.before.goes_on.ensures ∙ branch.if-goes_on.false))
 
 pub emit_spec : {M : Type 1} → statement M
 emit_spec =

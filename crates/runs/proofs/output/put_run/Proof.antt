@@ -24,10 +24,10 @@ returns c =
     let count : SFits w32 args.pair.count = search rules in
     let sum : SFits w64 args.pair.sum = search rules in
     third.put_i64.ensures
-    ∙ ap (λ z. patch second.put_i32.new.0 (o + 8) (i64_bytes z)) (to_z-of_z w64 args.pair.sum sum)
+    ∙ ap (λ z. patch second.put_i32.new.s (o + 8) (i64_bytes z)) (to_z-of_z w64 args.pair.sum sum)
     ∙ ap (λ l. patch l (o + 8) (i64_bytes args.pair.sum))
     (second.put_i32.ensures
-    ∙ ap (λ z. patch first.put_u32.new.0 (o + 4) (i32_bytes z)) (to_z-of_z w32 args.pair.count count)
+    ∙ ap (λ z. patch first.put_u32.new.s (o + 4) (i32_bytes z)) (to_z-of_z w32 args.pair.count count)
     ∙ ap (λ l. patch l (o + 4) (i32_bytes args.pair.count)) first.put_u32.ensures)
     ∙ patch_run args.out.now o (record { start = args.start; pair = args.pair }) start.requires
 

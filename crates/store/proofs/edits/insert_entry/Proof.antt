@@ -16,7 +16,7 @@ returns c X h l k =
     let sized = edited.before.before in
     let found = sized.before in
     let start = found.before.before in
-    back_inserted h k.tree_page found.page_offset.ensures sized.page_size.ensures edited.insert_slot.auto.1.0
+    back_inserted h k.tree_page found.page_offset-a.ensures sized.page_size.ensures edited.insert_slot.auto.s
     start.args.i start.args.e k.room
     (entry_fits _ _ start.well_formed.1.1.1.1.0) edited.insert_slot.ensures
 
@@ -38,6 +38,6 @@ insert_entry_spec =
       pre.ready.1.inside,
       pre.ready.1.room,
       lent_sizes pre.holds pre.ready.1.tree_page
-          found.page_offset.ensures sized.page_size.ensures,
+          found.page_offset-a.ensures sized.page_size.ensures,
     ))
     (λ c. omega arith) returns)

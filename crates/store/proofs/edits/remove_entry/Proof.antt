@@ -14,7 +14,7 @@ returns c X h l k =
     let edited = c.before.before in
     let sized = edited.before.before in
     let found = sized.before in
-    back_removed h k.tree_page found.page_offset.ensures sized.page_size.ensures edited.remove_slot.auto.1.0
+    back_removed h k.tree_page found.page_offset-a.ensures sized.page_size.ensures edited.remove_slot.auto.s
     found.before.before.args.i k.inside
     edited.remove_slot.ensures
 
@@ -35,6 +35,6 @@ remove_entry_spec =
       arith,
       pre.ready.1.inside,
       lent_sizes pre.holds pre.ready.1.tree_page
-          found.page_offset.ensures sized.page_size.ensures,
+          found.page_offset-a.ensures sized.page_size.ensures,
     ))
     (λ c. omega arith) returns)

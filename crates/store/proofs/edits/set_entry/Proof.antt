@@ -15,7 +15,7 @@ returns c X h l k =
     let edited = c.before.before in
     let sized = edited.before.before in
     let found = sized.before in
-    back_set h k.tree_page found.page_offset.ensures sized.page_size.ensures edited.set_slot.auto.1.0 k.inside
+    back_set h k.tree_page found.page_offset-a.ensures sized.page_size.ensures edited.set_slot.auto.s k.inside
     (entry_fits _ _ found.before.before.well_formed.1.1.1.1.0) edited.set_slot.ensures
 
 pub set_entry_spec : {M : Type 1} → statement M
@@ -35,6 +35,6 @@ set_entry_spec =
       arith,
       pre.ready.1.inside,
       lent_sizes pre.holds pre.ready.1.tree_page
-          found.page_offset.ensures sized.page_size.ensures,
+          found.page_offset-a.ensures sized.page_size.ensures,
     ))
     (λ c. omega arith) returns)

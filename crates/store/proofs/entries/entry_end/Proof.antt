@@ -5,7 +5,7 @@ use Rattle.store.proofs.Reading.{lent_within, lent_size, lent_read, lent_end}
 use Rattle.store.proofs.entries.entry_end.Statement.{statement}
 use Rattle.store.proofs.entries.entry_end.Tie as tie
 
-end_at_requires : tie.Need-end-at-requires
+end_at_requires : tie.Need-end_at-requires
 end_at_requires c κs =
     let pre = c.before.before.requires in
     let k = pre.ready.1 in

@@ -5,7 +5,7 @@ use Rattle.store.proofs.Reading.{lent_within, lent_size, lent_read, lent_entry}
 use Rattle.store.proofs.entries.entry_of.Statement.{statement}
 use Rattle.store.proofs.entries.entry_of.Tie as tie
 
-entry_at_requires : tie.Need-entry-at-requires
+entry_at_requires : tie.Need-entry_at-requires
 entry_at_requires c κs =
     let pre = c.before.before.requires in
     let k = pre.ready.1 in

@@ -8,7 +8,7 @@ use Rattle.store.proofs.Encoding.{holds_first, holds_head}
 use Rattle.store.proofs.heads.head_of.Statement.{statement}
 use Rattle.store.proofs.heads.head_of.Tie as tie
 
-read_head_requires : tie.Need-read-head-requires
+read_head_requires : tie.Need-read_head-requires
 read_head_requires c κs =
     let start = c.before.before in
     let h = start.requires.holds in

@@ -11,19 +11,19 @@ use Rattle.store.proofs.Supplying.{by_head, Headed, some_headed}
 use Rattle.store.proofs.root.count_change.Statement.{statement}
 use Rattle.store.proofs.root.count_change.Tie as tie
 
-headed : (c : tie.After-head-of) → let args = c.before.before.before.args in Headed args.half args.img.now
-    c.head_of.result Countable
-headed c = some_headed c.before.before.before.requires c.head_of.ensures
+headed : (c : tie.After-head_of-h) → let args = c.before.args in Headed args.half args.img.now
+    c.head_of-h.result Countable
+headed c = some_headed c.before.requires c.head_of-h.ensures
 
 returns : tie.Need-returns
 unfolding count_change
 returns c X h r =
     let set = c.before.before in
     let read = set.before.before.before in
-    let args = read.before.before.before.args in
-    by_head (λ Y. Encodes args.half args.img.now Y → Encodes args.half set.set_head.new.0 (count_change Y))
-    (read.head_of.ensures X h tt)
-    (λ k. rw (← add-one read.head_of.result.changes) (set.set_head.ensures _ _ k (record { pages = refl }))) h
+    let args = read.before.args in
+    by_head (λ Y. Encodes args.half args.img.now Y → Encodes args.half set.set_head.new.img (count_change Y))
+    (read.head_of-h.ensures X h tt)
+    (λ k. rw (← add-one read.head_of-h.result.changes) (set.set_head.ensures _ _ k (record { pages = refl }))) h
 
 pub count_change_spec : {M : Type 1} → statement M
 count_change_spec =

@@ -11,11 +11,11 @@ use Rattle.store.proofs.Supplying.{by_head, Headed, some_headed, given_back_is}
 use Rattle.store.proofs.supply.give_back.Statement.{statement}
 use Rattle.store.proofs.supply.give_back.Tie as tie
 
-headed : (c : tie.After-head-of)
-    → let args = c.before.before.before.args in Headed args.half args.img.now c.head_of.result (Givable args.p)
-headed c = some_headed c.before.before.before.requires c.head_of.ensures
+headed : (c : tie.After-head_of-h)
+    → let args = c.before.args in Headed args.half args.img.now c.head_of-h.result (Givable args.p)
+headed c = some_headed c.before.requires c.head_of-h.ensures
 
-set_free_requires : tie.Need-set-free-requires
+set_free_requires : tie.Need-set_free-requires
 set_free_requires c κs =
     let set = c.before.before.before in
     let k = headed set.before.before.before in
@@ -28,16 +28,16 @@ set_free_requires c κs =
 returns : tie.Need-returns
 unfolding with_supply
 returns c X h r =
-    let freed = c.before.before in
+    let freed = c in
     let set = freed.before.before.before.before in
     let read = set.before.before.before in
-    let args = read.before.before.before.args in
+    let args = read.before.args in
     by_head (λ Y. Encodes args.half args.img.now Y → Givable args.p Y
-    → Encodes args.half freed.set_Free.new.1.0 (given_back args.p Y))
-    (read.head_of.ensures X h tt)
+    → Encodes args.half freed.set_free.new.img (given_back args.p Y))
+    (read.head_of-h.ensures X h tt)
     (λ k g.
     subst (Encodes _ _) (given_back_is args.p _)
-    (freed.set_Free.ensures _ (set.set_head.ensures _ _ k (record { pages = refl }))
+    (freed.set_free.ensures _ (set.set_head.ensures _ _ k (record { pages = refl }))
     (record { least = g.within.least; below = g.within.below })))
     h r
 

@@ -13,56 +13,56 @@ use Rattle.store.proofs.Supplying.{marked_below, chained_within}
 use Rattle.store.proofs.supply.take.Statement.{statement}
 use Rattle.store.proofs.supply.take.Tie as tie
 
-headed : (c : tie.After-head-of) → let args = c.before.before.before.args in Headed args.half args.img.now
-    c.head_of.result Takable
-headed c = some_headed c.before.before.before.requires c.head_of.ensures
+headed : (c : tie.After-head_of-h) → let args = c.before.args in Headed args.half args.img.now
+    c.head_of-h.result Takable
+headed c = some_headed c.before.requires c.head_of-h.ensures
 
-add_h : tie.Need-overflow-add-h
+add_h : tie.Need-overflow_add-h
 add_h c =
     let k = headed c.before.before in
-    omega (arith, marked_below c.if1.true k.ready, k.holds.pages_most)
+    omega (arith, marked_below c.if-h-eq0.true k.ready, k.holds.pages_most)
 
-returns : tie.Need-returns
+returns : tie.Need-returns-then-h-eq0
 unfolding with_supply
 returns c X h r =
     let set = c.before.before in
     let then = set.before.before in
     let read = then.before.before in
-    let args = read.before.before.before.args in
+    let args = read.before.args in
     by_head
     (λ Y. Encodes args.half args.img.now Y
-    → (read.head_of.result.mark ≡ spare Y) × Encodes args.half set.set_head.new.0 (taken Y))
-    (read.head_of.ensures X h tt)
+    → (read.head_of-h.result.mark ≡ spare Y) × Encodes args.half set.set_head.new.img (taken Y))
+    (read.head_of-h.ensures X h tt)
     (λ k. (
-      spare_marked _ then.if1.true,
-      subst (Encodes _ _) (taken_marked _ then.if1.true)
+      spare_marked _ then.if-h-eq0.true,
+      subst (Encodes _ _) (taken_marked _ then.if-h-eq0.true)
           (set.set_head.ensures _ _ k (record { pages = refl })),
     ))
     h
 
-next_free_requires : tie.Need-next-free-requires
+next_free_requires : tie.Need-next_free-requires
 next_free_requires c κs =
-    let k = headed c.before.before.before in
-    record { image = _; holds = k.holds; ready = chained_within c.before.if1.false k.ready }
+    let k = headed c.before.before in
+    record { image = _; holds = k.holds; ready = chained_within c.if-h-eq0.false k.ready }
 
-returns_2 : tie.Need-returns-2
+returns_2 : tie.Need-returns
 unfolding with_supply
 returns_2 c X h r =
     let set = c.before.before in
     let next = set.before.before.before in
-    let else = next.before.before in
-    let read = else.before.before in
-    let args = read.before.before.before.args in
+    let else = next in
+    let read = else in
+    let args = read.before.args in
     by_head
     (λ Y. Encodes args.half args.img.now Y → Takable Y
-    → (read.head_of.result.free ≡ spare Y) × Encodes args.half set.set_head2.new.0 (taken Y))
-    (read.head_of.ensures X h tt)
+    → (read.head_of-h.result.free ≡ spare Y) × Encodes args.half set.set_head-2.new.img (taken Y))
+    (read.head_of-h.ensures X h tt)
     (λ k t.
-    let some : 1 ≤ read.head_of.result.chain = omega (arith, else.if1.false) in (
-      spare_chained _ else.if1.false,
-      subst (Encodes _ _) (taken_chained _ else.if1.false (t.front some)
-          (next.next_free.ensures _ k (chained_within else.if1.false t) _ (t.front some).is))
-          (set.set_head2.ensures _ _ k (record { pages = refl })),
+    let some : 1 ≤ read.head_of-h.result.chain = omega (arith, else.if-h-eq0.false) in (
+      spare_chained _ else.if-h-eq0.false,
+      subst (Encodes _ _) (taken_chained _ else.if-h-eq0.false (t.front some)
+          (next.next_free.ensures _ k (chained_within else.if-h-eq0.false t) _ (t.front some).is))
+          (set.set_head-2.ensures _ _ k (record { pages = refl })),
     ))
     h r
 
@@ -72,5 +72,5 @@ take_spec =
     (tie.spec (λ c κs. search rules) add_h
     (λ c κs. holds_numbers (headed c.before.before.before).holds)
     (λ c. omega arith) returns next_free_requires (λ c. omega arith)
-    (λ c κs. let next = c.before.before.before in holds_numbers (headed next.before.before.before).holds)
+    (λ c κs. let next = c.before.before.before in holds_numbers (headed next.before.before).holds)
     (λ c. omega arith) returns_2)
