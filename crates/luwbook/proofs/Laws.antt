@@ -5,14 +5,9 @@ use mathlib.Core.Bool.{Bool, true, false, not, ◌||◌, true≢false, false≢t
 use mathlib.Core.List.{List, []}
 use native.Mathlib.Omega.{arith}
 use lib.ListN.{length, take}
-use lib.IntN.{ℤ, pos, negsuc}
+use lib.IntN.{ℤ, pos, negsuc, nat_abs}
 use lib.Signed.{lt_z}
-use mir.Syntax.{w64}
-use mir.Val.{to_z, of_z, SFits}
-use mir.Facts.{to_z-of_z}
 use borrow.Author.Tests.{ltb-true, not-true}
-use Rattle.io.specs.Counts.{clamp_len}
-use Rattle.libc.specs.Io.{Moved}
 use Rattle.fields.specs.Bytes.{part}
 use Rattle.fields.proofs.Laws.Parts.{part_patch_same}
 use Rattle.rule.specs.Time.{END}
@@ -23,7 +18,7 @@ use Rattle.program.specs.declared.Reading.{Reading}
 use Rattle.program.specs.State.{ProgramState, at_first, unwritten, after_bytes, ended, listed_text}
 use Rattle.program.specs.Simulation.{Simulates, SimulatesStep, Begins, Flushes}
 use Rattle.luwbook.specs.declared.Progress.{Progress}
-use Rattle.luwbook.specs.Reached.{Reached, first, next, Printed, by_runs, Stands, Standing, Ran, Takes, Well}
+use Rattle.luwbook.specs.Reached.{Reached, first, next, Printed, by_runs, Stands, Standing, Ran, Moved, Takes, Well}
 
 -- before the first byte
 pub begun : {r : Reading} {img : List ℕ} → Begins r → img ≡ (at_first 12 64).image → Standing r img
@@ -86,10 +81,6 @@ module _ {piece : List ℕ} {r : Reading} {img after : List ℕ} {p : Progress} 
 
 -- ---- what a read's answer means
 
--- the answer as it is passed on
-pub moved_as : (n m : ℕ) (z : ℤ) → m ≡ n → SFits w64 z → Moved n z → Moved m (to_z w64 (of_z w64 z))
-moved_as n m z e f d = subst⁻¹ (λ k. Moved k (to_z w64 (of_z w64 z))) e (subst⁻¹ (Moved n) (to_z-of_z f) d)
-
 module _ (bytes : List ℕ) (r : Reading) (img : List ℕ) {p : Progress} where
   pub takes_failed : (z : ℤ) → lt_z z (pos 0) ≡ true → p ≡ record { reading = r; more = false; failed = true } → Takes z bytes r img p img
   unfolding Takes
@@ -100,14 +91,12 @@ module _ (bytes : List ℕ) (r : Reading) (img : List ℕ) {p : Progress} where
   unfolding Takes
   takes_ended z l e = subst⁻¹ (λ y. Takes y bytes r img p img) l (e, refl)
 
-  pub takes_more : (after : List ℕ) {n : ℕ} (z : ℤ) → lt_z z (pos 0) ≡ false → (z ≡ pos 0 → ⊥) → Moved (length bytes) z
-      → n ≡ clamp_len z (length bytes) → Ran (take n bytes) r img p after → Takes z bytes r img p after
+  pub takes_more : (after : List ℕ) (z : ℤ) → lt_z z (pos 0) ≡ false → (z ≡ pos 0 → ⊥) → Ran (take (nat_abs z) bytes) r img p after
+      → Takes z bytes r img p after
   unfolding Takes
-  takes_more after (negsuc k) l z m e ran = absurd (true≢false l)
-  takes_more after (pos zero) l z m e ran = absurd (z refl)
-  takes_more after {n} (pos (suc k)) l z m e ran =
-      let d : n ≡ suc k = omega (arith, e, m) in
-      subst (λ i. Ran (take i bytes) r img p after) d ran
+  takes_more after (negsuc k) l some ran = absurd (true≢false l)
+  takes_more after (pos zero) l some ran = absurd (some refl)
+  takes_more after (pos (suc k)) l some ran = ran
 
   -- whatever it is, the program is where it can be
   pub takes_well : (after : List ℕ) (z : ℤ) → Takes z bytes r img p after → Standing r img → Well p after

@@ -1,6 +1,6 @@
 -- Where the program can be, and what it may write. What comes is the input's choice: said here is what every choice has in common. That
 -- what is written in turn for the pieces of a text is document 01's output for it is `program_output` `pieces_program`. Assumes nothing.
-use Rattle.std.specs.Prelude.{ℕ, zero, suc, ◌<◌, ◌^◌, ◌≡◌, true, false, not, List, [], length, take, ℤ, pos, negsuc}
+use Rattle.std.specs.Prelude.{ℕ, zero, suc, ◌<◌, ◌≤◌, ◌^◌, ◌≡◌, true, false, not, List, [], length, take, ℤ, pos, negsuc}
 use Rattle.rule.specs.Time.{END}
 use Rattle.calls.specs.Calls.{listing}
 use Rattle.program.specs.declared.Reading.{Reading}
@@ -42,6 +42,11 @@ pub record Ran (piece : List ℕ) (r : Reading) (img : List ℕ) (p : Progress) 
   pub runs : p.more ≡ true → (g : ProgramState) → Stands g r img → Stands (after_bytes 12 64 piece (unwritten g)) p.reading after
   pub silent :
       r.number < 2 ^ 63 → (g : ProgramState) → Stands g r img → (after_bytes 12 64 piece (unwritten g)).written ≡ [] → p.more ≡ true
+
+-- What a read that is handed n bytes may answer: −1, or how many bytes came, at most n.
+abbrev pub Moved : ℕ → ℤ → Type 0
+Moved n (pos k) = k ≤ n
+Moved n (negsuc k) = k ≡ 0
 
 -- What a read's answer means: −1 a failure, 0 the end of the text, any other number so many bytes of it.
 unfoldable pub Takes : ℤ → List ℕ → Reading → List ℕ → Progress → List ℕ → Type 0

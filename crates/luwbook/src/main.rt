@@ -1,13 +1,15 @@
 // The program of document 01: reads bookings from standard input, says which lines are refused or unread, and lists the runs.
 // What each byte does and what is printed is proved in `program`; here it is read and written, in pieces.
-ghost use Rattle.std.specs.Prelude.{◌≤◌, ◌≡◌, true, false, length, take};
-ghost use Rattle.libc.specs.Io.{Moved};
-ghost use Rattle.luwbook.specs.Reached.{Printed, Standing, Ran, Takes, Well, Ends};
+#![tactic(auto)]
 
-use libc::{STDERR_FILENO, STDIN_FILENO, STDOUT_FILENO};
+ghost use Rattle.std.specs.Prelude.{IfOk, ◌≤◌, ◌≡◌, true, false, length, take};
+ghost use Rattle.luwbook.specs.Reached.{Moved, Printed, Standing, Ran, Takes, Well, Ends};
+
 use program::ending::put_listing;
 use program::pieces::{at_first, begin, flushed, run_last, run_piece};
 use program::{ENDING_BYTES, IMAGE_BYTES, LIST_BYTES, REFUSED_LINE, Reading};
+use std::io;
+use std::io::{Input, Print, Read};
 
 // How much is read at once.
 const PIECE_BYTES: usize = 4096;
@@ -33,19 +35,24 @@ fn stopped(r: Reading, failed: bool) -> Progress
     }
 }
 
+// A line on standard error. Nothing is left to be told where that fails, too.
+fn say(rt: &HostRuntime, line: &str) {
+    let _ = rt.eprintln(line);
+}
+
 // A write's answer, as it is: a failure is told on standard error.
-fn told(written: bool) -> bool
+fn told(rt: &HostRuntime, written: bool) -> bool
     ensures { result ≡ written }
 {
     if !written {
-        io::write_all(STDERR_FILENO, b"luwbook: cannot write\n");
+        say(rt, "luwbook: cannot write");
     }
     written
 }
 
 // Writes the first n bytes, in as many turns as it takes, and answers whether that went well.
 // No contract can say what reaches standard output: this one says what may be handed to it.
-fn write_first(out: &[u8], n: usize) -> bool
+fn write_first(rt: &HostRuntime, out: &[u8], n: usize) -> bool
     requires n_in_bounds { n ≤ length out.now }
     requires printed { Printed (take n out.now) }
     ensures { n ≡ 0 → result ≡ true }
@@ -53,7 +60,7 @@ fn write_first(out: &[u8], n: usize) -> bool
     if n == 0 {
         return true;
     }
-    told(io::write_all(STDOUT_FILENO, &out[..n]))
+    told(rt, rt.write_all(&out[..n]).is_ok())
 }
 
 // Room for what a piece prints, for the runs of a listing and for their text. Each is made by itself: a proof of the functions below then
@@ -73,7 +80,7 @@ fn listing_room() -> [u8; ENDING_BYTES] {
 }
 
 // Runs what was read, and writes what that prints: at most 55 bytes for each. A line's number has to fit.
-fn run_some(img: &mut [u8], r: Reading, piece: &[u8]) -> Progress
+fn run_some(rt: &HostRuntime, img: &mut [u8], r: Reading, piece: &[u8]) -> Progress
     requires piece_len_bound { length piece.now ≤ 4096 }
     requires standing { Standing r img.old }
     ensures { Ran piece.now r img.old result img.new }
@@ -84,7 +91,7 @@ fn run_some(img: &mut [u8], r: Reading, piece: &[u8]) -> Progress
     let mut out = piece_room();
     let q = run_piece(img, &mut out, flushed(r), piece);
     let at = q.at;
-    let written = write_first(&out, at);
+    let written = write_first(rt, &out, at);
     Progress {
         reading: q,
         more: written,
@@ -93,36 +100,47 @@ fn run_some(img: &mut [u8], r: Reading, piece: &[u8]) -> Progress
 }
 
 // What a read's answer means: a failure is told on standard error.
-fn take_in(img: &mut [u8], r: Reading, bytes: &[u8], got: isize) -> Progress
+fn take_in(rt: &HostRuntime, img: &mut [u8], r: Reading, bytes: &[u8], got: isize) -> Progress
     requires bytes_len_bound { length bytes.now ≤ 4096 }
     requires moved { Moved (length bytes.now) got }
     requires standing { Standing r img.old }
     ensures { Takes got bytes.now r img.old result img.new }
 {
     if got < 0 {
-        io::write_all(STDERR_FILENO, b"luwbook: cannot read\n");
+        say(rt, "luwbook: cannot read");
         return stopped(r, true);
     }
     if got == 0 {
         return stopped(r, false);
     }
-    let n = io::count(got, bytes);
-    run_some(img, r, &bytes[..n])
+    let n = got as usize;
+    run_some(rt, img, r, &bytes[..n])
+}
+
+// How many bytes a read brought, or −1 for a failure.
+fn amount(read: io::Result<usize>) -> isize
+    requires { IfOk read (λ n. n ≤ 4096) }
+    ensures { Moved 4096 result }
+{
+    match read {
+        Ok(n) => n as isize,
+        Err(_) => -1,
+    }
 }
 
 // Reads once, and runs what came.
-fn read_some(img: &mut [u8], r: Reading) -> Progress
+fn read_some(rt: &HostRuntime, img: &mut [u8], r: Reading) -> Progress
     requires { Standing r img.old }
     ensures { Well result img.new }
 {
     let mut bytes = [0u8; PIECE_BYTES];
-    let got = libc::read(STDIN_FILENO, &mut bytes);
-    take_in(img, r, &bytes, got)
+    let got = amount(rt.reader().read(&mut bytes));
+    take_in(rt, img, r, &bytes, got)
 }
 
 // Reads to the end, or to a failure. A proved loop has to end, and nothing says that the input does: so it counts its turns down, from a
 // number that no run uses up.
-fn read_all(img: &mut [u8], r: Reading) -> Progress
+fn read_all(rt: &HostRuntime, img: &mut [u8], r: Reading) -> Progress
     requires { Standing r img.old }
     ensures { Well result img.new }
 {
@@ -134,7 +152,7 @@ fn read_all(img: &mut [u8], r: Reading) -> Progress
     let mut turns = u64::MAX;
     while turns > 0 && p.more {
         let q = p.reading;
-        p = read_some(img, q);
+        p = read_some(rt, img, q);
         turns -= 1;
     }
     p
@@ -142,7 +160,7 @@ fn read_all(img: &mut [u8], r: Reading) -> Progress
 
 // The last line, if its newline is missing, and the runs; whether all is written. A text that could not be read to its end has no runs:
 // they would look like those of all of it.
-fn finish(img: &mut [u8], p: Progress) -> bool
+fn finish(rt: &HostRuntime, img: &mut [u8], p: Progress) -> bool
     requires more_value { (p.more ≡ false) × (p.failed ≡ false) }
     requires standing { Standing p.reading img.old }
     ensures { result ≡ true → Ends p.reading img.old img.new }
@@ -154,20 +172,20 @@ fn finish(img: &mut [u8], p: Progress) -> bool
     let mut out = listing_room();
     let q = run_last(img, &mut out, flushed(r));
     let at = q.at;
-    if !write_first(&out, at) {
+    if !write_first(rt, &out, at) {
         return false;
     }
     let mut list = runs_room();
     let end = put_listing(img, &mut list, &mut out);
-    write_first(&out, end)
+    write_first(rt, &out, end)
 }
 
-fn main() {
+fn main(rt: HostRuntime) {
     let mut img = [0u8; IMAGE_BYTES];
     begin(&mut img);
-    let p = read_all(&mut img, at_first());
+    let p = read_all(&rt, &mut img, at_first());
     if p.failed | p.more {
         return;
     }
-    finish(&mut img, p);
+    finish(&rt, &mut img, p);
 }

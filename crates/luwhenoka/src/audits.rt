@@ -43,8 +43,7 @@ pub(crate) fn audit_by(half: usize, img: &[u8], scratch: &mut [u8], old: bool) -
 }
 
 // The same by the capacity that the image names.
-#[unsafe(no_mangle)]
-pub extern "C" fn luw_audit(img: &[u8], scratch: &mut [u8]) -> u32
+pub fn luw_audit(img: &[u8], scratch: &mut [u8]) -> u32
     ensures { Audits img.now scratch.old result scratch.new }
 {
     match judge(img) {

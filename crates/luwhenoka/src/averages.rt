@@ -37,8 +37,7 @@ fn in_numbers(a: Average) -> AverageAnswer
 }
 
 // The average of a kind's sum and count: as the program prints it for each run of a listing.
-#[unsafe(no_mangle)]
-pub extern "C" fn luw_average_of(kind: u32, sum: i64, count: i32) -> AverageAnswer
+pub fn luw_average_of(kind: u32, sum: i64, count: i32) -> AverageAnswer
     ensures { AveragesOf kind sum count result }
 {
     in_numbers(average(
@@ -70,8 +69,7 @@ fn refused(status: u32) -> AverageAnswer
 }
 
 // "The average's pair is taken by an instant call": its refusals are that call's.
-#[unsafe(no_mangle)]
-pub extern "C" fn luw_average(img: &[u8], t: u32) -> AverageAnswer
+pub fn luw_average(img: &[u8], t: u32) -> AverageAnswer
     ensures { Averages t img.now result }
 {
     let r = luw_instant(img, t);

@@ -18,16 +18,14 @@ fn index_book(img: &mut [u8], scratch: &mut [u8], withdraws: bool, v: i64, s: u3
 }
 
 // "an entry adds (v, 1)": value v on [s, e).
-#[unsafe(no_mangle)]
-pub extern "C" fn luw_enter(img: &mut [u8], scratch: &mut [u8], v: i64, s: u32, e: u32) -> u32
+pub fn luw_enter(img: &mut [u8], scratch: &mut [u8], v: i64, s: u32, e: u32) -> u32
     ensures { Books entering v s e img.old scratch.old result img.new scratch.new }
 {
     index_book(img, scratch, false, v, s, e)
 }
 
 // "a withdrawal (−v, −1), whether or not such a booking is live".
-#[unsafe(no_mangle)]
-pub extern "C" fn luw_withdraw(img: &mut [u8], scratch: &mut [u8], v: i64, s: u32, e: u32) -> u32
+pub fn luw_withdraw(img: &mut [u8], scratch: &mut [u8], v: i64, s: u32, e: u32) -> u32
     ensures { Books withdrawing v s e img.old scratch.old result img.new scratch.new }
 {
     index_book(img, scratch, true, v, s, e)

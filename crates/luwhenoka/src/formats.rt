@@ -28,8 +28,7 @@ fn format(half: usize, img: &mut [u8], kind: u32, window: u32, field: u32) -> u3
 }
 
 // "An odd K or one outside its range gives 14 at format, ahead of 16." Format takes the capacity, and writes it.
-#[unsafe(no_mangle)]
-pub extern "C" fn luw_format(img: &mut [u8], kind: u32, window: u32, capacity: u32) -> u32
+pub fn luw_format(img: &mut [u8], kind: u32, window: u32, capacity: u32) -> u32
     ensures { Formats kind window capacity img.old result img.new }
 {
     if !capacity_ok(capacity) {

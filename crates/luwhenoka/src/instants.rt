@@ -64,8 +64,7 @@ fn instant(half: usize, img: &[u8], t: u32) -> InstantAnswer
 }
 
 // The same by the capacity that the image names.
-#[unsafe(no_mangle)]
-pub extern "C" fn luw_instant(img: &[u8], t: u32) -> InstantAnswer
+pub fn luw_instant(img: &[u8], t: u32) -> InstantAnswer
     ensures { Answers t img.now result }
 {
     match judge(img) {

@@ -1,6 +1,8 @@
 // The calls of document 01, and document 02's rebuild, as C and Rust get them: numbers, byte slices, and small structs of numbers by value.
 // Each takes anything, and its contract says the status returned, the answer, and every byte of what was lent. A call on an image reads the
 // capacity of its pages first (document 02, (xi)), and goes on by half of it.
+#![tactic(auto)]
+
 pub mod audits;
 pub mod averages;
 pub mod bookings;
@@ -11,7 +13,7 @@ pub mod listings;
 pub mod rebuilds;
 
 // Half the capacity that an image names, or the status that turns a call back before.
-#[derive(Drop)]
+#[derive(Clone, Copy)]
 pub(crate) enum Judged {
     Half(usize),
     Refused(u32),
@@ -19,7 +21,7 @@ pub(crate) enum Judged {
 
 // The status, document 01's number, with the pair, the pages read, and the start and the end of the leaf entry that has the instant.
 #[repr(C)]
-#[derive(Drop)]
+#[derive(Clone, Copy)]
 pub struct InstantAnswer {
     pub status: u32,
     pub pages: u32,
@@ -38,7 +40,7 @@ pub const BEYOND: u32 = 2;
 
 // The status, document 01's number; 0 for no average, 1 for one in hundredths, 2 for a sum that no fit page can show.
 #[repr(C)]
-#[derive(Drop)]
+#[derive(Clone, Copy)]
 pub struct AverageAnswer {
     pub status: u32,
     pub answer: u32,
@@ -47,7 +49,7 @@ pub struct AverageAnswer {
 
 // The status, document 01's number, with the number of runs.
 #[repr(C)]
-#[derive(Drop)]
+#[derive(Clone, Copy)]
 pub struct ListingAnswer {
     pub status: u32,
     pub runs: u32,

@@ -52,8 +52,7 @@ pub fn listing(half: usize, img: &[u8], a: u32, b: u32, out: &mut [u8]) -> Listi
 }
 
 // The same by the capacity that the image names.
-#[unsafe(no_mangle)]
-pub extern "C" fn luw_listing(img: &[u8], a: u32, b: u32, out: &mut [u8]) -> ListingAnswer
+pub fn luw_listing(img: &[u8], a: u32, b: u32, out: &mut [u8]) -> ListingAnswer
     ensures { Lists a b img.now out.old result out.new }
 {
     match judge(img) {

@@ -32,8 +32,7 @@ fn rebuild(half: usize, source: &[u8], target: &mut [u8], scratch: &mut [u8]) ->
 }
 
 // The same by the capacity that the source names. Source, target and scratch are three pieces of memory that don't overlap.
-#[unsafe(no_mangle)]
-pub extern "C" fn luw_rebuild(source: &[u8], target: &mut [u8], scratch: &mut [u8]) -> u32
+pub fn luw_rebuild(source: &[u8], target: &mut [u8], scratch: &mut [u8]) -> u32
     ensures { Rebuilds source.now target.old scratch.old result target.new
         scratch.new }
 {

@@ -1,5 +1,7 @@
 // The program but for its reading and writing: what each byte of the text does to the image and prints, and the listing at its end.
 // Document 01, "Marks from the test rack".
+#![tactic(auto)]
+
 use page::layout::{CAPACITY, PAGE_BYTES};
 use runs::RUN_BYTES;
 use text::Fed;

@@ -1,5 +1,7 @@
 // The scratch that audits and changes borrow from their caller, by document 02, (vi), a bit for each page: how many bytes that makes, and
 // that they are 0 afterwards. Nothing reads it.
+#![tactic(auto)]
+
 ghost use Rattle.std.specs.Prelude.{◌≡◌, true, ◌≤◌};
 ghost use Rattle.image.specs.Images.{pages_in};
 ghost use Rattle.calls.specs.Refusals.{borrowed, scratch_ok, cleared};

@@ -1,5 +1,6 @@
 // The program's input: lines of bookings, parsed where they lie or as they come byte by byte.
 // Document 01, "Marks from the test rack": "The program reads lines `+ v s e` or `- v s e` from standard input".
+#![tactic(auto)]
 
 pub mod digits;
 pub mod feed;
@@ -8,7 +9,7 @@ pub mod parse;
 pub mod scan;
 
 // What a line is: a booking to enter or to withdraw, with its value and its span, or "any other form".
-#[derive(Drop)]
+#[derive(Clone, Copy)]
 pub enum Parsed {
     Enter(i64, u32, u32),
     Withdraw(i64, u32, u32),

@@ -13,7 +13,7 @@ returns c =
     let known = did.before.before.before.before in
     let start = known.before in
     let p = rw (to_z-of_z start.ranges.v) at did.luw_enter.ensures in
-    (p, booking_promised _ _ _ _ _ _ _ _ _ (bytes_of start.args.img.now known.slice_known.given) p)
+    (p, booking_promised _ _ _ _ _ _ _ _ _ (bytes_of start.args.img.now known.slice_known-1.given) p)
 
 pub enter_spec : {M : Type 1} → statement M
 enter_spec = tie.close (tie.spec (λ c κs. search rules) (λ c. search rules) (λ c. search rules) returns)

@@ -10,7 +10,7 @@ use Rattle.calls.specs.Refusals.{borrowed}
 use Rattle.scratch.proofs.borrowed.Statement.{statement}
 use Rattle.scratch.proofs.borrowed.Tie as tie
 
-sum : tie.Need-overflow-add-result
+sum : tie.Need-overflow_add-result
 unfolding pages_in
 sum c =
     let args = c.before.before.args in

@@ -12,17 +12,17 @@ use Rattle.luwhenoka.proofs.formats.luw_format.Statement.{statement}
 use Rattle.luwhenoka.proofs.formats.luw_format.Tie as tie
 
 -- the call's own start
-abbrev began : tie.After-capacity-ok → tie.Start
+abbrev began : tie.After-capacity_ok → tie.Start
 began c = c.before.before
 
-passed : (c : tie.Else1) → capacity_ok (began c.before).args.capacity ≡ true
-passed c = sym c.before.capacity_ok.ensures ∙ not-false _ c.if1.false
+passed : (c : tie.Else-not-capacity_ok) → capacity_ok (began c.before).args.capacity ≡ true
+passed c = sym c.before.capacity_ok.ensures ∙ not-false _ c.if-not-capacity_ok.false-raw
 
-returns : tie.Need-returns
+returns : tie.Need-returns-then-not-capacity_ok
 unfolding index_format
-returns c = rw (sym c.before.capacity_ok.ensures ∙ not-true _ c.if1.true)
+returns c = rw (sym c.before.capacity_ok.ensures ∙ not-true _ c.if-not-capacity_ok.true-raw)
 
-returns_2 : tie.Need-returns-2
+returns_2 : tie.Need-returns
 unfolding index_format
 returns_2 c =
     let did = c.before.before in

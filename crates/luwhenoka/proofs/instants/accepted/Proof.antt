@@ -8,10 +8,10 @@ use Rattle.luwhenoka.specs.Answers.{instant_answer}
 use Rattle.luwhenoka.proofs.instants.accepted.Statement.{statement}
 use Rattle.luwhenoka.proofs.instants.accepted.Tie as tie
 
-sum_fits : (c : tie.After-struct-told) → SFits w64 c.before.before.args.found.pair.sum
+sum_fits : (c : tie.After-struct_told-1) → SFits w64 c.before.before.args.found.pair.sum
 sum_fits c = search rules
 
-count_fits : (c : tie.After-struct-told) → SFits w32 c.before.before.args.found.pair.count
+count_fits : (c : tie.After-struct_told-1) → SFits w32 c.before.before.args.found.pair.count
 count_fits c = search rules
 
 returns : tie.Need-returns

@@ -17,36 +17,36 @@ use Rattle.luwhenoka.proofs.judge.judge.Statement.{statement}
 use Rattle.luwhenoka.proofs.judge.judge.Tie as tie
 
 -- the call's own start
-abbrev began : tie.Else1 → tie.Start
+abbrev began : tie.Else-img-lt-HEAD_BYTES → tie.Start
 began c = c.before.before
 
-long : (c : tie.Else1) → ltb (length (began c).args.img.now) 40 ≡ false
-long c = le-ltb _ _ c.if1.false
+long : (c : tie.Else-img-lt-HEAD_BYTES) → ltb (length (began c).args.img.now) 40 ≡ false
+long c = le-ltb _ _ c.if-img-lt-HEAD_BYTES.false
 
 -- the capacity that the field names
-field : (c : tie.After-capacity-named) → c.capacity_named.result ≡ capacity_named (capacity_field (began c.before.before).args.img.now)
+field : (c : tie.After-capacity_named-k) → c.capacity_named-k.result ≡ capacity_named (capacity_field (began c.before.before).args.img.now)
 unfolding capacity_field
-field c = c.capacity_named.ensures ∙ ap capacity_named c.before.get_u32.ensures
+field c = c.capacity_named-k.ensures ∙ ap capacity_named c.before.get_u32.ensures
 
-tested : (c : tie.After-capacity-ok) → names_capacity (began c.before.before.before).args.img.now ≡ c.capacity_ok.result
+tested : (c : tie.After-capacity_ok) → names_capacity (began c.before.before.before).args.img.now ≡ c.capacity_ok.result
 unfolding names_capacity
 tested c = sym (c.capacity_ok.ensures ∙ ap capacity_ok (field c.before))
 
-returns : tie.Need-returns
+returns : tie.Need-returns-then-img-lt-HEAD_BYTES
 unfolding judgement judge first
-returns c = rw (lt-ltb _ _ c.if1.true)
+returns c = rw (lt-ltb _ _ c.if-img-lt-HEAD_BYTES.true)
 
-returns_2 : tie.Need-returns-2
+returns_2 : tie.Need-returns-then-not-capacity_ok
 unfolding judgement judge first
 returns_2 c =
     let test = c.before in
-    rw (long test.before.before.before, tested test ∙ not-true _ c.if2.true)
+    rw (long test.before.before.before, tested test ∙ not-true _ c.if-not-capacity_ok.true-raw)
 
-returns_3 : tie.Need-returns-3
+returns_3 : tie.Need-returns
 unfolding judgement judge first half_of
 returns_3 c =
     let test = c.before in
-    rw (long test.before.before.before, tested test ∙ not-false _ c.if2.false) (ap (λ k. Half (k / 2)) (field test.before))
+    rw (long test.before.before.before, tested test ∙ not-false _ c.if-not-capacity_ok.false-raw) (ap (λ k. Half (k / 2)) (field test.before))
 
 pub judge_spec : {M : Type 1} → statement M
 judge_spec =

@@ -9,9 +9,9 @@ use Rattle.program.proofs.ending.put_listing.Tie as tie
 returns : tie.Need-returns
 returns c =
     let last = c.before.before in
-    let line = last.before.before.before.before.before in
-    let call = line.before.before.before.before in
-    put_as (listed_printed _ _ _ _ _ _ call.listing.ensures) (put_then line.put_runs_line.ensures last.put_runs.ensures)
+    let line = last in
+    let call = line in
+    put_as (listed_printed _ _ _ _ _ _ call.listing-answer.ensures) (put_then line.put_runs_line-next.ensures last.put_runs.ensures)
 
 pub put_listing_spec : {M : Type 1} → statement M
 put_listing_spec =

@@ -6,7 +6,7 @@ use Rattle.program.proofs.pieces.at_first.Statement.{statement}
 use Rattle.program.proofs.pieces.at_first.Tie as tie
 
 returns : tie.Need-returns
-returns c = begins c.none_fed.ensures refl refl
+returns c = begins c.none_fed-none.ensures refl refl
 
 pub at_first_spec : {M : Type 1} → statement M
 at_first_spec = tie.close (tie.spec (λ c κs. search rules) returns)

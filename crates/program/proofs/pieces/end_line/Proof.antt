@@ -9,8 +9,8 @@ returns c =
     let none = c.before in
     let ran = none.before.before.before.before.before in
     let parsed = ran.before in (
-      goes_line parsed.parse_fed.ensures none.none_fed.ensures ran.run_line.ensures,
-      within_line ran.run_line.ensures.few,
+      goes_line parsed.parse_fed.ensures none.none_fed-none.ensures ran.run_line-next.ensures,
+      within_line ran.run_line-next.ensures.few,
     )
 
 pub end_line_spec : {M : Type 1} → statement M

@@ -4,14 +4,14 @@ use borrow.Author.Rules.{rules}
 use Rattle.program.proofs.pieces.run_byte.Statement.{statement}
 use Rattle.program.proofs.pieces.run_byte.Tie as tie
 
-returns : tie.Need-returns
+returns : tie.Need-returns-then-b-eq10
 returns c =
     let end = c.before.before.before.before in
     let test = end.before.before.before in
-    (goes_end test.if1.true end.end_line.ensures.0, end.end_line.ensures.1)
+    (goes_end test.if-b-eq10.true end.end_line.ensures.0, end.end_line.ensures.1)
 
-returns_2 : tie.Need-returns-2
-returns_2 c = (goes_fed c.before.before.if1.false c.feed.ensures, within_byte)
+returns_2 : tie.Need-returns
+returns_2 c = (goes_fed c.before.before.if-b-eq10.false c.feed-more.ensures, within_byte)
 
 pub run_byte_spec : {M : Type 1} → statement M
 run_byte_spec =

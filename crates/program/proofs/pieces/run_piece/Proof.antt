@@ -7,36 +7,36 @@ use Rattle.program.proofs.Laws.Pieces.{Come, come_none, come_more, come_all, com
 use Rattle.program.proofs.pieces.run_piece.Statement.{statement}
 use Rattle.program.proofs.pieces.run_piece.Tie as tie
 
-abbrev invariant_loop : tie.invariant-loop
+abbrev invariant_loop : tie.invariant-loop-i
 invariant_loop img₀ out₀ piece q₀ i₀ img out q i = Come piece q₀ img₀ out₀ i q img out
 
-abbrev decreases_loop : tie.decreases-loop
+abbrev decreases_loop : tie.decreases-loop-i
 decreases_loop img₀ out₀ piece q₀ i₀ img out q i = length piece - i
 
-loop_holds : tie.Need-loop-init invariant_loop decreases_loop
+loop_holds : tie.Need-loop-i-init invariant_loop decreases_loop
 loop_holds c = come_none _ _ _ _
 
-run_byte_requires : tie.Need-run-byte-requires invariant_loop decreases_loop
+run_byte_requires : tie.Need-run_byte-q-requires invariant_loop decreases_loop
 run_byte_requires c κs =
     let turn = c.before.before.before in
-    let so = turn.before.loop.invariant in
+    let so = turn.before.loop-i.invariant in
     omega (arith, so.bounds, so.size)
 
-loop_again : tie.Need-loop-preserved invariant_loop decreases_loop
+loop_again : tie.Need-loop-i-preserved invariant_loop decreases_loop
 loop_again c =
     let ran = c.before.before.before.before in
     let inside = ran.before.before.before.before in
-    come_more inside.before.loop.invariant inside.loop_test.true
-    ran.run_byte.ensures.0 ran.run_byte.ensures.1 ran.run_byte.auto.1.0 ran.run_byte.auto.0
+    come_more inside.before.loop-i.invariant inside.loop-i-test.true
+    ran.run_byte-q.ensures.0 ran.run_byte-q.ensures.1 ran.run_byte-q.auto.out ran.run_byte-q.auto.img
 
-same_length : tie.Need-same-length invariant_loop decreases_loop
-same_length c = c.before.loop.invariant.pages
+same_length : tie.Need-shape_of-img invariant_loop decreases_loop
+same_length c = c.before.loop-i.invariant.pages
 
-same_length_2 : tie.Need-same-length-2 invariant_loop decreases_loop
-same_length_2 c = c.before.loop.invariant.size
+same_length_2 : tie.Need-shape_of-out invariant_loop decreases_loop
+same_length_2 c = c.before.loop-i.invariant.size
 
 returns : tie.Need-returns invariant_loop decreases_loop
-returns c = (come_all c.before.loop.invariant c.loop_test.false, come_within c.before.loop.invariant c.loop_test.false)
+returns c = (come_all c.before.loop-i.invariant c.loop-i-test.false, come_within c.before.loop-i.invariant c.loop-i-test.false)
 
 pub run_piece_spec : {M : Type 1} → statement M
 run_piece_spec =

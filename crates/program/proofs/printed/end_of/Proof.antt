@@ -6,11 +6,11 @@ use borrow.Author.Rules.{rules}
 use Rattle.program.proofs.printed.end_of.Statement.{statement}
 use Rattle.program.proofs.printed.end_of.Tie as tie
 
-returns : tie.Need-returns
-returns c = end_last _ _ _ c.if1.true
+returns : tie.Need-returns-then-next-n
+returns c = end_last _ _ _ c.if-next-n.true
 
-returns_2 : tie.Need-returns-2
-returns_2 c = c.start_of_lem.ensures ∙ end_next _ _ _ (omega (arith, c.before.if1.false))
+returns_2 : tie.Need-returns
+returns_2 c = c.start_of.ensures ∙ end_next _ _ _ (omega (arith, c.before.if-next-n.false))
 
 pub end_of_spec : {M : Type 1} → statement M
 end_of_spec = tie.close (tie.spec (λ c. search rules) returns (λ c κs. search rules) returns_2)

@@ -10,8 +10,8 @@ returns c =
     let put = c.before.before in
     let pair = put.before in
     let end = pair.before in
-    let start = end.before in
-    put_as (λ j. run_text (record { start = start.start_of_lem.ensures j; pair = pair.pair_of.ensures j }) (end.end_of_lem.ensures j))
+    let start = end in
+    put_as (λ j. run_text (record { start = start.start_of.ensures j; pair = pair.pair_of.ensures j }) (end.end_of.ensures j))
     put.put_run.ensures
 
 pub put_one_spec : {M : Type 1} → statement M

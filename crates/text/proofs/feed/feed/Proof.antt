@@ -8,5 +8,5 @@ pub feed_spec : {M : Type 1} → statement M
 feed_spec =
     tie.close
     (tie.spec (λ c. search rules) (λ c. search rules)
-    (λ c line h. fed_more h _ (search rules) c.if1.true)
-    (λ c line h. fed_full h _ c.if1.false))
+    (λ c line h. fed_more h _ (search rules) c.if-at-lt-FED_BYTES.true)
+    (λ c line h. fed_full h _ c.if-at-lt-FED_BYTES.false))

@@ -11,17 +11,17 @@ use Rattle.text.proofs.Laws.Long.{long_unread}
 use Rattle.text.proofs.feed.parse_fed.Statement.{statement}
 use Rattle.text.proofs.feed.parse_fed.Tie as tie
 
-size : (c : tie.Else1) → length c.before.args.f.bytes ≡ 36
+size : (c : tie.Else-n-gt-LINE_BYTES) → length c.before.args.f.bytes ≡ 36
 size c = search rules
 
-returns : tie.Need-returns
+returns : tie.Need-returns-then-n-gt-LINE_BYTES
 unfolding line_of
-returns c line h = sym (long_unread line (fed_long h c.if1.true))
+returns c line h = sym (long_unread line (fed_long h c.if-n-gt-LINE_BYTES.true))
 
-returns_2 : tie.Need-returns-2
+returns_2 : tie.Need-returns
 returns_2 c line h =
     let short = c.before.before.before in
-    c.parse.ensures ∙ ap (λ l. line_from (cut_at 32 l)) (fed_line h short.if1.false)
+    c.parse.ensures ∙ ap (λ l. line_from (cut_at 32 l)) (fed_line h short.if-n-gt-LINE_BYTES.false)
 
 pub parse_fed_spec : {M : Type 1} → statement M
 parse_fed_spec =

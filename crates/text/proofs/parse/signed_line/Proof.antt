@@ -6,27 +6,27 @@ use Rattle.text.proofs.Laws.Lines.{sign_alone, sign_plus, sign_minus, sign_other
 use Rattle.text.proofs.parse.signed_line.Statement.{statement}
 use Rattle.text.proofs.parse.signed_line.Tie as tie
 
-returns : tie.Need-returns
+returns : tie.Need-returns-then-sign-ne1
 unfolding line_of
-returns c = sym (sign_alone _ _ _ _ c.if1.true)
+returns c = sym (sign_alone _ _ _ _ c.if-sign-ne1.true)
 
-returns_2 : tie.Need-returns-2
+returns_2 : tie.Need-returns-then-c-eq43
 unfolding side_of
 returns_2 c =
     let sign = c.before.before in
-    c.booking.ensures ∙ sym (sign_plus _ _ _ _ sign.before.if1.false c.before.if2.true)
+    c.booking.ensures ∙ sym (sign_plus _ _ _ _ sign.before.if-sign-ne1.false c.before.if-c-eq43.true)
 
-returns_3 : tie.Need-returns-3
+returns_3 : tie.Need-returns-then-c-eq45
 unfolding side_of
 returns_3 c =
     let other = c.before.before in
-    c.booking2.ensures ∙ sym (sign_minus _ _ _ _ other.before.before.if1.false c.before.if3.true)
+    c.booking-then-c-eq45.ensures ∙ sym (sign_minus _ _ _ _ other.before.before.if-sign-ne1.false c.before.if-c-eq45.true)
 
-returns_4 : tie.Need-returns-4
+returns_4 : tie.Need-returns
 unfolding line_of
 returns_4 c =
     let other = c.before in
-    sym (sign_other _ _ _ _ other.before.before.if1.false other.if2.false c.if3.false)
+    sym (sign_other _ _ _ _ other.before.before.if-sign-ne1.false other.if-c-eq43.false c.if-c-eq45.false)
 
 pub signed_line_spec : {M : Type 1} → statement M
 signed_line_spec =

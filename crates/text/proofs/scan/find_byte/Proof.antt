@@ -8,35 +8,35 @@ use Rattle.text.proofs.Laws.Cuts.{ahead_here, ahead_more, ahead_none}
 use Rattle.text.proofs.scan.find_byte.Statement.{statement}
 use Rattle.text.proofs.scan.find_byte.Tie as tie
 
-abbrev invariant_loop : tie.invariant-loop
+abbrev invariant_loop : tie.invariant-loop-i
 invariant_loop s b from i₀ i = (i ≤ length s) × (i + ahead b (drop i s) ≡ from + ahead b (drop from s))
 
-abbrev decreases_loop : tie.decreases-loop
+abbrev decreases_loop : tie.decreases-loop-i
 decreases_loop s b from i₀ i = length s - i
 
-returns : tie.Need-returns invariant_loop decreases_loop
+returns : tie.Need-returns-then-s-i invariant_loop decreases_loop
 returns c =
     let turn = c.before.before in
     let at = turn.before in
     let args = at.before.args in
-    let e = ahead_here args.b args.s.now at.loop.i turn.loop_test.true c.if1.true in
-    record { there = omega (arith, at.loop.invariant.1, e); within = at.loop.invariant.0 }
+    let e = ahead_here args.b args.s.now at.loop-i.i turn.loop-i-test.true c.if-s-i.true in
+    record { there = omega (arith, at.loop-i.invariant.1, e); within = at.loop-i.invariant.0 }
 
-loop_again : tie.Need-loop-preserved invariant_loop decreases_loop
+loop_again : tie.Need-loop-i-preserved invariant_loop decreases_loop
 loop_again c =
     let turn = c.before.before in
     let at = turn.before in
     let args = at.before.args in
-    let e = ahead_more args.b args.s.now at.loop.i turn.loop_test.true c.if1.false in
-    (omega arith, omega (arith, at.loop.invariant.1, e))
+    let e = ahead_more args.b args.s.now at.loop-i.i turn.loop-i-test.true c.if-s-i.false in
+    (omega arith, omega (arith, at.loop-i.invariant.1, e))
 
-returns_2 : tie.Need-returns-2 invariant_loop decreases_loop
+returns_2 : tie.Need-returns invariant_loop decreases_loop
 returns_2 c =
     let at = c.before in
     let args = at.before.args in
-    let i : at.loop.i ≡ length args.s.now = omega arith in
+    let i : at.loop-i.i ≡ length args.s.now = omega arith in
     let e = ap (λ k. ahead args.b (drop k args.s.now)) i ∙ ahead_none args.b args.s.now in
-    record { there = omega (arith, at.loop.invariant.1, e); within = at.loop.invariant.0 }
+    record { there = omega (arith, at.loop-i.invariant.1, e); within = at.loop-i.invariant.0 }
 
 pub find_byte_spec : {M : Type 1} → statement M
 find_byte_spec =

@@ -1,0 +1,21 @@
+-- `luwbook::run_some` meets its contract. Assumes nothing.
+use Rattle.std.proofs.Common.{arith}
+use Rattle.luwbook.specs.Reached.{by_piece}
+use Rattle.luwbook.proofs.Laws.{put_none, writable, shown, stood, ran_written, ran_failed}
+use Rattle.luwbook.proofs.run_some.Goals as goal
+
+pub returns-then-r-gt-LAST_LINE : goal.returns-then-r-gt-LAST_LINE
+returns-then-r-gt-LAST_LINE c = ran_failed (λ l. omega arith) c.stopped.ensures
+
+pub write_first-written-requires : goal.write_first-written-requires
+write_first-written-requires c =
+    let was = c.requires.standing in
+    let w = writable (shown c.flushed.ensures.flushes c.run_piece-q.ensures.simulates_step was.stands).printed (by_piece was.reached _) in
+    record { n_in_bounds = w.0; printed = w.1 }
+
+pub returns : goal.returns
+returns c =
+    let turned = c.flushed.ensures.flushes in
+    let went = c.run_piece-q.ensures.simulates_step in
+    ran_written _ (λ g s. stood turned went s)
+    (λ g s e. c.write_first-written.ensures (put_none (shown turned went s).printed e))
