@@ -2,7 +2,7 @@
  * Luwhenoka: a time index in an image of pages that the caller lends.
  *
  * Every call may be handed any image, capacity, span, instant, value and buffer, unchecked. It returns, and the status tells
- * what it turns back. The archive is libluwhenoka.a (`rt staticlib luwhenoka`); it needs no other library but memset and
+ * what it turns back. The archive is libluwhenoka.a (`tools/archive`); it needs no other library but memset and
  * memcpy of the C library, takes no memory of its own and keeps nothing between two calls.
  *
  * Time and value. Instants are 0 to 4,294,967,294; LUW_END is no instant. A span [s, e) has s < e <= LUW_END. A value is

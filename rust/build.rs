@@ -1,4 +1,4 @@
-//! Links libluwhenoka.a, which `rt staticlib luwhenoka` writes to target/staticlib. LUWHENOKA_LIB names another folder.
+//! Links libluwhenoka.a, which `tools/archive` writes to target/staticlib. LUWHENOKA_LIB names another folder.
 
 use std::env;
 use std::path::PathBuf;
@@ -11,7 +11,7 @@ fn main() {
     };
     let archive = folder.join("libluwhenoka.a");
     if !archive.is_file() {
-        panic!("no {}: make it with `rt staticlib luwhenoka`, or name its folder in LUWHENOKA_LIB", archive.display());
+        panic!("no {}: make it with `tools/archive`, or name its folder in LUWHENOKA_LIB", archive.display());
     }
     println!("cargo:rustc-link-search=native={}", folder.display());
     println!("cargo:rustc-link-lib=static=luwhenoka");

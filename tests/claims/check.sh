@@ -59,7 +59,7 @@ check() { # DOCUMENT LEAST
 # The crates of a list that crates.txt doesn't have (<), and the other way round (>).
 same_crates() { # WHERE LIST
     local there differ
-    there=$(sed -e 's/#.*//' -e '/^[[:space:]]*$/d' -e 's/:.*//' crates.txt | sort)
+    there=$(sed -e 's/#.*//' -e '/^[[:space:]]*$/d' -e 's/[ :].*//' crates.txt | sort)
     differ=$(diff <(sort <<<"$2") <(echo "$there") | grep '^[<>]' | tr '\n' ' ')
     [ -z "$differ" ] || lost "$1 and crates.txt differ: $differ"
 }
