@@ -9,7 +9,7 @@ use program::ending::put_listing;
 use program::pieces::{at_first, begin, flushed, run_last, run_piece};
 use program::{ENDING_BYTES, IMAGE_BYTES, LIST_BYTES, REFUSED_LINE, Reading};
 use std::io;
-use std::io::{Input, Print, Read};
+use std::io::{Print, Read};
 
 // How much is read at once.
 const PIECE_BYTES: usize = 4096;
@@ -134,7 +134,8 @@ fn read_some(rt: &HostRuntime, img: &mut [u8], r: Reading) -> Progress
     ensures { Well result img.new }
 {
     let mut bytes = [0u8; PIECE_BYTES];
-    let got = amount(rt.reader().read(&mut bytes));
+    let mut input = rt.stdin();
+    let got = amount(input.read(&mut bytes));
     take_in(rt, img, r, &bytes, got)
 }
 
