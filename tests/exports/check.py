@@ -31,6 +31,10 @@ def main():
     bad = []
     if len(exports) != archive.count("no_mangle"):
         bad.append("exports: an export has another form")
+    # Names mean what they mean in the library: nothing is imported under another name, and code and promises come from there alone.
+    for line in re.findall(r"^(?:ghost )?use [^;]*;", archive, re.M):
+        if " as " in line or not re.match(r"use luwhenoka::|ghost use Rattle\.(luwhenoka\.specs\.Promises|calls\.specs\.Changes)\.\{", line):
+            bad.append(f"exports: {words(line)} brings in what the library doesn't have by that name")
     for path in sorted(glob.glob("crates/*/src/**/*.rt", recursive=True)):
         if "no_mangle" in text([path]) and not path.startswith("crates/luwhenoka_c/"):
             bad.append(f"exports: {path} exports a name, too")
