@@ -30,7 +30,7 @@ names() { # DOCUMENT
 defines() { # FILE NAME
     case $1 in
     *.antt) grep -qE "^ *((unfoldable|abbrev|pub|record|data) )*$2( *[:({]| *\$)" "$1" ;;
-    *) grep -qE "^ *(pub(\(crate\))? )?(extern \"C\" )?(fn|struct|enum|const) $2[^A-Za-z0-9_]" "$1" ;;
+    *) grep -qE "^ *(pub(\(crate\))? )?(extern \"C\" )?(fn|struct|enum|trait|const) $2[^A-Za-z0-9_]" "$1" ;;
     esac
 }
 

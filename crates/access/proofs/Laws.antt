@@ -1,7 +1,9 @@
 -- What a fit length and a fit head give. Assumes nothing.
+use Rattle.std.proofs.Common.{Some, None}
+use Rattle.std.specs.Bool.{then_some}
 use Prim.Native.Nat.{ℕ, ◌*◌, ◌/◌, ◌<◌}
 use mathlib.Core.Path.{◌≡◌, refl, sym, ap, ◌∙◌}
-use mathlib.Core.Bool.{Bool, true, false, cond, ◌&&◌}
+use mathlib.Core.Bool.{Bool, true, false, ◌&&◌}
 use mathlib.Core.List.{List}
 use native.Mathlib.Nat.{mul-div_cancel_left}
 use native.Mathlib.Omega.{arith}
@@ -16,7 +18,6 @@ use Rattle.page.proofs.Laws.Offsets.{page_within}
 use Rattle.fit.proofs.Laws.Heads.{Ranges, fit_ranges}
 use Rattle.image.specs.Images.{page_at, pages_in, length_ok}
 use Rattle.image.proofs.Sizes.{sized}
-use Rattle.access.specs.declared.HeadCheck.TheVariants.{Fit, Unfit}
 use Rattle.access.specs.Access.{PageIn, OpenImage, head_check}
 
 -- a page that lies in the image has all its bytes
@@ -56,26 +57,26 @@ module _ (half : ℕ) (img : List ℕ) where
           absurd (eqb-false _ _ e (ap (λ n. page_size half * n) same ∙ sym z.size))
       go false e false g = refl
 
-  fits : (b : Bool) {h : Head} → Fit h ≡ cond b (Fit (head_of (page_at half img 0))) Unfit → (b ≡ true) × (h ≡ head_of (page_at half img 0))
+  fits : (b : Bool) {h : Head} → Some h ≡ then_some b (head_of (page_at half img 0)) → (b ≡ true) × (h ≡ head_of (page_at half img 0))
   fits true e = (refl, cc)
   fits false e =
       let z : ◌≡◌ {A = ℕ} 0 1 = cc in
       absurd (omega arith)
 
-  unfits : (b : Bool) → Unfit ≡ cond b (Fit (head_of (page_at half img 0))) Unfit → b ≡ false
+  unfits : (b : Bool) → None ≡ then_some b (head_of (page_at half img 0)) → b ≡ false
   unfits true e =
       let z : ◌≡◌ {A = ℕ} 0 1 = cc in
       absurd (omega arith)
   unfits false e = refl
 
   -- an image that was opened, and one whose head is unfit
-  pub opened : {h : Head} → length_ok half img ≡ true → Fit h ≡ head_check half img → OpenImage half img h
+  pub opened : {h : Head} → length_ok half img ≡ true → Some h ≡ head_check half img → OpenImage half img h
   unfolding head_check
   opened ok e =
       let k = fits _ e in
       record { whole = ok; shown = k.1; fit = k.0 }
 
-  pub shut : Unfit ≡ head_check half img → head_fit half (pages_in half img) (page_at half img 0) ≡ false
+  pub shut : None ≡ head_check half img → head_fit half (pages_in half img) (page_at half img 0) ≡ false
   unfolding head_check
   shut e = unfits _ e
 

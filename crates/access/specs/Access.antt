@@ -1,11 +1,10 @@
 -- An image that a call may go to work on. Assumes nothing.
-use Rattle.std.specs.Prelude.{ℕ, ◌+◌, ◌*◌, ◌≤◌, ◌≡◌, true, cond, List, length}
+use Rattle.std.specs.Prelude.{ℕ, ◌+◌, ◌*◌, ◌≤◌, ◌≡◌, true, Option, List, length}
+use Rattle.std.specs.Bool.{then_some}
 use Rattle.page.specs.declared.Head.{Head}
 use Rattle.page.specs.Layout.{page_size, head_of}
 use Rattle.page.specs.Fit.{head_fit}
 use Rattle.image.specs.Images.{page_at, pages_in, length_ok}
-use Rattle.access.specs.declared.HeadCheck.{HeadCheck}
-use Rattle.access.specs.declared.HeadCheck.TheVariants.{Fit, Unfit}
 
 -- page p lies in the image
 abbrev pub PageIn : ℕ → List ℕ → ℕ → Type 0
@@ -17,6 +16,6 @@ pub record OpenImage (half : ℕ) (img : List ℕ) (h : Head) : Type 0 where
   pub shown : h ≡ head_of (page_at half img 0)
   pub fit : head_fit half (pages_in half img) (page_at half img 0) ≡ true
 
--- what the head's page shows
-unfoldable pub head_check : ℕ → List ℕ → HeadCheck
-head_check half img = cond (head_fit half (pages_in half img) (page_at half img 0)) (Fit (head_of (page_at half img 0))) Unfit
+-- what the head's page shows: the numbers of a fit head
+unfoldable pub head_check : ℕ → List ℕ → Option Head
+head_check half img = then_some (head_fit half (pages_in half img) (page_at half img 0)) (head_of (page_at half img 0))

@@ -7,8 +7,10 @@ ghost use Rattle.page.specs.Layout.{page_size, head_bytes, tree_bytes};
 ghost use Rattle.image.specs.Images.{pages_in, length_ok, image_bytes, fresh};
 
 use fields::fill::{UNUSED_BYTE, fill};
+use page::heads::write_head;
 use page::layout::{LEAST_MARK, SLOTS, page_size};
-use page::pages::{write_head_at, write_page_at};
+use page::pages::page_range;
+use page::write::write_page;
 use page::{Head, Page};
 
 // Writes the head: "height 1, changes 0, high mark 2, no chain and root 1".
@@ -28,7 +30,7 @@ fn write_fresh_head(half: usize, img: &mut [u8], pages: u32, kind: u32, window: 
         changes: 0,
         capacity: field,
     };
-    write_head_at(half, img, h)
+    write_head(half, &mut img[page_range(half, 0)], h)
 }
 
 // Writes the root on page 1: "a leaf with entry 0, (0, 0)".
@@ -36,19 +38,15 @@ fn write_fresh_root(half: usize, img: &mut [u8])
     requires { (1 ≤ half) × (half ≤ 12) × (2 * page_size half ≤ length img.old) }
     ensures { img.new ≡ patch img.old (page_size half) (tree_bytes half 0 (entry 0 none 0 ∷ [])) }
 {
-    let starts = [0u32; SLOTS];
-    let sums = [0i64; SLOTS];
-    let counts = [0i32; SLOTS];
-    let children = [0u32; SLOTS];
     let root = Page {
         level: 0,
         len: 1,
-        starts,
-        sums,
-        counts,
-        children,
+        starts: [0; SLOTS],
+        sums: [0; SLOTS],
+        counts: [0; SLOTS],
+        children: [0; SLOTS],
     };
-    write_page_at(half, img, 1, root)
+    write_page(half, &mut img[page_range(half, 1)], root)
 }
 
 // "Format leaves height 1, changes 0, high mark 2, no chain and root 1, a leaf with entry 0, (0, 0)." The field is the capacity's.

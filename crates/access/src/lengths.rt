@@ -21,5 +21,5 @@ pub fn length_fits(half: usize, img: &[u8]) -> bool
     ensures { result ≡ length_ok half img.now }
 {
     let n = page_count(half, img);
-    (img.len() == page_size(half) * n) & ((FEWEST_PAGES <= n) & (n <= MOST_PAGES))
+    (img.len() == page_size(half) * n) & (FEWEST_PAGES..=MOST_PAGES).contains(&n)
 }

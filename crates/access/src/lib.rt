@@ -2,16 +2,7 @@
 // length, and the head; one page of it; and the fresh image that a format leaves. Document 01, "The page".
 #![tactic(auto)]
 
-use page::Head;
-
 pub mod fresh;
 pub mod heads;
 pub mod lengths;
 pub mod pages;
-
-// What the head's page shows: a fit head's numbers, or that it is unfit.
-#[derive(Clone, Copy)]
-pub enum HeadCheck {
-    Fit(Head),
-    Unfit,
-}

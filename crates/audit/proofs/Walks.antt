@@ -1,12 +1,13 @@
 -- The walk down the tree: where it may go, and what it has counted so far. Assumes nothing.
 use mathlib.Core.Path.{◌≡◌, refl, sym, ap, ap₂, ◌∙◌}
-use mathlib.Core.Bool.{Bool, true, false, cond, true≢false, and-eq-true_iff}
+use mathlib.Core.Bool.{Bool, true, false, true≢false, and-eq-true_iff}
 use mathlib.Core.List.{List}
 use Prim.Native.Nat.{ℕ, zero, suc, ◌+◌, ◌*◌, ◌-◌, ◌≤◌, ◌<◌}
 use native.Mathlib.Numerals.{add-one}
 use native.Mathlib.Omega.{arith}
 use lib.ListN.{length}
 use borrow.Author.Count.{below_none, below_more}
+use Rattle.fields.specs.Bytes.{every}
 use Rattle.fields.proofs.Laws.Tests.{every_of}
 use Rattle.page.specs.declared.Head.{Head}
 use Rattle.page.specs.Layout.{capacity, page_size, entry_count, child_at}
@@ -18,12 +19,14 @@ use Rattle.image.proofs.Sizes.{sized}
 use Rattle.fit.specs.Contexts.{Bounded}
 use Rattle.fit.proofs.Laws.Pages.{PageFit, page_fit_is}
 use Rattle.fit.proofs.Laws.Paths.{root_path, path_bounded, below_path}
-use Rattle.audit.specs.declared.PageCount.{PageCount}
-use Rattle.audit.specs.declared.PageCount.TheVariants.{Fit, Unfit}
+use Rattle.std.specs.Bool.{then_some}
+use Rattle.std.specs.Prelude.{Option, Some, None}
 use Rattle.access.specs.Access.{PageIn, OpenImage}
 use Rattle.access.proofs.Laws.{page_length, opened_ranges, opened_size}
 use Rattle.audit.specs.Walks.{Standing, Inner, fit_below, page_count, page_count_below}
 use Rattle.lists.specs.Lists.{total}
+use Rattle.lists.proofs.Totals.{total_ones}
+use Rattle.fit.proofs.Tests.{passes}
 use Rattle.soundness.proofs.Tree.{top_fit, tree_parts, tree_length, tree_short}
 
 -- ---- the answer is a number exactly where the tree is fit
@@ -32,40 +35,40 @@ pub false_of : (t : Bool) → (t ≡ true → ⊥) → t ≡ false
 false_of true f = absurd (f refl)
 false_of false f = refl
 
-fit_of : (t : Bool) (n k : ℕ) → cond t (Fit n) Unfit ≡ Fit k → (t ≡ true) × (n ≡ k)
+fit_of : (t : Bool) (n k : ℕ) → then_some t n ≡ Some k → (t ≡ true) × (n ≡ k)
 fit_of true n k e = (refl, cc)
 fit_of false n k e =
     let z : ◌≡◌ {A = ℕ} 0 1 = cc in
     absurd (omega arith)
 
-unfit_of : (t : Bool) (n : ℕ) → cond t (Fit n) Unfit ≡ Unfit → t ≡ true → ⊥
+unfit_of : (t : Bool) (n : ℕ) → then_some t n ≡ None → t ≡ true → ⊥
 unfit_of true n e d =
     let z : ◌≡◌ {A = ℕ} 0 1 = cc in
     omega arith
 unfit_of false n e d = true≢false (sym d)
 
 module _ (half : ℕ) (h : Head) (img : List ℕ) (at : PageContext) (p : ℕ) where
-  pub counted_fit : (k : ℕ) → page_count half h img at p ≡ Fit k
+  pub counted_fit : (k : ℕ) → page_count half h img at p ≡ Some k
       → (tree_fit half h img at.level at p ≡ true) × (length (tree_pages half img at.level p) ≡ k)
   unfolding page_count
   counted_fit k e = fit_of _ _ k e
 
   pub fit_counted : {k : ℕ} → tree_fit half h img at.level at p ≡ true → length (tree_pages half img at.level p) ≡ k
-      → Fit k ≡ page_count half h img at p
+      → Some k ≡ page_count half h img at p
   unfolding page_count
-  fit_counted e l = ap₂ (λ t n. cond t (Fit n) Unfit) (sym e) (sym l)
+  fit_counted e l = ap₂ (λ t n. then_some t n) (sym e) (sym l)
 
-  pub counted_unfit : page_count half h img at p ≡ Unfit → tree_fit half h img at.level at p ≡ true → ⊥
+  pub counted_unfit : page_count half h img at p ≡ None → tree_fit half h img at.level at p ≡ true → ⊥
   unfolding page_count
   counted_unfit e = unfit_of _ _ e
 
-  pub unfit_counted : (tree_fit half h img at.level at p ≡ true → ⊥) → Unfit ≡ page_count half h img at p
+  pub unfit_counted : (tree_fit half h img at.level at p ≡ true → ⊥) → None ≡ page_count half h img at p
   unfolding page_count
-  unfit_counted f = ap (λ t. cond t (Fit (length (tree_pages half img at.level p))) Unfit) (sym (false_of _ f))
+  unfit_counted f = ap (λ t. then_some t (length (tree_pages half img at.level p))) (sym (false_of _ f))
 
   -- ---- the page itself
 
-  pub page_unfit : page_fit half h at (page_at half img p) ≡ false → Unfit ≡ page_count half h img at p
+  pub page_unfit : page_fit half h at (page_at half img p) ≡ false → None ≡ page_count half h img at p
   page_unfit e = unfit_counted (λ t. true≢false (sym (top_fit half h img at.level at p t) ∙ e))
 
   -- the test of the page's bytes as the code has them
@@ -79,7 +82,7 @@ module _ (half : ℕ) (h : Head) (img : List ℕ) (at : PageContext) (p : ℕ) w
   tree_leaf zero z e = (e, refl)
   tree_leaf (suc l) z e = absurd (omega arith)
 
-  pub leaf_counted : at.level ≡ 0 → page_fit half h at (page_at half img p) ≡ true → Fit 1 ≡ page_count half h img at p
+  pub leaf_counted : at.level ≡ 0 → page_fit half h at (page_at half img p) ≡ true → Some 1 ≡ page_count half h img at p
   leaf_counted z e =
       let leaf = tree_leaf at.level z e in
       fit_counted leaf.0 leaf.1
@@ -189,7 +192,7 @@ module _ {half : ℕ} {img : List ℕ} {h : Head} {at : PageContext} {p n pages 
   level_is : at.level ≡ suc (at.level - 1)
   level_is = omega (arith, r.level)
 
-  pub passing_more : (k : ℕ) {a : PageCount} → i < n → a ≡ page_count_below half h img at p i → a ≡ Fit k
+  pub passing_more : (k : ℕ) {a : Option ℕ} → i < n → a ≡ page_count_below half h img at p i → a ≡ Some k
       → Passing half img h at p n (pages + k) (i + 1)
   unfolding context_below total
   passing_more k l e f =
@@ -210,8 +213,8 @@ module _ {half : ℕ} {img : List ℕ} {h : Head} {at : PageContext} {p n pages 
         most = omega (arith, r.most, here.1, r.standing.most);
       }
 
-  pub passing_stops : {a : PageCount} → i < n → a ≡ page_count_below half h img at p i → a ≡ Unfit
-      → Unfit ≡ page_count half h img at p
+  pub passing_stops : {a : Option ℕ} → i < n → a ≡ page_count_below half h img at p i → a ≡ None
+      → None ≡ page_count half h img at p
   unfolding context_below
   passing_stops l e f =
       unfit_counted half h img at p
@@ -219,19 +222,7 @@ module _ {half : ℕ} {img : List ℕ} {h : Head} {at : PageContext} {p n pages 
       counted_unfit half h img (context_below half (page_at half img p) at i) (child_at half (page_at half img p) i) (sym e ∙ f)
       ((tree_parts half h img (at.level - 1) at p (ap (λ l. tree_fit half h img l at p) (sym level_is) ∙ t)).1 i (omega (arith, r.len))))
 
-  -- the page below the i-th entry is a leaf
-  pub passing_leaf : i < n → at.level ≡ 1 → fit_below half h img at p i ≡ true → Passing half img h at p n (pages + 1) (i + 1)
-  unfolding context_below
-  passing_leaf l z e =
-      let s : List ℕ = page_at half img p in
-      passing_more 1 l refl (sym (leaf_counted half h img (context_below half s at i) (child_at half s i) (omega (arith, z)) e))
-
-  pub passing_unfit : i < n → fit_below half h img at p i ≡ false → Unfit ≡ page_count half h img at p
-  passing_unfit l e =
-      let s : List ℕ = page_at half img p in
-      passing_stops l refl (sym (page_unfit half h img (context_below half s at i) (child_at half s i) e))
-
-  pub passing_all : n ≤ i → Fit pages ≡ page_count half h img at p
+  pub passing_all : n ≤ i → Some pages ≡ page_count half h img at p
   unfolding tree_fit
   passing_all l =
       let s : List ℕ = page_at half img p in
@@ -243,3 +234,23 @@ module _ {half : ℕ} {img : List ℕ} {h : Head} {at : PageContext} {p n pages 
       ∙ tree_length half img (at.level - 1) p (omega (arith, passing_most, r.len))
       ∙ ap (λ k. suc (total k (λ j. length (tree_pages half img (at.level - 1) (child_at half s j))))) all
       ∙ sym r.count)
+
+-- ---- the leaves below a page
+
+pub leaves_counted : (half : ℕ) (h : Head) (img : List ℕ) (at : PageContext) (p : ℕ) → at.level ≡ 1
+    → page_fit half h at (page_at half img p) ≡ true
+    → let n = entry_count (page_at half img p) in
+    then_some (every n (λ i. fit_below half h img at p i)) (1 + n) ≡ page_count half h img at p
+unfolding page_count tree_fit tree_pages
+leaves_counted half h img at p z fit =
+    let s : List ℕ = page_at half img p in
+    let n = entry_count s in
+    let ones = total_ones n (λ i. length (tree_pages half img 0 (child_at half s i))) (λ i l. refl) in
+    let length_is = tree_length half img 0 p ((page_fit_is half h at s).0 fit).most in
+    let fits : every n (λ i. fit_below half h img at p i) ≡ tree_fit half h img 1 at p = passes fit refl in
+    let pages : 1 + n ≡ length (tree_pages half img 1 p) = omega (arith, ones, length_is) in
+    ap₂ then_some (fits ∙ ap (λ l. tree_fit half h img l at p) (sym z)) (pages ∙ ap (λ l. length (tree_pages half img l p)) (sym z))
+
+pub few_entries : (half : ℕ) (h : Head) (img : List ℕ) (at : PageContext) (p : ℕ) → half ≤ 12
+    → page_fit half h at (page_at half img p) ≡ true → entry_count (page_at half img p) ≤ 24
+few_entries half h img at p most fit = omega (arith, ((page_fit_is half h at (page_at half img p)).0 fit).most)

@@ -1,20 +1,19 @@
 -- What the walks of the audit answer, and where they may stand. Assumes nothing.
-use Rattle.std.specs.Prelude.{ℕ, ◌*◌, ◌≤◌, ◌<◌, ◌≡◌, Bool, true, cond, ◌&&◌, List, length, leb, ltb}
+use Rattle.std.specs.Prelude.{ℕ, ◌*◌, ◌≤◌, ◌<◌, ◌≡◌, Bool, true, ◌&&◌, Option, List, length, leb, ltb}
 use Rattle.page.specs.declared.Head.{Head}
 use Rattle.page.specs.Layout.{page_size, entry_count, child_at, free_ok}
 use Rattle.page.specs.Fit.{PageContext, context_below, page_fit, most_changes}
 use Rattle.image.specs.Images.{page_at}
 use Rattle.image.specs.Sound.{tree_fit, tree_pages}
 use Rattle.fit.specs.Paths.{Path}
-use Rattle.audit.specs.declared.PageCount.{PageCount}
-use Rattle.audit.specs.declared.PageCount.TheVariants.{Fit, Unfit}
+use Rattle.std.specs.Bool.{then_some}
 
 -- the tree from a page in its context down: how many pages it has, if all are fit
-unfoldable pub page_count : ℕ → Head → List ℕ → PageContext → ℕ → PageCount
-page_count half h img at p = cond (tree_fit half h img at.level at p) (Fit (length (tree_pages half img at.level p))) Unfit
+unfoldable pub page_count : ℕ → Head → List ℕ → PageContext → ℕ → Option ℕ
+page_count half h img at p = then_some (tree_fit half h img at.level at p) (length (tree_pages half img at.level p))
 
 -- the same from the page below the i-th entry of page p
-abbrev pub page_count_below : ℕ → Head → List ℕ → PageContext → ℕ → ℕ → PageCount
+abbrev pub page_count_below : ℕ → Head → List ℕ → PageContext → ℕ → ℕ → Option ℕ
 page_count_below half h img at p i =
     let s = page_at half img p in
     page_count half h img (context_below half s at i) (child_at half s i)

@@ -5,7 +5,7 @@ ghost use Rattle.soundness.specs.Counting.{chain_ends};
 ghost use Rattle.audit.specs.Walks.{leads_to_free};
 
 use access::pages::page_at;
-use fields::fill::eights_ff;
+use fields::fill::words_ff;
 use page::at::{level_of, next_of};
 use page::layout::{FREE_LEVEL, GAP_OFFSET, page_size};
 
@@ -14,7 +14,7 @@ fn free_ok(half: usize, s: &[u8]) -> bool
     requires { length s.now ≡ page_size half }
     ensures { result ≡ free_ok half s.now }
 {
-    (level_of(s) == FREE_LEVEL) & eights_ff(s, GAP_OFFSET, (page_size(half) - GAP_OFFSET) / 8)
+    (level_of(s) == FREE_LEVEL) & words_ff::<u64>(s, GAP_OFFSET, (page_size(half) - GAP_OFFSET) / 8)
 }
 
 // Whether a page number leads to a free page of the image: compared with n before it is used.
@@ -22,13 +22,7 @@ fn leads_to_free(half: usize, img: &[u8], n: u32, p: u32) -> bool
     requires { length img.now ≡ page_size half * n }
     ensures { result ≡ leads_to_free half img.now n p }
 {
-    if p < 1 {
-        return false;
-    }
-    if n <= p {
-        return false;
-    }
-    free_ok(half, page_at(half, img, p))
+    (1..n).contains(&p) && free_ok(half, page_at(half, img, p))
 }
 
 // Whether the chain from its first page on ends after k free pages: one that returns to itself never ends.
@@ -36,14 +30,12 @@ pub(crate) fn chain_ends(half: usize, img: &[u8], n: u32, k: u32, first: u32) ->
     requires { length img.now ≡ page_size half * n }
     ensures { result ≡ chain_ends half img.now k first }
 {
-    let mut left = k;
     let mut p = first;
-    while 0 < left {
+    for _ in 0..k {
         if !leads_to_free(half, img, n, p) {
             return false;
         }
         p = next_of(page_at(half, img, p));
-        left -= 1;
     }
     p == 0
 }

@@ -5,10 +5,3 @@ pub mod free;
 pub mod unused;
 pub mod verdict;
 pub mod walk;
-
-// What the audit from a page down finds: how many tree pages there are, all fit, or that one is not.
-#[derive(Clone, Copy)]
-pub enum PageCount {
-    Fit(u32),
-    Unfit,
-}

@@ -3,11 +3,9 @@ ghost use Rattle.std.specs.Prelude.{◌≡◌, true, ◌+◌, ◌*◌, ◌-◌, 
 ghost use Rattle.image.specs.Images.{length_ok};
 ghost use Rattle.image.specs.Sound.{sound_before};
 
-use super::PageCount;
 use super::free::chain_ends;
 use super::unused::never_used;
 use super::walk::audit_root;
-use access::HeadCheck;
 use access::heads::open_head;
 
 // Whether tree and chain have as many pages as lie below the high mark but the head: any number may stand as the chain's length.
@@ -15,7 +13,7 @@ fn adds_up(tree: u32, chain: u32, mark: u32) -> bool
     requires { 1 ≤ mark }
     ensures { result ≡ eqb (tree + chain) (mark - 1) }
 {
-    tree as u64 + chain as u64 == (mark - 1) as u64
+    u64::from(tree) + u64::from(chain) == u64::from(mark - 1)
 }
 
 // "An image is sound if head and all tree pages are fit, each page below the high mark except 0 is once in the tree or once in
@@ -25,14 +23,13 @@ pub fn sound_before(half: usize, img: &[u8]) -> bool
     requires { (2 ≤ half) × (half ≤ 12) × (length_ok half img.now ≡ true) }
     ensures { result ≡ sound_before half img.now }
 {
-    let HeadCheck::Fit(h) = open_head(half, img) else {
+    let Some(h) = open_head(half, img) else {
         return false;
     };
-    let PageCount::Fit(tree) = audit_root(half, img, h) else {
+    let Some(tree) = audit_root(half, img, h) else {
         return false;
     };
-    if !adds_up(tree, h.chain, h.mark) {
-        return false;
-    }
-    chain_ends(half, img, h.pages, h.chain, h.free) & never_used(half, img, h.pages, h.mark)
+    adds_up(tree, h.chain, h.mark)
+        && chain_ends(half, img, h.pages, h.chain, h.free)
+        && never_used(half, img, h.pages, h.mark)
 }

@@ -1,4 +1,4 @@
--- `Early` and `Late` have a law for each way out of the two halves of a booking's rows, `Accepted` what an accepted booking finds, and
+-- `Early` and `Late` have what the code's tests say of the two halves of a booking's rows, `Accepted` what an accepted booking finds, and
 -- `Books` a law for each way out of a booking.
 pub mod Early
 pub mod Late

@@ -1,17 +1,24 @@
 // "an entry adds (v, 1), a withdrawal (−v, −1), whether or not such a booking is live"
 ghost use Rattle.std.specs.Prelude.{◌≡◌, true};
 ghost use Rattle.rule.specs.Time.{value_ok};
+ghost use Rattle.calls.specs.Bookings.{side_of};
 ghost use Rattle.calls.specs.Changes.{effect};
-ghost use Rattle.booking.specs.Sides.{side_of};
 
+use calls::bookings::{Booking, Side};
 use rule::Pair;
 
-pub(crate) fn effect(withdraws: bool, v: i64) -> Pair
-    requires { value_ok v ≡ true }
-    ensures { result ≡ effect (side_of withdraws) v }
+pub(crate) fn effect(booking: Booking) -> Pair
+    requires { value_ok booking.value ≡ true }
+    ensures { result ≡ effect (side_of booking.side) booking.value }
 {
-    if withdraws {
-        return Pair { sum: -v, count: -1 };
+    match booking.side {
+        Side::Entering => Pair {
+            sum: booking.value,
+            count: 1,
+        },
+        Side::Withdrawing => Pair {
+            sum: -booking.value,
+            count: -1,
+        },
     }
-    Pair { sum: v, count: 1 }
 }

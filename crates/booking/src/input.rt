@@ -1,33 +1,37 @@
 // The rows before a booking goes to work on its image: the scratch is untouched at each.
 ghost use Rattle.std.specs.Prelude.{◌≡◌, ◌≤◌};
 ghost use Rattle.calls.specs.Refusals.{first, borrowed};
+ghost use Rattle.calls.specs.Numbers.{status_of};
 ghost use Rattle.calls.specs.Calls.{book_input_rows};
 
 use access::lengths::length_fits;
-use calls::refusals::{ACCEPTED, IMAGE_LENGTH, SCRATCH_SHORT, SPAN_EMPTY, VALUE_RANGE};
+use calls::bookings::Booking;
+use calls::refusals::Refusal;
 use rule::time::value_ok;
 use scratch::scratch_ok;
 
-// 16, 17, 11 or 13, in this order, or 0.
-pub(crate) fn check_input(half: usize, img: &[u8], scratch: &[u8], v: i64, s: u32, e: u32) -> u32
+// 16, 17, 11 or 13, in this order.
+pub(crate) fn check_input(
+    half: usize,
+    img: &[u8],
+    scratch: &[u8],
+    booking: Booking,
+) -> Result<(), Refusal>
     requires { half ≤ 12 }
-    ensures { result ≡ first (book_input_rows borrowed half v s e img.now scratch.now) }
+    ensures { status_of result
+        ≡ first (book_input_rows borrowed half booking.value booking.start booking.end img.now scratch.now) }
 {
-    let whole = length_fits(half, img);
-    let room = scratch_ok(half, img, scratch);
-    let span = s < e;
-    let fits = value_ok(v);
-    if !whole {
-        return IMAGE_LENGTH;
+    if !length_fits(half, img) {
+        return Err(Refusal::ImageLength);
     }
-    if !room {
-        return SCRATCH_SHORT;
+    if !scratch_ok(half, img, scratch) {
+        return Err(Refusal::ScratchShort);
     }
-    if !span {
-        return SPAN_EMPTY;
+    if booking.end <= booking.start {
+        return Err(Refusal::SpanEmpty);
     }
-    if !fits {
-        return VALUE_RANGE;
+    if !value_ok(booking.value) {
+        return Err(Refusal::ValueRange);
     }
-    ACCEPTED
+    Ok(())
 }

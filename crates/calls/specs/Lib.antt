@@ -1,5 +1,7 @@
 pub mod Changes
+pub mod Bookings
 pub mod Refusals
+pub mod Numbers
 pub mod Calls
 pub mod Index
 pub mod Tables

@@ -20,16 +20,8 @@ pub fn apply(half: usize, img: &mut [u8], kind: u32, s: u32, e: u32, effect: Pai
 {
     cut(half, img, s);
     cut(half, img, e);
-    combine_span(
-        half,
-        img,
-        SpanEffect {
-            kind: kind,
-            s: s,
-            e: e,
-            effect: effect,
-        },
-    );
+    let task = SpanEffect { kind, s, e, effect };
+    combine_span(half, img, task);
     heal(half, img, kind, s);
     heal(half, img, kind, e);
     count_change(half, img);

@@ -6,7 +6,7 @@ ghost use Rattle.rule.specs.Bounds.{Combinable};
 ghost use Rattle.page.specs.Entries.{at, entry};
 ghost use Rattle.image.specs.Images.{tree};
 ghost use Rattle.steps.specs.Supply.{entries, put};
-ghost use Rattle.steps.specs.Combine.{inside, end_in};
+ghost use Rattle.steps.specs.Combine.{end_in};
 ghost use Rattle.store.specs.Encoding.{Encodes, PreLevel, PostLevel};
 ghost use Rattle.combine_span.specs.SpanCombinable.{took_by, all_took, EntryTakes, PageTakes};
 
@@ -16,24 +16,14 @@ use rule::combine::combine;
 use store::edits::set_entry;
 use store::entries::{entry_count_in, entry_end, entry_of};
 
-// Whether [lo, hi) lies wholly inside [s, e).
-pub(crate) fn inside(s: u32, e: u32, lo: u32, hi: u32) -> bool
-    ensures { result ≡ inside s e lo hi }
-{
-    (s <= lo) & (hi <= e)
-}
-
 // The entry with the effect combined into its pair.
 fn with_effect(q: SpanEffect, x: Entry) -> Entry
     requires { Combinable x.pair q.effect }
     ensures { result ≡ entry x.start (combine q.kind x.pair q.effect) x.child }
 {
-    let own = x.pair;
-    let pair = combine(q.kind, own, q.effect);
     Entry {
-        start: x.start,
-        pair,
-        child: x.child,
+        pair: combine(q.kind, x.pair, q.effect),
+        ..x
     }
 }
 
@@ -45,10 +35,9 @@ fn entry_takes(half: usize, img: &mut [u8], q: SpanEffect, hi: u32, p: u32, i: u
 {
     let x = entry_of(half, img, p, i);
     let end = entry_end(half, img, p, hi, i);
-    if !inside(q.s, q.e, x.start, end) {
-        return;
+    if q.contains(x, end) {
+        set_entry(half, img, p, i, with_effect(q, x));
     }
-    set_entry(half, img, p, i, with_effect(q, x))
 }
 
 // All entries of page p, which ends at hi.
@@ -57,10 +46,7 @@ pub(crate) fn take_effect(half: usize, img: &mut [u8], q: SpanEffect, hi: u32, p
     ensures { PostLevel half img.old (PageTakes q hi p)
         (λ l X. Encodes half img.new (put p (tree l (all_took q hi (entries X p))) X)) }
 {
-    let n = entry_count_in(half, img, p);
-    let mut i = 0;
-    while i < n {
+    for i in 0..entry_count_in(half, img, p) {
         entry_takes(half, img, q, hi, p, i);
-        i += 1;
     }
 }

@@ -4,9 +4,8 @@ ghost use Rattle.store.specs.Encoding.{Encodes, Pre, Post};
 ghost use Rattle.combine_span.specs.SpanCombinable.{page_by, sent_by, PageCombinable, EntryCombinable};
 
 use crate::SpanEffect;
-use crate::entries::{inside, take_effect};
+use crate::entries::take_effect;
 use page::Entry;
-use rule::time::overlaps;
 use store::entries::{entry_count_in, entry_end, entry_of};
 
 // Page p of the level named, which ends at hi: what its entries send below, one after the other, and then what they take themselves. The
@@ -18,17 +17,12 @@ pub(crate) fn combine_page(half: usize, img: &mut [u8], q: SpanEffect, level: u3
         (λ X. Encodes half img.new (page_by q level hi p X)) }
 {
     // A leaf has no pages below.
-    if level == 0 {
-        take_effect(half, img, q, hi, p);
-        return;
-    }
-    let n = entry_count_in(half, img, p);
-    let mut i = 0;
-    while i < n {
-        let x = entry_of(half, img, p, i);
-        let end = entry_end(half, img, p, hi, i);
-        combine_entry(half, img, q, level, end, x);
-        i += 1;
+    if level > 0 {
+        for i in 0..entry_count_in(half, img, p) {
+            let x = entry_of(half, img, p, i);
+            let end = entry_end(half, img, p, hi, i);
+            combine_entry(half, img, q, level, end, x);
+        }
     }
     take_effect(half, img, q, hi, p)
 }
@@ -36,16 +30,12 @@ pub(crate) fn combine_page(half: usize, img: &mut [u8], q: SpanEffect, level: u3
 // "one partly inside sends it to its child": what an entry of an inner page of that level, which ends at hi, sends below. The level falls.
 #[cycle(combine_entry_combine_page)]
 fn combine_entry(half: usize, img: &mut [u8], q: SpanEffect, level: u32, hi: u32, x: Entry)
-    requires le_level { 1 ≤ level }
-    requires pre { Pre half img.old (EntryCombinable q level hi x) }
+    requires inner { 1 ≤ level }
+    requires combinable { Pre half img.old (EntryCombinable q level hi x) }
     ensures { Post half img.old (EntryCombinable q level hi x)
         (λ X. Encodes half img.new (sent_by q level hi x X)) }
 {
-    if inside(q.s, q.e, x.start, hi) {
-        return;
+    if !q.contains(x, hi) && q.meets(x, hi) {
+        combine_page(half, img, q, level - 1, hi, x.child)
     }
-    if !overlaps(q.s, q.e, x.start, hi) {
-        return;
-    }
-    combine_page(half, img, q, level - 1, hi, x.child)
 }

@@ -6,6 +6,7 @@ use native.Mathlib.Omega.{arith}
 use lib.ListN.{length}
 use lib.Dec.{leb, eqb}
 use borrow.Author.Tests.{eq-eqb, ne_eqb}
+use Rattle.std.specs.Prelude.{Option, Some, None}
 use Rattle.page.specs.declared.Entry.{Entry}
 use Rattle.page.specs.Entries.{at, index_of}
 use Rattle.lists.specs.Lists.{splice}
@@ -19,8 +20,7 @@ use Rattle.store.specs.Encoding.{Encodes, PostLevel}
 use Rattle.store.specs.Preconditions.{InImage, Searchable, found_in, entry_for}
 use Rattle.page.proofs.Laws.Indices.{index_in}
 use Rattle.store.proofs.Supplying.{within_put, within_taken}
-use Rattle.cut.specs.declared.SplitOutcome.{SplitOutcome}
-use Rattle.cut.specs.declared.SplitOutcome.TheVariants.{Same, Split}
+use Rattle.cut.specs.declared.SplitOff.{SplitOff}
 use Rattle.cut.specs.Answers.{became, inserted_after, CutAs}
 use Rattle.cut.specs.Cuttable.{Insertable, below, PageCuttable, EntryCuttable}
 use Rattle.cut.proofs.Splitting.{told, cut_as}
@@ -48,15 +48,15 @@ module _ (P : Image → Type 0) (puts : (p : ℕ) (c : Cell) (X : Image) → P X
 -- ---- a leaf's entry
 
 module _ (e : Entry) (t : ℕ) where
-  pub leaf_same : e.start ≡ t → became e Same ≡ cut_leaf_entry t e
+  pub leaf_same : e.start ≡ t → became e None ≡ cut_leaf_entry t e
   unfolding became cut_leaf_entry
   leaf_same s = sym (rw (eq-eqb e.start t s))
 
-  pub leaf_two : (e.start ≡ t → ⊥) → became e (Split t e.child) ≡ cut_leaf_entry t e
+  pub leaf_two : (e.start ≡ t → ⊥) → became e (Some (record { start = t; page = e.child })) ≡ cut_leaf_entry t e
   unfolding became cut_leaf_entry
   leaf_two s = sym (rw (ne_eqb e.start t s))
 
-  pub leaf_as : {half level : ℕ} {X : Image} {g : SplitOutcome} {after : List ℕ} → level ≡ 0 → became e g ≡ cut_leaf_entry t e
+  pub leaf_as : {half level : ℕ} {X : Image} {g : Option SplitOff} {after : List ℕ} → level ≡ 0 → became e g ≡ cut_leaf_entry t e
       → Encodes half after X
       → CutAs half e (cut_entry half t level e X) g after
   unfolding cut_entry
@@ -107,19 +107,19 @@ module _ {half : ℕ} {e : Entry} {level t : ℕ} {X : Image} {f : Found} (k : S
   under = below half (level - 1) e.child t X
 
   -- what it leads to is cut, with the answer that a match has told
-  pub found_cut : {g g' : SplitOutcome} {after : List ℕ} → g ≡ g'
+  pub found_cut : {g g' : Option SplitOff} {after : List ℕ} → g ≡ g'
       → CutAs half f.entry (cut_entry half t (level - 1) f.entry X) g after
       → CutAs half f.entry under g' after
   found_cut same b = told same (cut_as (ap (λ x. cut_entry half t (level - 1) x X) k.entry) b)
 
   -- the entry stayed one, and so does e
-  pub found_same : {after : List ℕ} → CutAs half f.entry under Same after → CutAs half e (cut_entry half t level e X) Same after
+  pub found_same : {after : List ℕ} → CutAs half f.entry under None after → CutAs half e (cut_entry half t level e X) None after
   unfolding became cut_entry
   found_same {after} b =
-      at_inner (λ n. CutAs half e (cut_entry half t n e X) Same after) k.inner
+      at_inner (λ n. CutAs half e (cut_entry half t n e X) None after) k.inner
       (rw (eq-eqb (length under.became) 1 (ap length (sym b.becomes))) (record { becomes = refl; holds = b.holds }))
 
-  module _ {start q : ℕ} {after : List ℕ} (b : CutAs half f.entry under (Split start q) after) where
+  module _ {right : SplitOff} {after : List ℕ} (b : CutAs half f.entry under (Some right) after) where
     abbrev r : PageCuttable half (level - 1) e.child t X
     r = k.page
 
@@ -155,19 +155,19 @@ module _ {half : ℕ} {e : Entry} {level t : ℕ} {X : Image} {f : Found} (k : S
           room = λ many. r.room (omega (arith, two)) (omega (arith, n));
         }
 
-    gained : inserted_after f.index start q (entries under.image e.child) ≡
+    gained : inserted_after f.index right (entries under.image e.child) ≡
         splice (index_of t (entries X e.child)) under.became (entries X e.child)
     unfolding inserted_after
     gained =
         let x : at (entries under.image e.child) f.index ≡ f.entry =
         (λ j. at (same_entries j) (k.index j)) ∙ sym k.entry in
-        let both : became (at (entries under.image e.child) f.index) (Split start q) ≡ under.became =
-        ap (λ y. became y (Split start q)) x ∙ b.becomes in
+        let both : became (at (entries under.image e.child) f.index) (Some right) ≡ under.became =
+        ap (λ y. became y (Some right)) x ∙ b.becomes in
         λ j. splice (k.index j) (both j) (same_entries j)
 
     -- and e becomes what the cutting says
-    pub found_two : {g : SplitOutcome} {then : List ℕ}
-        → CutAs half e (split_if_full half (level - 1) e (inserted_after f.index start q (entries under.image e.child))
+    pub found_two : {g : Option SplitOff} {then : List ℕ}
+        → CutAs half e (split_if_full half (level - 1) e (inserted_after f.index right (entries under.image e.child))
         under.image) g then
         → CutAs half e (cut_entry half t level e X) g then
     unfolding cut_entry

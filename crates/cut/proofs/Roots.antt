@@ -11,6 +11,7 @@ use borrow.Author.Tests.{eq-eqb, ne_eqb, le-leb, lt-leb}
 use Rattle.rule.specs.Pairs.{none}
 use Rattle.rule.specs.Time.{END}
 use Rattle.lists.proofs.Choices.{either}
+use Rattle.std.specs.Prelude.{Option, Some, None}
 use Rattle.page.specs.declared.Entry.{Entry}
 use Rattle.page.specs.declared.Head.{Head}
 use Rattle.page.specs.declared.Page.{Page}
@@ -21,8 +22,7 @@ use Rattle.steps.specs.Supply.{put, with_supply, spare, taken, with_root}
 use Rattle.steps.specs.Cut.{Cutting, cut_entry, root_entry, grow_root, grow_if_split, cut}
 use Rattle.edit.specs.Contents.{HasEntries}
 use Rattle.store.specs.Encoding.{Encodes}
-use Rattle.cut.specs.declared.SplitOutcome.{SplitOutcome}
-use Rattle.cut.specs.declared.SplitOutcome.TheVariants.{Same, Split}
+use Rattle.cut.specs.declared.SplitOff.{SplitOff}
 use Rattle.cut.specs.Answers.{became, CutAs}
 use Rattle.cut.specs.Cuttable.{EntryCuttable, RootGrowable, from_root, RootCuttable}
 use Rattle.cut.proofs.Splitting.{has_tree}
@@ -76,11 +76,11 @@ module _ (half t : ℕ) (X : Image) {h : Head} (read : h ≡ X.head) where
     pub root_ready : RootCuttable half t X → EntryCuttable half h.height e t X
     root_ready r = subst₂ (λ (k : Head) x. EntryCuttable half k.height x t X) (sym read) (sym root_is) r.entry
 
-    pub root_cut : {g : SplitOutcome} {after : List ℕ} → CutAs half e (cut_entry half t h.height e X) g after
+    pub root_cut : {g : Option SplitOff} {after : List ℕ} → CutAs half e (cut_entry half t h.height e X) g after
         → CutAs half (root_entry X) (from_root half t X) g after
     root_cut {g} {after} m = subst₂ (λ (k : Head) x. CutAs half x (cut_entry half t k.height x X) g after) read root_is m
 
-  module _ {start q : ℕ} {after : List ℕ} (r : CutAs half (root_entry X) (from_root half t X) (Split start q) after) where
+  module _ {right : SplitOff} {after : List ℕ} (r : CutAs half (root_entry X) (from_root half t X) (Some right) after) where
     two : length (from_root half t X).became ≡ 2
     unfolding became
     two = ap length (sym r.becomes)
@@ -93,17 +93,17 @@ module _ (half t : ℕ) (X : Image) {h : Head} (read : h ≡ X.head) where
         }
 
     pub root_two : {then : List ℕ} → t < END
-        → Encodes half then (grow_root (entry 0 none h.root ∷ entry start none q ∷ []) (from_root half t X).image)
+        → Encodes half then (grow_root (entry 0 none h.root ∷ entry right.start none right.page ∷ []) (from_root half t X).image)
         → Encodes half then (cut half t X)
     unfolding became root_entry
     root_two {then} l m =
         subst (Encodes half then)
-        (ap (λ (k : Head). grow_root (entry 0 none k.root ∷ entry start none q ∷ []) (from_root half t X).image) read
+        (ap (λ (k : Head). grow_root (entry 0 none k.root ∷ entry right.start none right.page ∷ []) (from_root half t X).image) read
         ∙ ap (λ es. grow_root es (from_root half t X).image) r.becomes
         ∙ sym (cut_inside half t X l ∙ grown_two (from_root half t X) (λ one. omega (arith, two))))
         m
 
-pub root_same : (half t : ℕ) (X : Image) {after : List ℕ} → t < END → CutAs half (root_entry X) (from_root half t X) Same after
+pub root_same : (half t : ℕ) (X : Image) {after : List ℕ} → t < END → CutAs half (root_entry X) (from_root half t X) None after
     → Encodes half after (cut half t X)
 unfolding became
 root_same half t X {after} l r =

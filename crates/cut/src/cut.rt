@@ -3,7 +3,6 @@ ghost use Rattle.steps.specs.Cut.{cut};
 ghost use Rattle.store.specs.Encoding.{Encodes, Pre, Post};
 ghost use Rattle.cut.specs.Cuttable.{Cuttable};
 
-use crate::SplitOutcome;
 use crate::entries::cut_entry;
 use crate::root::grow_root;
 use rule::limits::END;
@@ -19,8 +18,7 @@ pub fn cut(half: usize, img: &mut [u8], t: u32)
         return;
     }
     let h = head_of(half, img);
-    let SplitOutcome::Split(start, q) = cut_entry(half, img, h.height, root_entry(h), END, t) else {
-        return;
-    };
-    grow_root(half, img, h.root, start, q)
+    if let Some(right) = cut_entry(half, img, h.height, root_entry(h), END, t) {
+        grow_root(half, img, h.root, right);
+    }
 }

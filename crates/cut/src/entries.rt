@@ -5,19 +5,23 @@ ghost use Rattle.store.specs.Encoding.{Pre, Post};
 ghost use Rattle.cut.specs.Answers.{became, CutAs};
 ghost use Rattle.cut.specs.Cuttable.{EntryCuttable};
 
-use crate::SplitOutcome;
+use crate::SplitOff;
 use crate::split::insert_after;
 use page::Entry;
 use store::entries::find_entry;
 
 // "the leaf entry that has t becomes two with the same pair"; nothing if t starts it.
-fn cut_leaf_entry(e: Entry, t: u32) -> SplitOutcome
+fn cut_leaf_entry(e: Entry, t: u32) -> Option<SplitOff>
     ensures { became e result ≡ cut_leaf_entry t e }
 {
     if e.start == t {
-        return SplitOutcome::Same;
+        None
+    } else {
+        Some(SplitOff {
+            start: t,
+            page: e.child,
+        })
     }
-    SplitOutcome::Split(t, e.child)
 }
 
 // "Lower pages take first": the page under e is written once the page below it is. Where that one was split, its entry becomes two.
@@ -30,7 +34,7 @@ pub(crate) fn cut_entry(
     e: Entry,
     hi: u32,
     t: u32,
-) -> SplitOutcome
+) -> Option<SplitOff>
     requires { Pre half img.old (EntryCuttable half level e t) }
     ensures { Post half img.old (EntryCuttable half level e t)
         (λ X. CutAs half e (cut_entry half t level e X) result img.new) }
@@ -39,9 +43,6 @@ pub(crate) fn cut_entry(
         return cut_leaf_entry(e, t);
     }
     let found = find_entry(half, img, e.child, hi, t);
-    let SplitOutcome::Split(start, q) = cut_entry(half, img, level - 1, found.entry, found.end, t)
-    else {
-        return SplitOutcome::Same;
-    };
-    insert_after(half, img, e, found.index, start, q)
+    let right = cut_entry(half, img, level - 1, found.entry, found.end, t)?;
+    insert_after(half, img, e, found.index, right)
 }

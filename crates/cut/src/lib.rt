@@ -8,9 +8,9 @@ pub mod entries;
 pub mod root;
 pub mod split;
 
-// What an entry that was cut became: itself, or two. Then the right one's start and its child page.
+// What was split off an entry that was cut, where it became two: the right one's start and its child page.
 #[derive(Clone, Copy)]
-pub enum SplitOutcome {
-    Same,
-    Split(u32, u32),
+pub struct SplitOff {
+    pub start: u32,
+    pub page: u32,
 }

@@ -7,7 +7,7 @@ ghost use Rattle.store.specs.Encoding.{PreLevel, PostLevel};
 ghost use Rattle.cut.specs.Answers.{inserted_after, CutAs};
 ghost use Rattle.cut.specs.Cuttable.{HasPlace, Splittable, Insertable};
 
-use crate::SplitOutcome;
+use crate::SplitOff;
 use edit::entry::entry_at;
 use edit::insert::insert;
 use edit::split::{first_of, rest_of};
@@ -27,7 +27,7 @@ fn page_with(half: usize, img: &[u8], p: u32, i: usize, e: Entry) -> Page
 }
 
 // "a split keeps K/2 and moves K/2 + 1". The page under e is full, and new is the i-th of one more than it holds.
-fn split(half: usize, img: &mut [u8], e: Entry, i: usize, new: Entry) -> SplitOutcome
+fn split(half: usize, img: &mut [u8], e: Entry, i: usize, new: Entry) -> Option<SplitOff>
     requires { PreLevel half img.old (λ l. Splittable half l e.child i) }
     ensures { PostLevel half img.old (λ l. Splittable half l e.child i)
         (λ l X. CutAs half e (split half l e (inserted i new (entries X e.child)) X) result img.new) }
@@ -38,33 +38,34 @@ fn split(half: usize, img: &mut [u8], e: Entry, i: usize, new: Entry) -> SplitOu
     save(half, img, e.child, left);
     let right = rest_of(page, half);
     save(half, img, q, right);
-    let first = entry_at(right, 0);
-    SplitOutcome::Split(first.start, q)
+    Some(SplitOff {
+        start: entry_at(right, 0).start,
+        page: q,
+    })
 }
 
-// The i-th entry of the page under e becomes two with the same pair: behind it stands one with the start and the child named.
+// The i-th entry of the page under e becomes two with the same pair: behind it stands what was split off it.
 pub(crate) fn insert_after(
     half: usize,
     img: &mut [u8],
     e: Entry,
     i: usize,
-    start: u32,
-    child: u32,
-) -> SplitOutcome
+    right: SplitOff,
+) -> Option<SplitOff>
     requires { PreLevel half img.old (λ l. Insertable half l e.child i) }
     ensures { PostLevel half img.old (λ l. Insertable half l e.child i)
-        (λ l X. CutAs half e (split_if_full half l e (inserted_after i start child (entries X e.child)) X) result img.new) }
+        (λ l X. CutAs half e (split_if_full half l e (inserted_after i right (entries X e.child)) X) result img.new) }
 {
     let old = entry_of(half, img, e.child, i);
-    let pair = old.pair;
     let new = Entry {
-        start: start,
-        pair: pair,
-        child: child,
+        start: right.start,
+        child: right.page,
+        ..old
     };
     if entry_count_in(half, img, e.child) < capacity(half) {
         insert_entry(half, img, e.child, i + 1, new);
-        return SplitOutcome::Same;
+        None
+    } else {
+        split(half, img, e, i + 1, new)
     }
-    split(half, img, e, i + 1, new)
 }

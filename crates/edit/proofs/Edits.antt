@@ -10,10 +10,10 @@ use Rattle.page.specs.declared.Entry.{Entry}
 use Rattle.page.specs.declared.Page.{Page}
 use Rattle.page.specs.Entries.{at, no_entry, inserted}
 use Rattle.lists.specs.Lists.{splice}
-use Rattle.page.specs.Decoded.{entry_list}
+use Rattle.page.specs.Decoded.{with_slot, entry_list}
 use Rattle.edit.specs.Contents.{HasEntries, first_slots}
-use Rattle.page.proofs.Laws.Decoded.{length_shown}
-use Rattle.edit.proofs.Slots.{first_slots_length, first_slots_take, first_slots_stored, entry_list_first_slots, Wide, stored}
+use Rattle.page.proofs.Laws.Decoded.{Wide, length_shown}
+use Rattle.edit.proofs.Slots.{first_slots_length, first_slots_take, first_slots_with, entry_list_first_slots}
 
 -- the number follows from the entries
 pub has_len : {l : ℕ} {es : List Entry} {r : Page} → HasEntries l es r → r.len ≡ length es
@@ -39,23 +39,22 @@ module _ (p : Page) where
   slots_first k h = rw (entry_list_first_slots p refl) (sym (first_slots_take p p.len k h))
 
   pub replace_entries : (i : ℕ) (e : Entry) → Wide p → i < p.len → p.len ≤ 25
-      → entry_list (stored i e p) ≡ splice i (e ∷ []) (entry_list p)
+      → entry_list (with_slot i e p) ≡ splice i (e ∷ []) (entry_list p)
   unfolding splice
   replace_entries i e w h b =
-      entry_list_first_slots (stored i e p) refl ∙ first_slots_stored i e p w (omega arith) p.len
+      entry_list_first_slots (with_slot i e p) refl ∙ first_slots_with i e p w (omega arith) p.len
       ∙ rw (entry_list_first_slots p refl) (set_split (first_slots p.len p) i e (rw (first_slots_length p) h))
 
   -- e at the slot that was made free
   pub insert_entries : (i : ℕ) (e : Entry) → i ≤ p.len
-      → splice i (e ∷ []) (first_slots (i + 1) p ++ drop i (first_slots p.len p)) ≡ inserted i e (entry_list p)
+      → splice i (e ∷ []) (first_slots (i + 1) p ++ drop i (entry_list p)) ≡ inserted i e (entry_list p)
   unfolding splice inserted
   insert_entries i e h =
-      let behind : List Entry = drop i (first_slots p.len p) in
+      let behind : List Entry = drop i (entry_list p) in
       rw (
         add-one i,
         take-append-le i (first_slots (suc i) p) behind (rw (first_slots_length p) (omega arith)),
         drop_at (first_slots (suc i) p) behind (suc i) (first_slots_length p (suc i)),
         first_slots_take p (suc i) i (omega arith),
         slots_first i h,
-        entry_list_first_slots p refl,
       )

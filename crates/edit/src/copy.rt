@@ -5,25 +5,16 @@ ghost use Rattle.edit.specs.Contents.{HasEntries, first_slots};
 
 use page::Page;
 
-// The first slots of p, `kept` of them, and behind those the slots of q from `from` up to `end`.
-// Where p and q are one page, entries move within it: q is read as it was, so none is overwritten before it is moved.
-pub(crate) fn copy_range(p: Page, kept: usize, q: Page, from: usize, end: usize) -> Page
-    requires { (from ≤ end) × (end ≤ 25) × (kept + end ≤ from + 25) }
-    ensures { HasEntries p.level (first_slots kept p ++ drop from (first_slots end q)) result }
+// The first slots of p, `to` of them, and behind those its entries from the one at `from` on.
+// p is read as it was, so none is overwritten before it is moved.
+pub(crate) fn move_entries(p: Page, from: usize, to: usize) -> Page
+    requires { (from ≤ p.len) × (p.len ≤ 25) × (to + p.len ≤ from + 25) }
+    ensures { HasEntries p.level (first_slots to p ++ drop from (entry_list p)) result }
 {
     let mut r = p;
-    let mut to = kept;
-    let mut i = from;
-    while i < end {
-        let sum = q.sums[i];
-        let count = q.counts[i];
-        r.starts[to] = q.starts[i];
-        r.sums[to] = sum;
-        r.counts[to] = count;
-        r.children[to] = q.children[i];
-        to = to + 1;
-        i = i + 1;
+    for i in from..p.len {
+        r.set_entry(to + (i - from), p.entry(i));
     }
-    r.len = to;
+    r.len = to + (p.len - from);
     r
 }

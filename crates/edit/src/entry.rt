@@ -6,21 +6,12 @@ ghost use Rattle.page.specs.Decoded.{entry_list};
 ghost use Rattle.edit.specs.Contents.{HasEntries};
 
 use page::{Entry, Page};
-use rule::Pair;
 
 pub fn entry_at(p: Page, i: usize) -> Entry
     requires { (i < p.len) × (p.len ≤ 25) }
     ensures { result ≡ at (entry_list p) i }
 {
-    let pair = Pair {
-        sum: p.sums[i],
-        count: p.counts[i],
-    };
-    Entry {
-        start: p.starts[i],
-        pair,
-        child: p.children[i],
-    }
+    p.entry(i)
 }
 
 // e in the place of the i-th entry.
@@ -28,13 +19,7 @@ pub fn replace(p: Page, i: usize, e: Entry) -> Page
     requires { (i < p.len) × (p.len ≤ 25) }
     ensures { HasEntries p.level (splice i (e ∷ []) (entry_list p)) result }
 {
-    let pair = e.pair;
-    let sum = pair.sum;
-    let count = pair.count;
     let mut r = p;
-    r.starts[i] = e.start;
-    r.sums[i] = sum;
-    r.counts[i] = count;
-    r.children[i] = e.child;
+    r.set_entry(i, e);
     r
 }

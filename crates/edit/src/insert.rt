@@ -4,7 +4,7 @@ ghost use Rattle.page.specs.Entries.{inserted};
 ghost use Rattle.page.specs.Decoded.{entry_list};
 ghost use Rattle.edit.specs.Contents.{HasEntries};
 
-use crate::copy::copy_range;
+use crate::copy::move_entries;
 use crate::entry::replace;
 use page::{Entry, Page};
 
@@ -13,6 +13,6 @@ pub fn insert(p: Page, i: usize, e: Entry) -> Page
     requires { (i ≤ p.len) × (p.len ≤ 24) }
     ensures { HasEntries p.level (inserted i e (entry_list p)) result }
 {
-    let opened = copy_range(p, i + 1, p, i, p.len);
+    let opened = move_entries(p, i, i + 1);
     replace(opened, i, e)
 }

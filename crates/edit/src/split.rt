@@ -3,7 +3,7 @@ ghost use Rattle.std.specs.Prelude.{◌≤◌, take, drop};
 ghost use Rattle.page.specs.Decoded.{entry_list};
 ghost use Rattle.edit.specs.Contents.{HasEntries};
 
-use crate::copy::copy_range;
+use crate::copy::move_entries;
 use page::Page;
 
 // The first k entries: what stands past its length means nothing, so no slot is written.
@@ -11,9 +11,7 @@ pub fn first_of(p: Page, k: usize) -> Page
     requires { k ≤ p.len }
     ensures { HasEntries p.level (take k (entry_list p)) result }
 {
-    let mut r = p;
-    r.len = k;
-    r
+    Page { len: k, ..p }
 }
 
 // The entries from the k-th on.
@@ -21,5 +19,5 @@ pub fn rest_of(p: Page, k: usize) -> Page
     requires { (k ≤ p.len) × (p.len ≤ 25) }
     ensures { HasEntries p.level (drop k (entry_list p)) result }
 {
-    copy_range(p, 0, p, k, p.len)
+    move_entries(p, k, 0)
 }

@@ -2,24 +2,22 @@
 ghost use Rattle.std.specs.Prelude.{◌≡◌, ◌+◌, ◌*◌, ◌≤◌, length, replicate};
 ghost use Rattle.fields.specs.Bytes.{part, patch, all_are};
 
-use super::read::{get_u32, get_u64};
+use crate::word::Word;
 
 // "Unused bytes are FF (hexadecimal)."
 pub const UNUSED_BYTE: u8 = 255;
 
-// Whether the k words of eight bytes from offset a on are all FF. No exit in the loop, and one `and` a word with one comparison at the
-// end: many words are tested at once, and no tail of single bytes is left (15% of an instant or of an audit of full pages).
-pub fn eights_ff(s: &[u8], a: usize, k: usize) -> bool
-    requires { a + 8 * k ≤ length s.now }
-    ensures { result ≡ all_are 255 (part s.now a (8 * k)) }
+// Whether the k words from offset a on are all FF. No exit in the loop, and one `and` a word with one comparison at the end: many words
+// are tested at once, and with words of eight bytes no tail of single bytes is left (15% of an instant or of an audit of full pages).
+pub fn words_ff<W: Word>(s: &[u8], a: usize, k: usize) -> bool
+    requires { a + W.SIZE * k ≤ length s.now }
+    ensures { result ≡ all_are 255 (part s.now a (W.SIZE * k)) }
 {
-    let mut all = u64::MAX;
-    let mut i = 0;
-    while i < k {
-        all = all & get_u64(s, a + 8 * i);
-        i += 1;
+    let mut all = W::ones();
+    for i in 0..k {
+        all = all.and_at(s, a + W::SIZE * i);
     }
-    all == u64::MAX
+    all.is_ones()
 }
 
 // Words in a block: 512 bytes.
@@ -32,26 +30,10 @@ pub fn blocks_ff(s: &[u8], a: usize, k: usize) -> bool
 {
     let blocks = k / BLOCK;
     let mut ok = true;
-    let mut i = 0;
-    while i < blocks {
-        ok = ok & eights_ff(s, a + 8 * BLOCK * i, BLOCK);
-        i += 1;
+    for i in 0..blocks {
+        ok &= words_ff::<u64>(s, a + 8 * BLOCK * i, BLOCK);
     }
-    ok & eights_ff(s, a + 8 * BLOCK * blocks, k % BLOCK)
-}
-
-// The same of words of four bytes.
-fn fours_ff(s: &[u8], a: usize, k: usize) -> bool
-    requires { a + 4 * k ≤ length s.now }
-    ensures { result ≡ all_are 255 (part s.now a (4 * k)) }
-{
-    let mut all = u32::MAX;
-    let mut i = 0;
-    while i < k {
-        all = all & get_u32(s, a + 4 * i);
-        i += 1;
-    }
-    all == u32::MAX
+    ok & words_ff::<u64>(s, a + 8 * BLOCK * blocks, k % BLOCK)
 }
 
 // The same of n single bytes.
@@ -60,10 +42,8 @@ fn bytes_ff(s: &[u8], a: usize, n: usize) -> bool
     ensures { result ≡ all_are 255 (part s.now a n) }
 {
     let mut ok = true;
-    let mut i = 0;
-    while i < n {
-        ok = ok & (s[a + i] == UNUSED_BYTE);
-        i += 1;
+    for i in 0..n {
+        ok &= s[a + i] == UNUSED_BYTE;
     }
     ok
 }
@@ -76,17 +56,16 @@ pub fn all_ff(s: &[u8], a: usize, n: usize) -> bool
     ensures { result ≡ all_are 255 (part s.now a n) }
 {
     let k = n / 4;
-    fours_ff(s, a, k) & bytes_ff(s, a + 4 * k, n % 4)
+    words_ff::<u32>(s, a, k) & bytes_ff(s, a + 4 * k, n % 4)
 }
 
-// Writes the byte b at the n offsets from a on.
+// Writes the byte b at the n offsets from a on. A loop is one call that sets memory; the slice's own `fill` would write the last byte
+// apart.
 pub fn fill(s: &mut [u8], a: usize, n: usize, b: u8)
     requires { a + n ≤ length s.old }
     ensures { s.new ≡ patch s.old a (replicate n b) }
 {
-    let mut k = 0;
-    while k < n {
+    for k in 0..n {
         s[a + k] = b;
-        k += 1;
     }
 }

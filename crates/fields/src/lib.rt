@@ -1,7 +1,6 @@
 // Numbers in bytes: reading and writing them at an offset of a slice, and runs of one byte.
 #![tactic(auto)]
 
+pub mod field;
 pub mod fill;
-pub mod read;
-mod sign;
-pub mod write;
+pub mod word;

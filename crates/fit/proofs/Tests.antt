@@ -1,23 +1,7 @@
 -- Checks made of parts: a loop that tests each of n things without an exit, and exits between the parts. Assumes nothing.
-use Rattle.std.proofs.Common.{◌≡◌, ℕ, zero, suc, ◌+◌, ◌<◌, ◌≤◌, Bool, true, false, ◌&&◌, eqb, ltb, leb, ◌↔◌, sym, refl, ap, ◌∙◌, ap₂, arith, ltb-true, lt-ltb, eq-eqb, eqb-true, le-leb, leb-true}
+use Rattle.std.proofs.Common.{◌≡◌, ℕ, zero, suc, ◌<◌, ◌≤◌, Bool, true, false, ◌&&◌, eqb, ltb, leb, ◌↔◌, sym, refl, ap, ◌∙◌, ltb-true, lt-ltb, eq-eqb, eqb-true, le-leb, leb-true}
 use Rattle.fields.specs.Bytes.{every}
-use Rattle.fields.proofs.Laws.Tests.{every_none, every_more, every_all, every_of}
-
--- a loop's invariant: ok is the test of the first i of n things
-pub record Passed (n : ℕ) (p : ℕ → Bool) (i : ℕ) (ok : Bool) : Type 0 where
-  pub within : i ≤ n
-  pub same : ok ≡ every i p
-
-pub passed_none : (n : ℕ) (p : ℕ → Bool) → Passed n p 0 true
-passed_none n p = record { within = omega arith; same = sym (every_none p) }
-
-pub passed_more : {n : ℕ} {p : ℕ → Bool} {i : ℕ} {ok b : Bool} → Passed n p i ok → i < n → b ≡ p i → Passed n p (i + 1) (ok && b)
-passed_more {n} {p} {i} h l e = record { within = omega arith; same = ap₂ ◌&&◌ h.same e ∙ sym (every_more i p) }
-
-pub passed_all : {n : ℕ} {p : ℕ → Bool} {i : ℕ} {ok : Bool} → Passed n p i ok → n ≤ i → ok ≡ every n p
-passed_all {n} {p} {i} h l =
-    let e : i ≡ n = omega (arith, h.within) in
-    h.same ∙ ap (λ k. every k p) e
+use Rattle.fields.proofs.Laws.Tests.{every_all, every_of}
 
 -- two tests of each thing are one of both
 pub every_both : (n : ℕ) (p q : ℕ → Bool) → every n (λ i. p i && q i) ≡ every n p && every n q

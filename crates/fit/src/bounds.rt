@@ -7,26 +7,23 @@ use super::Limits;
 use page::{Head, PageContext};
 use rule::limits::{MOST_VALUE, TOTALS};
 
-// The first child that an entry of a level may have: a leaf's is 0.
-fn first_child(level: u32) -> u64
-    ensures { result ≡ (if nat_eq level 0 then 0 else 1) }
+// The first child that an entry of a level may have, and the number behind the last: a leaf's is 0.
+fn children(pages: u32, level: u32) -> (u64, u64)
+    ensures first { result.0 ≡ (if nat_eq level 0 then 0 else 1) }
+    ensures past { result.1 ≡ (if nat_eq level 0 then 1 else pages) }
 {
-    if level == 0 { 0 } else { 1 }
-}
-
-// The number behind the last child that an entry of a level may have.
-fn past_child(pages: u32, level: u32) -> u64
-    ensures { result ≡ (if nat_eq level 0 then 1 else pages) }
-{
-    if level == 0 { 1 } else { pages as u64 }
+    if level == 0 {
+        (0, 1)
+    } else {
+        (1, u64::from(pages))
+    }
 }
 
 // The limits of the entries of a page in a context: no more than is left by the entries above it.
 pub(crate) fn limits(h: Head, at: PageContext) -> Limits
     ensures { LimitsOf h at result }
 {
-    let first = first_child(at.level);
-    let past = past_child(h.pages, at.level);
+    let (first, past) = children(h.pages, at.level);
     if h.kind != TOTALS {
         return Limits {
             sum: 0,
@@ -37,7 +34,7 @@ pub(crate) fn limits(h: Head, at: PageContext) -> Limits
             past,
         };
     }
-    let changes = h.changes as u64;
+    let changes = u64::from(h.changes);
     let most = MOST_VALUE * changes;
     if (at.sums <= most) & (at.counts <= changes) {
         let below = changes - at.counts;

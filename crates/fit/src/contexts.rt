@@ -8,7 +8,6 @@ use page::at::{entry_count, pair_at, start_at};
 use page::{Head, PageContext};
 use rule::Pair;
 use rule::limits::END;
-use rule::numbers::magnitude;
 
 // The root's context: "(root: height − 1)", "(root: 0)", "(root: END)".
 pub fn root_context(h: Head) -> PageContext
@@ -47,16 +46,16 @@ pub fn context_under(at: PageContext, start: u32, end: u32, pair: Pair) -> PageC
         is_root: false,
         lo: start,
         hi: end,
-        sums: at.sums + magnitude(pair.sum),
-        counts: at.counts + magnitude(pair.count as i64),
+        sums: at.sums + pair.sum.unsigned_abs(),
+        counts: at.counts + i64::from(pair.count).unsigned_abs(),
     }
 }
 
 // The context of the page under the i-th entry.
 pub fn context_below(half: usize, s: &[u8], at: PageContext, i: usize) -> PageContext
-    requires s_len { length s.now ≡ page_size half }
-    requires i_bound { (i < capacity half) × (entry_count s.now ≤ capacity half) }
-    requires le_level { (1 ≤ at.level) × Bounded at }
+    requires size { length s.now ≡ page_size half }
+    requires within { (i < capacity half) × (entry_count s.now ≤ capacity half) }
+    requires inner { (1 ≤ at.level) × Bounded at }
     ensures { result ≡ context_below half s.now at i }
 {
     context_under(at, start_at(s, i), end_at(s, at.hi, i), pair_at(half, s, i))

@@ -34,10 +34,8 @@ fn all_within(half: usize, s: &[u8], n: usize, l: Limits) -> bool
     ensures { Tells half l s.now n result }
 {
     let mut over = 0;
-    let mut i = 0;
-    while i < n {
-        over = over | overstep(l, sum_bits_at(half, s, i), count_and_child_at(half, s, i));
-        i += 1;
+    for i in 0..n {
+        over |= overstep(l, sum_bits_at(half, s, i), count_and_child_at(half, s, i));
     }
     over < TOP_BIT
 }
@@ -52,11 +50,9 @@ fn clearly_within(half: usize, s: &[u8], n: usize, l: Limits) -> bool
 {
     let mut sums = 0;
     let mut marks = 0;
-    let mut i = 0;
-    while i < n {
-        sums = sums | std::num::wrapping_add_u64(sum_bits_at(half, s, i), l.sum);
-        marks = marks | count_and_child_at(half, s, i);
-        i += 1;
+    for i in 0..n {
+        sums |= sum_bits_at(half, s, i).wrapping_add(l.sum);
+        marks |= count_and_child_at(half, s, i);
     }
     (sums <= 2 * l.sum) & (marks <= l.below)
 }
@@ -67,10 +63,8 @@ pub(crate) fn entries_ok(half: usize, s: &[u8], n: usize, h: Head, at: PageConte
     ensures { result ≡ children_ok half h.pages at s.now && pairs_ok half h at s.now }
 {
     let l = limits(h, at);
-    if (l.first == 0) & (l.past == 1) & (l.each == 0) {
-        if clearly_within(half, s, n, l) {
-            return true;
-        }
+    if (l.first == 0) & (l.past == 1) & (l.each == 0) && clearly_within(half, s, n, l) {
+        return true;
     }
     all_within(half, s, n, l)
 }

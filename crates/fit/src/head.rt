@@ -17,13 +17,10 @@ fn ranges_ok(h: Head, pages: u32) -> bool
     ensures { result ≡ ranges_ok pages h }
 {
     (h.pages == pages)
-        & (1 <= h.height)
-        & (h.height <= MOST_HEIGHT)
-        & (1 <= h.root)
-        & (h.root < pages)
+        & (1..=MOST_HEIGHT).contains(&h.height)
+        & (1..pages).contains(&h.root)
         & (h.free < pages)
-        & (LEAST_MARK <= h.mark)
-        & (h.mark <= pages)
+        & (LEAST_MARK..=pages).contains(&h.mark)
         & kind_ok(h.kind)
         & window_ok(h.window)
         & (h.changes <= MOST_CHANGES)

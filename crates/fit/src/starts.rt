@@ -13,10 +13,8 @@ fn rising(s: &[u8], n: usize) -> bool
     ensures { result ≡ every (n - 1) (λ i. nat_lt (start_at s.now i) (start_at s.now (suc i))) }
 {
     let mut ok = true;
-    let mut i = 0;
-    while i < n - 1 {
-        ok = ok & (start_at(s, i) < start_at(s, i + 1));
-        i += 1;
+    for i in 0..n - 1 {
+        ok &= start_at(s, i) < start_at(s, i + 1);
     }
     ok
 }

@@ -13,7 +13,7 @@ use page::{Head, PageContext};
 
 // Whether a page is fit in its context, for any bytes of a page: exits stand only between the parts of the check.
 pub fn page_fit(half: usize, s: &[u8], h: Head, at: PageContext) -> bool
-    requires le_half { (1 ≤ half) × (length s.now ≡ page_size half) }
+    requires bytes { (1 ≤ half) × (length s.now ≡ page_size half) }
     requires bounded { Bounded at }
     ensures { result ≡ page_fit half h at s.now }
 {

@@ -3,7 +3,7 @@ ghost use Rattle.std.specs.Prelude.{◌≡◌};
 ghost use Rattle.page.specs.Layout.{unused_ok};
 ghost use Rattle.fit.specs.Contexts.{Compared};
 
-use fields::fill::{all_ff, eights_ff};
+use fields::fill::{all_ff, words_ff};
 use page::layout::{
     ENTRY_BYTES, GAP_BYTES, GAP_OFFSET, START_BYTES, capacity, entry_offset, start_offset,
 };
@@ -14,7 +14,7 @@ pub(crate) fn unused_ok(half: usize, s: &[u8], n: usize) -> bool
     ensures { result ≡ unused_ok half s.now }
 {
     let past = capacity(half) - n;
-    eights_ff(s, GAP_OFFSET, GAP_BYTES / 8)
+    words_ff::<u64>(s, GAP_OFFSET, GAP_BYTES / 8)
         & (all_ff(s, start_offset(n), START_BYTES * past)
-            & eights_ff(s, entry_offset(half, n), ENTRY_BYTES / 8 * past))
+            & words_ff::<u64>(s, entry_offset(half, n), ENTRY_BYTES / 8 * past))
 }

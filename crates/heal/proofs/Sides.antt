@@ -6,7 +6,7 @@ use mathlib.Core.List.{List}
 use Prim.Native.Nat.{ℕ, zero, suc, ◌-◌, ◌<◌}
 use native.Mathlib.Omega.{arith}
 use lib.Dec.{eqb, ltb}
-use borrow.Author.Tests.{lt-ltb, le-ltb, eq-eqb, ne_eqb}
+use borrow.Author.Tests.{lt-ltb, eq-eqb, ne_eqb}
 use Rattle.rule.specs.declared.Pair.{Pair}
 use Rattle.rule.specs.Bounds.{Combinable}
 use Rattle.rule.specs.Pairs.{same_pair}
@@ -53,12 +53,6 @@ module _ (◌⊕◌ : Pair → Pair → Pair) (t p : ℕ) where
   -- ---- the two sides
 
   module _ (l i : ℕ) (X : Image) where
-    pub sides_first : i ≡ 0 → false ≡ sides_agree ◌⊕◌ t l p i X
-    sides_first e =
-        let first : ltb 0 i ≡ false = le-ltb 0 i (omega arith) in
-        ap (λ b. b && same_pair (total_under ◌⊕◌ t l (at (entries X p) i) X) (total_under ◌⊕◌ (t - 1) l (at (entries X p) (i - 1)) X))
-        (sym first)
-
     pub sides_later : {x y : Entry} {a b : Pair} → (i ≡ 0 → ⊥) → x ≡ at (entries X p) i → y ≡ at (entries X p) (i - 1)
         → a ≡ total_under ◌⊕◌ t l x X → b ≡ total_under ◌⊕◌ (t - 1) l y X → same_pair a b ≡ sides_agree ◌⊕◌ t l p i X
     sides_later some here before right left =

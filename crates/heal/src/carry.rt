@@ -15,15 +15,20 @@ pub(crate) fn carry(half: usize, img: &mut [u8], edge: bool, p: u32, i: usize, t
     ensures { PostLevel half img.old (λ v X. edge ≡ true → Carriable v p i X)
         (λ v X. Encodes half img.new (carry edge t (suc v) p i X)) }
 {
-    if !edge {
-        return;
-    }
-    let e = entry_of(half, img, p, i);
-    if e.start == t {
-        let first = entry_of(half, img, e.child, 0);
-        let start = first.start;
-        let pair = e.pair;
-        let child = e.child;
-        set_entry(half, img, p, i, Entry { start, pair, child });
+    if edge {
+        let e = entry_of(half, img, p, i);
+        if e.start == t {
+            let first = entry_of(half, img, e.child, 0);
+            set_entry(
+                half,
+                img,
+                p,
+                i,
+                Entry {
+                    start: first.start,
+                    ..e
+                },
+            );
+        }
     }
 }

@@ -28,10 +28,7 @@ pub(crate) fn collapse_if_single(half: usize, img: &mut [u8], kind: u32)
         (λ X. Encodes half img.new (collapse_if_single (combine kind) X)) }
 {
     let h = head_of(half, img);
-    if h.height < 2 {
-        return;
-    }
-    if entry_count_in(half, img, h.root) == 1 {
+    if h.height > 1 && entry_count_in(half, img, h.root) == 1 {
         collapse_root(half, img, kind);
     }
 }

@@ -2,41 +2,29 @@
 // the ways to t and to t − 1 part, and two from there on. What stands above is on both ways, and is not compared.
 ghost use Rattle.std.specs.Prelude.{◌≡◌, true, ◌&&◌, eqb};
 ghost use Rattle.rule.specs.Pairs.{combine};
-ghost use Rattle.steps.specs.Heal.{total_from};
 ghost use Rattle.store.specs.Encoding.{Pre, Post};
-ghost use Rattle.heal.specs.Edges.{Totalled, UnderTotalled, total_under, SidesReadable, sides_agree, EdgeReadable, edge_met};
+ghost use Rattle.heal.specs.Edges.{UnderTotalled, total_under, SidesReadable, sides_agree, EdgeReadable, edge_met};
 
 use page::Entry;
 use rule::Pair;
-use rule::combine::{combine, same_pair};
+use rule::combine::combine;
 use rule::limits::{END, TOTALS};
 use store::Found;
 use store::entries::{entry_of, find_entry};
 
-// The total at t from page p of that level down, if the page ends at hi.
-fn total(half: usize, img: &[u8], kind: u32, level: u32, p: u32, hi: u32, t: u32) -> Pair
-    requires { Pre half img.now (Totalled (combine kind) t level p) }
-    ensures { Post half img.now (Totalled (combine kind) t level p) (λ X. result ≡ total_from (combine kind) t level p X) }
-{
-    let found = find_entry(half, img, p, hi, t);
-    let e = found.entry;
-    let pair = e.pair;
-    if level == 0 {
-        return pair;
-    }
-    let below = total(half, img, kind, level - 1, e.child, found.end, t);
-    combine(kind, pair, below)
-}
-
-// The same from an entry that ends at hi, whose page is of that level.
+// The total at t from an entry that ends at hi, whose page is of that level.
 fn total_under(half: usize, img: &[u8], kind: u32, level: u32, e: Entry, hi: u32, t: u32) -> Pair
     requires { Pre half img.now (UnderTotalled (combine kind) t level e) }
     ensures { Post half img.now (UnderTotalled (combine kind) t level e)
         (λ X. result ≡ total_under (combine kind) t level e X) }
 {
-    let below = total(half, img, kind, level, e.child, hi, t);
-    let pair = e.pair;
-    combine(kind, pair, below)
+    let found = find_entry(half, img, e.child, hi, t);
+    let below = if level == 0 {
+        found.entry.pair
+    } else {
+        total_under(half, img, kind, level - 1, found.entry, found.end, t)
+    };
+    combine(kind, e.pair, below)
 }
 
 // Whether an entry found in page p, which starts at t, has one before it with the same total at t − 1; below is the level of their pages.
@@ -52,7 +40,7 @@ fn sides_agree(half: usize, img: &[u8], kind: u32, below: u32, p: u32, found: Fo
     let right = total_under(half, img, kind, below, found.entry, found.end, t);
     let before = entry_of(half, img, p, i - 1);
     let left = total_under(half, img, kind, below, before, t, t - 1);
-    same_pair(right, left)
+    right == left
 }
 
 // Whether the ways part from page p of that level down, which ends at hi, and the totals from there on are the same: they part where an
@@ -66,11 +54,11 @@ fn edge_met(half: usize, img: &[u8], kind: u32, level: u32, p: u32, hi: u32, t: 
         return false;
     }
     let found = find_entry(half, img, p, hi, t);
-    let e = found.entry;
-    if e.start == t {
-        return sides_agree(half, img, kind, level - 1, p, found, t);
+    if found.entry.start == t {
+        sides_agree(half, img, kind, level - 1, p, found, t)
+    } else {
+        edge_met(half, img, kind, level - 1, found.entry.child, found.end, t)
     }
-    edge_met(half, img, kind, level - 1, e.child, found.end, t)
 }
 
 // "For kind 1": another kind's edges stay. From the root, whose level is given.
@@ -79,8 +67,5 @@ pub(crate) fn joins_edge(half: usize, img: &[u8], kind: u32, level: u32, root: u
     ensures { Post half img.now (λ X. eqb kind 1 ≡ true → EdgeReadable (combine kind) t level root X)
         (λ X. result ≡ (eqb kind 1 && edge_met (combine kind) t level root X)) }
 {
-    if kind != TOTALS {
-        return false;
-    }
-    edge_met(half, img, kind, level, root, END, t)
+    kind == TOTALS && edge_met(half, img, kind, level, root, END, t)
 }

@@ -4,6 +4,7 @@ ghost use Rattle.steps.specs.Heal.{heal_page, heal};
 ghost use Rattle.store.specs.Encoding.{Encodes, Pre, Post, PreLevel, PostLevel};
 ghost use Rattle.heal.specs.Healable.{RebalanceableIfShort, rebalance_if_short, PageHealable, Healable};
 
+use crate::HealAt;
 use crate::carry::carry;
 use crate::collapse::collapse_if_single;
 use crate::edges::joins_edge;
@@ -26,29 +27,20 @@ fn rebalance_if_short(half: usize, img: &mut [u8], kind: u32, p: u32, i: usize, 
 
 // Page p of that level, which ends at hi: the leaf entry goes, and on the way back up, at an edge, the new first start is carried, and each
 // page that is left short is rebalanced. The search asks for hi, and what is written doesn't depend on it.
-fn heal_page(
-    half: usize,
-    img: &mut [u8],
-    kind: u32,
-    edge: bool,
-    level: u32,
-    p: u32,
-    hi: u32,
-    t: u32,
-)
-    requires { Pre half img.old (PageHealable half kind edge t level p) }
-    ensures { Post half img.old (PageHealable half kind edge t level p)
-        (λ X. Encodes half img.new (heal_page half (combine kind) edge t level p X)) }
+fn heal_page(half: usize, img: &mut [u8], by: HealAt, level: u32, p: u32, hi: u32)
+    requires { Pre half img.old (PageHealable half by.kind by.edge by.t level p) }
+    ensures { Post half img.old (PageHealable half by.kind by.edge by.t level p)
+        (λ X. Encodes half img.new (heal_page half (combine by.kind) by.edge by.t level p X)) }
 {
     if level == 0 {
-        heal_leaf(half, img, edge, p, hi, t);
+        heal_leaf(half, img, by.edge, p, hi, by.t);
         return;
     }
-    let found = find_entry(half, img, p, hi, t);
-    let e = found.entry;
-    heal_page(half, img, kind, edge, level - 1, e.child, found.end, t);
-    carry(half, img, edge, p, found.index, t);
-    rebalance_if_short(half, img, kind, p, found.index, e.child);
+    let found = find_entry(half, img, p, hi, by.t);
+    let child = found.entry.child;
+    heal_page(half, img, by, level - 1, child, found.end);
+    carry(half, img, by.edge, p, found.index, by.t);
+    rebalance_if_short(half, img, by.kind, p, found.index, child);
 }
 
 // The whole step.
@@ -60,6 +52,7 @@ pub fn heal(half: usize, img: &mut [u8], kind: u32, t: u32)
     let h = head_of(half, img);
     let level = h.height - 1;
     let edge = joins_edge(half, img, kind, level, h.root, t);
-    heal_page(half, img, kind, edge, level, h.root, END, t);
+    let by = HealAt { kind, t, edge };
+    heal_page(half, img, by, level, h.root, END);
     collapse_if_single(half, img, kind);
 }

@@ -1,7 +1,7 @@
 // "Heal at t: only if t starts a leaf entry that isn't first in its page, with the same pair as the one before; it goes." So does the one
 // that is first, if an edge joins there.
 ghost use Rattle.std.specs.Prelude.{◌≡◌, ℕ};
-ghost use Rattle.rule.specs.Pairs.{combine, same_pair};
+ghost use Rattle.rule.specs.Pairs.{combine};
 ghost use Rattle.steps.specs.Supply.{entries};
 ghost use Rattle.steps.specs.Heal.{heals, heal_page};
 ghost use Rattle.store.specs.Encoding.{Encodes, Pre, Post, PreLevel, PostLevel};
@@ -9,18 +9,8 @@ ghost use Rattle.store.specs.Preconditions.{Searchable};
 ghost use Rattle.heal.specs.Healable.{EntryRead};
 
 use page::Entry;
-use rule::combine::same_pair;
 use store::edits::remove_entry;
 use store::entries::{entry_of, find_entry};
-
-// Whether two entries have the same pair.
-fn alike(e: Entry, before: Entry) -> bool
-    ensures { result ≡ same_pair e.pair before.pair }
-{
-    let p = e.pair;
-    let q = before.pair;
-    same_pair(p, q)
-}
 
 // Whether the i-th entry of page p goes, which was read as e.
 fn heals(half: usize, img: &[u8], p: u32, i: usize, e: Entry, t: u32) -> bool
@@ -31,7 +21,7 @@ fn heals(half: usize, img: &[u8], p: u32, i: usize, e: Entry, t: u32) -> bool
         return false;
     }
     let before = entry_of(half, img, p, i - 1);
-    (e.start == t) & alike(e, before)
+    e.start == t && e.pair == before.pair
 }
 
 // The leaf p, which ends at hi. Nothing is written where no entry goes. The kind's rule has no part in it.
@@ -42,7 +32,7 @@ pub(crate) fn heal_leaf(half: usize, img: &mut [u8], edge: bool, p: u32, hi: u32
 {
     let found = find_entry(half, img, p, hi, t);
     let i = found.index;
-    if edge | heals(half, img, p, i, found.entry, t) {
+    if edge || heals(half, img, p, i, found.entry, t) {
         remove_entry(half, img, p, i);
     }
 }

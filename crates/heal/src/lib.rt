@@ -9,3 +9,11 @@ pub mod collapse;
 pub mod edges;
 pub mod heal;
 pub mod leaf;
+
+// What a heal goes by: the kind, whose rule combines pairs, the instant, and whether an edge joins there.
+#[derive(Clone, Copy)]
+pub(crate) struct HealAt {
+    kind: u32,
+    t: u32,
+    edge: bool,
+}

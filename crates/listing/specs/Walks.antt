@@ -1,6 +1,6 @@
 -- What the walk of a span listing does, as the code has it: over the definitions of `image`, with the pairs of the entries above
 -- combined into each run, from the open run on. Assumes nothing.
-use Rattle.std.specs.Prelude.{◌≡◌, ℕ, ◌+◌, ◌*◌, ◌≤◌, max, Bool, true, cond, List, [], ◌∷◌, length, eqb}
+use Rattle.std.specs.Prelude.{◌≡◌, ℕ, ◌+◌, ◌*◌, ◌≤◌, max, Option, Some, None, Bool, true, cond, List, [], ◌∷◌, length, eqb}
 use Rattle.rule.specs.declared.Pair.{Pair}
 use Rattle.rule.specs.Pairs.{none, combine}
 use Rattle.rule.specs.Time.{overlaps}
@@ -14,25 +14,19 @@ use Rattle.runs.specs.declared.Run.{Run}
 use Rattle.runs.specs.Open.{stepped_all, output_after_all}
 use Rattle.listing.specs.declared.SpanQuery.{SpanQuery}
 use Rattle.listing.specs.declared.Cursor.{Cursor}
-use Rattle.listing.specs.declared.PageCheck.{PageCheck}
-use Rattle.listing.specs.declared.PageCheck.TheVariants as opened
-use Rattle.listing.specs.declared.WalkAnswer.{WalkAnswer}
-use Rattle.listing.specs.declared.WalkAnswer.TheVariants as walked
-use Rattle.listing.specs.declared.RunCount.{RunCount}
-use Rattle.listing.specs.declared.RunCount.TheVariants as counted
 
 -- ---- the answers
 
 -- the open run after a walk, if every page that it met is fit
-unfoldable pub answer : Run → image.Walked → WalkAnswer
-answer run w = cond w.fit (walked.Fit (stepped_all run w.runs)) walked.Unfit
+unfoldable pub answer : Run → image.Walked → Option Run
+answer run w = cond w.fit (Some (stepped_all run w.runs)) None
 
 -- the output after a walk that writes, or only counts
 unfoldable pub output : Bool → Run → image.Walked → List ℕ → List ℕ
 output writing run w out = cond writing (output_after_all run w.runs out) out
 
 -- What a walk w does from the open run on: its answer, and what it leaves of the output.
-pub record Does (writing : Bool) (run : Run) (w : image.Walked) (out : List ℕ) (r : WalkAnswer) (left : List ℕ) : Type 0 where
+pub record Does (writing : Bool) (run : Run) (w : image.Walked) (out : List ℕ) (r : Option Run) (left : List ℕ) : Type 0 where
   pub answers : r ≡ answer run w
   pub writes : left ≡ output writing run w out
 
@@ -45,8 +39,8 @@ pub record Room (known writing : Bool) (run : Run) (w : image.Walked) (out : Lis
   pub room : writing ≡ true → 16 * (stepped_all run w.runs).written ≤ length out
 
 -- the number of runs
-unfoldable pub count : image.Walked → RunCount
-count w = cond w.fit (counted.Runs (length (join w.runs))) counted.Unfit
+unfoldable pub count : image.Walked → Option ℕ
+count w = cond w.fit (Some (length (join w.runs))) None
 
 -- ---- a page
 
@@ -60,10 +54,10 @@ page_walk img q on =
     (walk q.half q.head img q.a q.b on.at.level on.at on.page)
 
 -- its count of entries, if it is fit
-unfoldable pub page_check : List ℕ → SpanQuery → Cursor → PageCheck
+unfoldable pub page_check : List ℕ → SpanQuery → Cursor → Option ℕ
 page_check img q on =
     let s = bytes_at q.half img on in
-    cond (page_fit q.half q.head on.at s) (opened.Entries (entry_count s)) opened.Unfit
+    cond (page_fit q.half q.head on.at s) (Some (entry_count s)) None
 
 -- ---- an entry
 

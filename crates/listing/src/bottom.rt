@@ -1,32 +1,34 @@
 // The bottom of the tree: the leaves below one page, in a loop outside the recursion. No call is made for a leaf, so that the open run
 // is handed on in registers: that takes a seventh off the time of a listing. A root that is a leaf is its own one leaf, so that leaves
 // are walked in one place.
-ghost use Rattle.std.specs.Prelude.{◌≡◌, ◌≤◌, ◌<◌};
+ghost use Rattle.std.specs.Prelude.{Some, ◌≡◌, ◌≤◌, ◌<◌};
 ghost use Rattle.listing.specs.Cursors.{ValidCursor, ValidEntry};
 ghost use Rattle.listing.specs.Met.{LeafRange};
 ghost use Rattle.listing.specs.Walks.{page_walk, page_check, leaf_cursor, Room, Does};
-ghost use Rattle.listing.specs.declared.PageCheck.TheVariants.{Entries};
 
 use crate::entries::cursor_below;
 use crate::leaves::leaf_page;
 use crate::met::entries_met;
 use crate::pages::check_page;
-use crate::{Cursor, EntryRange, PageCheck, SpanQuery, WalkAnswer};
+use crate::pass::Pass;
+use crate::{Cursor, SpanQuery};
 use runs::Run;
+use std::ops::Range;
 
 // Which leaves of a page the span overlaps.
-fn leaf_range(img: &[u8], q: SpanQuery, on: Cursor, n: usize) -> EntryRange
+fn leaf_range(img: &[u8], q: SpanQuery, on: Cursor, n: usize) -> Range<usize>
     requires valid_cursor { ValidCursor img.now q on }
-    requires n_value { Entries n ≡ page_check img.now q on }
+    requires fit_page { Some n ≡ page_check img.now q on }
     ensures { LeafRange img.now q on n result }
 {
     if on.at.level == 0 {
-        return EntryRange { from: 0, to: 1 };
+        return 0..1;
     }
     entries_met(img, q, on, n)
 }
 
 // The leaf below the i-th entry.
+#[tactic(auto, unfolding(crate::specs::Walks::leaf_cursor))]
 fn leaf_cursor(img: &[u8], q: SpanQuery, on: Cursor, i: usize) -> Cursor
     requires valid_cursor { ValidCursor img.now q on }
     requires valid_entry { 1 ≤ on.at.level → ValidEntry img.now q on i }
@@ -39,30 +41,25 @@ fn leaf_cursor(img: &[u8], q: SpanQuery, on: Cursor, i: usize) -> Cursor
 }
 
 // From a fit page of n entries above leaves on, or from a fit leaf.
-pub(crate) fn walk_leaves(
+pub(crate) fn walk_leaves<P: Pass>(
     img: &[u8],
     out: &mut [u8],
     q: SpanQuery,
     on: Cursor,
     n: usize,
     run: Run,
-) -> WalkAnswer
+) -> Option<Run>
     requires valid_cursor { ValidCursor img.now q on }
-    requires n_value { Entries n ≡ page_check img.now q on }
-    requires level_bound { on.at.level < 2 }
-    requires room { Room q.known q.writing run (page_walk img.now q on) out.old }
-    ensures { Does q.writing run (page_walk img.now q on) out.old result out.new }
+    requires fit_page { Some n ≡ page_check img.now q on }
+    requires low { on.at.level < 2 }
+    requires room { Room q.known P.writes run (page_walk img.now q on) out.old }
+    ensures { Does P.writes run (page_walk img.now q on) out.old result out.new }
 {
-    let met = leaf_range(img, q, on, n);
     let mut last = run;
-    let mut i = met.from;
-    while i < met.to {
+    for i in leaf_range(img, q, on, n) {
         let leaf = leaf_cursor(img, q, on, i);
-        let PageCheck::Entries(m) = check_page(img, q, leaf) else {
-            return WalkAnswer::Unfit;
-        };
-        last = leaf_page(img, out, q, leaf, m, last);
-        i += 1;
+        let m = check_page(img, q, leaf)?;
+        last = leaf_page::<P>(img, out, q, leaf, m, last);
     }
-    WalkAnswer::Fit(last)
+    Some(last)
 }

@@ -11,20 +11,13 @@ use page::at::{child_at, pair_at, start_at};
 use rule::Pair;
 use rule::combine::combine;
 
-// The later of two instants.
-fn later(a: u32, b: u32) -> u32
-    ensures { result ≡ max a b }
-{
-    if a < b { b } else { a }
-}
-
 // Where the run of a leaf's i-th entry starts: the first run starts at a.
 pub(crate) fn run_start(img: &[u8], q: SpanQuery, on: Cursor, i: usize) -> u32
     requires valid_cursor { ValidCursor img.now q on }
     requires valid_entry { ValidEntry img.now q on i }
     ensures { result ≡ max q.a (start_at (bytes_at q.half img.now on) i) }
 {
-    later(q.a, start_at(page_at(q.half, img, on.page), i))
+    q.a.max(start_at(page_at(q.half, img, on.page), i))
 }
 
 // The i-th entry's pair, combined with those above it.
@@ -33,10 +26,9 @@ pub(crate) fn total_at(img: &[u8], q: SpanQuery, on: Cursor, i: usize) -> Pair
     requires valid_entry { ValidEntry img.now q on i }
     ensures { result ≡ (cursor_below q (bytes_at q.half img.now on) on i).above }
 {
-    let above = on.above;
     combine(
         q.head.kind,
-        above,
+        on.above,
         pair_at(q.half, page_at(q.half, img, on.page), i),
     )
 }
@@ -45,13 +37,12 @@ pub(crate) fn total_at(img: &[u8], q: SpanQuery, on: Cursor, i: usize) -> Pair
 pub(crate) fn cursor_below(img: &[u8], q: SpanQuery, on: Cursor, i: usize) -> Cursor
     requires valid_cursor { ValidCursor img.now q on }
     requires valid_entry { ValidEntry img.now q on i }
-    requires le_level { 1 ≤ on.at.level }
+    requires inner { 1 ≤ on.at.level }
     ensures { result ≡ cursor_below q (bytes_at q.half img.now on) on i }
 {
     let s = page_at(q.half, img, on.page);
-    let at = on.at;
     Cursor {
-        at: context_below(q.half, s, at, i),
+        at: context_below(q.half, s, on.at, i),
         page: child_at(q.half, s, i),
         above: total_at(img, q, on, i),
     }

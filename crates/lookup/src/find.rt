@@ -16,9 +16,7 @@ fn find_index(s: &[u8], n: usize, t: u32) -> usize
         return n - 1;
     }
     let mut later: u32 = 0;
-    let mut i = n;
-    while 0 < i {
-        i -= 1;
+    for i in (0..n).rev() {
         if t < start_at(s, i) {
             later += 1;
         }

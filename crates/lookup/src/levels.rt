@@ -14,7 +14,7 @@ use page::{Head, PageContext};
 
 // The answer of a page in its context: the page may be worn, so nothing in it is used before it is found fit.
 fn page_answer(half: usize, s: &[u8], h: Head, at: PageContext, t: u32) -> LevelAnswer
-    requires le_half { (1 ≤ half) × (length s.now ≡ page_size half) }
+    requires page { (1 ≤ half) × (length s.now ≡ page_size half) }
     requires on_path { OnPath at t }
     ensures { result ≡ level_answer half h at t s.now }
 {
@@ -34,7 +34,7 @@ pub(crate) fn level_answer(
     at: PageContext,
     t: u32,
 ) -> LevelAnswer
-    requires le_half { (1 ≤ half) × PageIn half img.now p }
+    requires inside { (1 ≤ half) × PageIn half img.now p }
     requires on_path { OnPath at t }
     ensures { result ≡ level_answer half h at t (page_at half img.now p) }
 {

@@ -17,7 +17,8 @@ pub struct FoundAt {
     pub end: u32,
 }
 
-// A level's answer: the entry that has the instant, and its end; or a page that is unfit.
+// A level's answer: the entry that has the instant, and its end; or a page that is unfit. Document 01 names this form, an enum that is
+// taken apart by `let .. else`, so it is no Option of a pair.
 #[derive(Clone, Copy)]
 pub enum LevelAnswer {
     Entry(Entry, u32),
@@ -32,9 +33,9 @@ pub struct Holding {
     pub end: u32,
 }
 
-// What a lookup finds: the pair and how long it holds, or that a page is unfit; and how many tree pages were read.
+// What a lookup finds: the pair and how long it holds, or nothing where a page is unfit; and how many tree pages were read.
 #[derive(Clone, Copy)]
-pub enum LookupAnswer {
-    Answered(Holding, u32),
-    Unfit(u32),
+pub struct LookupAnswer {
+    pub found: Option<Holding>,
+    pub pages: u32,
 }

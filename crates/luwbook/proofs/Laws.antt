@@ -1,13 +1,11 @@
 -- Laws of where the program stands and of what it prints. Assumes nothing.
 use Prim.Native.Nat.{ℕ, zero, suc, ◌≤◌, ◌<◌, ◌^◌}
-use mathlib.Core.Path.{◌≡◌, refl, sym, ap, ◌∙◌, subst, subst⁻¹}
-use mathlib.Core.Bool.{Bool, true, false, not, ◌||◌, true≢false, false≢true}
+use mathlib.Core.Path.{◌≡◌, refl, sym, ap, ◌∙◌, subst⁻¹}
+use mathlib.Core.Bool.{Bool, true, false, false≢true}
 use mathlib.Core.List.{List, []}
 use native.Mathlib.Omega.{arith}
 use lib.ListN.{length, take}
-use lib.IntN.{ℤ, pos, negsuc, nat_abs}
-use lib.Signed.{lt_z}
-use borrow.Author.Tests.{ltb-true, not-true}
+use Rattle.std.specs.Prelude.{Result, Ok, Err, IfOk, OnOk, is_ok}
 use Rattle.fields.specs.Bytes.{part}
 use Rattle.fields.proofs.Laws.Parts.{part_patch_same}
 use Rattle.rule.specs.Time.{END}
@@ -17,8 +15,8 @@ use Rattle.print.proofs.Laws.Puts.{put_length}
 use Rattle.program.specs.declared.Reading.{Reading}
 use Rattle.program.specs.State.{ProgramState, at_first, unwritten, after_bytes, ended, listed_text}
 use Rattle.program.specs.Simulation.{Simulates, SimulatesStep, Begins, Flushes}
-use Rattle.luwbook.specs.declared.Progress.{Progress}
-use Rattle.luwbook.specs.Reached.{Reached, first, next, Printed, by_runs, Stands, Standing, Ran, Moved, Takes, Well}
+use Rattle.luwbook.specs.declared.Failed.{Failed}
+use Rattle.luwbook.specs.Reached.{Reached, first, next, Printed, by_runs, Stands, Standing, Ran, Takes, Well}
 
 -- before the first byte
 pub begun : {r : Reading} {img : List ℕ} → Begins r → img ≡ (at_first 12 64).image → Standing r img
@@ -63,67 +61,51 @@ module _ {step : ProgramState → ProgramState} {r f q : Reading} {img out after
 -- ---- a piece
 
 -- a piece was run, and its writing went well or not: well, where there was nothing to write
-pub ran_written : {piece : List ℕ} {r q : Reading} {img after : List ℕ} (w : Bool)
+pub ran_written : {piece : List ℕ} {r q : Reading} {img after : List ℕ} {well : Bool}
     → ((g : ProgramState) → Stands g r img → Stands (after_bytes 12 64 piece (unwritten g)) q after)
-    → ((g : ProgramState) → Stands g r img → (after_bytes 12 64 piece (unwritten g)).written ≡ [] → w ≡ true)
-    → Ran piece r img (record { reading = q; more = w; failed = not w }) after
-ran_written true f n = record { either = refl; runs = λ e. f; silent = λ l. n }
-ran_written false f n = record { either = refl; runs = λ e. f; silent = λ l. n }
+    → ((g : ProgramState) → Stands g r img → (after_bytes 12 64 piece (unwritten g)).written ≡ [] → well ≡ true)
+    → Ran piece r img well q after
+ran_written f n = record { runs = λ e. f; silent = λ l. n }
 
 -- the program has stopped, at a line whose number does not fit
-module _ {piece : List ℕ} {r : Reading} {img after : List ℕ} {p : Progress} where
-  pub ran_failed : (r.number < 2 ^ 63 → ⊥) → p ≡ record { reading = r; more = false; failed = true } → Ran piece r img p after
-  ran_failed far e = record {
-    either = ap (λ (x : Progress). x.more) e ∙ sym (ap (λ (x : Progress). not x.failed) e);
-    runs = λ m. absurd (false≢true (sym (ap (λ (x : Progress). x.more) e) ∙ m));
-    silent = λ l. absurd (far l);
-  }
+pub ran_failed : {piece : List ℕ} {r q : Reading} {img after : List ℕ} → (r.number < 2 ^ 63 → ⊥) → Ran piece r img false q after
+ran_failed far = record { runs = λ m. absurd (false≢true m); silent = λ l. absurd (far l) }
 
 -- ---- what a read's answer means
 
-module _ (bytes : List ℕ) (r : Reading) (img : List ℕ) {p : Progress} where
-  pub takes_failed : (z : ℤ) → lt_z z (pos 0) ≡ true → p ≡ record { reading = r; more = false; failed = true } → Takes z bytes r img p img
-  unfolding Takes
-  takes_failed (pos k) l e = absurd (omega (arith, ltb-true k 0 l))
-  takes_failed (negsuc k) l e = (e, refl)
+pub on_ok : {A E : Type 0} (P : Type 0) (r : Result A E) → (is_ok r ≡ true → P) → OnOk r P
+on_ok P (Ok x) f = f refl
+on_ok P (Err e) f = tt
 
-  pub takes_ended : (z : ℤ) → z ≡ pos 0 → p ≡ record { reading = r; more = false; failed = false } → Takes z bytes r img p img
+module _ {E : Type 0} {got : Result ℕ E} (bytes : List ℕ) (r : Reading) (img : List ℕ) (went : Result ℕ Failed) where
+  pub takes_failed : {e : E} → got ≡ Err e → is_ok went ≡ false → Takes got bytes r img went r img
   unfolding Takes
-  takes_ended z l e = subst⁻¹ (λ y. Takes y bytes r img p img) l (e, refl)
+  takes_failed f g = subst⁻¹ (λ x. Takes x bytes r img went r img) f (g, refl, refl)
 
-  pub takes_more : (after : List ℕ) (z : ℤ) → lt_z z (pos 0) ≡ false → (z ≡ pos 0 → ⊥) → Ran (take (nat_abs z) bytes) r img p after
-      → Takes z bytes r img p after
+  pub takes_ended : {n : ℕ} → got ≡ Ok n → n ≤ 0 → went ≡ Ok n → Takes got bytes r img went r img
   unfolding Takes
-  takes_more after (negsuc k) l some ran = absurd (true≢false l)
-  takes_more after (pos zero) l some ran = absurd (some refl)
-  takes_more after (pos (suc k)) l some ran = ran
+  takes_ended {n} f l g =
+      let z : n ≡ 0 = omega arith in
+      subst⁻¹ (λ x. Takes x bytes r img went r img) (f ∙ ap Ok z) (g ∙ ap Ok z, refl, refl)
 
-  -- whatever it is, the program is where it can be
-  pub takes_well : (after : List ℕ) (z : ℤ) → Takes z bytes r img p after → Standing r img → Well p after
+  pub takes_more : {q : Reading} {after : List ℕ} {well : Bool} (n : ℕ) → got ≡ Ok n → 0 < n → IfOk went (λ m. m ≡ n)
+      → is_ok went ≡ well → Ran (take n bytes) r img well q after → Takes got bytes r img went q after
   unfolding Takes
-  takes_well after (negsuc k) t s = record {
-    sure = λ m. absurd (false≢true (sym (ap (λ (x : Progress). x.more) t.0) ∙ m));
-    standing = λ f. absurd (true≢false (sym (ap (λ (x : Progress). x.failed) t.0) ∙ f));
-  }
-  takes_well after (pos zero) t s = record {
-    sure = λ m. absurd (false≢true (sym (ap (λ (x : Progress). x.more) t.0) ∙ m));
-    standing = λ f. subst⁻¹ (λ x. Standing x after) (ap (λ (x : Progress). x.reading) t.0) (subst⁻¹ (Standing r) t.1 s);
-  }
-  takes_well after (pos (suc k)) t s = record {
-    sure = λ m. not-true p.failed (sym t.either ∙ m);
-    standing = λ f. record {
+  takes_more zero f l g e h = absurd (omega arith)
+  takes_more {q} {after} (suc k) f l g e h =
+      subst⁻¹ (λ x. Takes x bytes r img went q after) f
+      (g, subst⁻¹ (λ b. Ran (take (suc k) bytes) r img b q after) e h)
+
+-- whatever it is, the program is where it can be, unless something failed
+pub takes_well : {E : Type 0} (got : Result ℕ E) (bytes : List ℕ) {r : Reading} (q : Reading) {img : List ℕ} (after : List ℕ)
+    (went : Result ℕ Failed) → Takes got bytes r img went q after → Standing r img → Well went q after
+unfolding Takes
+takes_well (Err e) bytes q after went t s = on_ok (Standing q after) went (λ m. absurd (false≢true (sym t.0 ∙ m)))
+takes_well (Ok zero) bytes {r} q {img} after went t s =
+    on_ok (Standing q after) went (λ m. subst⁻¹ (λ x. Standing x after) t.1 (subst⁻¹ (Standing r) t.2 s))
+takes_well (Ok (suc k)) bytes q after went t s =
+    on_ok (Standing q after) went (λ m. record {
       going = after_bytes 12 64 (take (suc k) bytes) (unwritten s.going);
       reached = next s.reached (take (suc k) bytes);
-      stands = t.runs (t.either ∙ ap not f) s.going s.stands;
-    };
-  }
-
--- ---- all of the text
-
-pub well_first : {r : Reading} {img : List ℕ} → Standing r img → Well (record { reading = r; more = true; failed = false }) img
-well_first s = record { sure = λ m. refl; standing = λ f. s }
-
--- where neither has failed nor is more
-pub or_false : (a b : Bool) → a || b ≡ false → (a ≡ false) × (b ≡ false)
-or_false true b e = absurd (true≢false e)
-or_false false b e = (refl, e)
+      stands = t.1.runs m s.going s.stands;
+    })

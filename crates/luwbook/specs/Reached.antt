@@ -1,12 +1,12 @@
 -- Where the program can be, and what it may write. What comes is the input's choice: said here is what every choice has in common. That
 -- what is written in turn for the pieces of a text is document 01's output for it is `program_output` `pieces_program`. Assumes nothing.
-use Rattle.std.specs.Prelude.{ℕ, zero, suc, ◌<◌, ◌≤◌, ◌^◌, ◌≡◌, true, false, not, List, [], length, take, ℤ, pos, negsuc}
+use Rattle.std.specs.Prelude.{ℕ, zero, suc, ◌<◌, ◌≤◌, ◌^◌, ◌≡◌, Bool, true, false, List, [], length, take, Result, Ok, Err, IfOk, OnOk, is_ok}
 use Rattle.rule.specs.Time.{END}
 use Rattle.calls.specs.Calls.{listing}
 use Rattle.program.specs.declared.Reading.{Reading}
 use Rattle.program.specs.State.{ProgramState, at_first, unwritten, after_bytes, ended, listed_text}
 use Rattle.program.specs.Simulation.{Simulates}
-use Rattle.luwbook.specs.declared.Progress.{Progress}
+use Rattle.luwbook.specs.declared.Failed.{Failed}
 
 -- Before the first byte, and behind every piece that came, whatever it was. What is printed goes out before the next one is run.
 pub data Reached : ProgramState → Type 0 where
@@ -37,27 +37,23 @@ pub record Standing (r : Reading) (img : List ℕ) : Type 0 where
 
 -- A piece was run; or the program has ended for a failure, which it may claim only where something was to be written or the line's number
 -- doesn't fit.
-pub record Ran (piece : List ℕ) (r : Reading) (img : List ℕ) (p : Progress) (after : List ℕ) : Type 0 where
-  pub either : p.more ≡ not p.failed
-  pub runs : p.more ≡ true → (g : ProgramState) → Stands g r img → Stands (after_bytes 12 64 piece (unwritten g)) p.reading after
-  pub silent :
-      r.number < 2 ^ 63 → (g : ProgramState) → Stands g r img → (after_bytes 12 64 piece (unwritten g)).written ≡ [] → p.more ≡ true
+pub record Ran (piece : List ℕ) (r : Reading) (img : List ℕ) (well : Bool) (q : Reading) (after : List ℕ) : Type 0 where
+  pub runs : well ≡ true → (g : ProgramState) → Stands g r img → Stands (after_bytes 12 64 piece (unwritten g)) q after
+  pub silent : r.number < 2 ^ 63 → (g : ProgramState) → Stands g r img → (after_bytes 12 64 piece (unwritten g)).written ≡ [] → well ≡ true
 
--- What a read that is handed n bytes may answer: −1, or how many bytes came, at most n.
-abbrev pub Moved : ℕ → ℤ → Type 0
-Moved n (pos k) = k ≤ n
-Moved n (negsuc k) = k ≡ 0
+-- What a read that is handed n bytes may answer: a failure, or how many bytes came, at most n.
+abbrev pub Moved : {E : Type 0} → ℕ → Result ℕ E → Type 0
+Moved n got = IfOk got (λ k. k ≤ n)
 
--- What a read's answer means: −1 a failure, 0 the end of the text, any other number so many bytes of it.
-unfoldable pub Takes : ℤ → List ℕ → Reading → List ℕ → Progress → List ℕ → Type 0
-Takes (negsuc k) bytes r img p after = (p ≡ record { reading = r; more = false; failed = true }) × (after ≡ img)
-Takes (pos zero) bytes r img p after = (p ≡ record { reading = r; more = false; failed = false }) × (after ≡ img)
-Takes (pos (suc k)) bytes r img p after = Ran (take (suc k) bytes) r img p after
+-- What a read's answer means: a failure, or how many bytes came, 0 at the end of the text. These are run.
+unfoldable pub Takes : {E : Type 0} → Result ℕ E → List ℕ → Reading → List ℕ → Result ℕ Failed → Reading → List ℕ → Type 0
+Takes (Err e) bytes r img went q after = (is_ok went ≡ false) × (q ≡ r) × (after ≡ img)
+Takes (Ok zero) bytes r img went q after = (went ≡ Ok 0) × (q ≡ r) × (after ≡ img)
+Takes (Ok (suc k)) bytes r img went q after = IfOk went (λ n. n ≡ suc k) × Ran (take (suc k) bytes) r img (is_ok went) q after
 
--- In the middle of the text or at its end: after a failure there is no more, and without one the program is where it can be.
-pub record Well (p : Progress) (img : List ℕ) : Type 0 where
-  pub sure : p.more ≡ true → p.failed ≡ false
-  pub standing : p.failed ≡ false → Standing p.reading img
+-- Unless something failed, the program is where it can be.
+abbrev pub Well : {A : Type 0} → Result A Failed → Reading → List ℕ → Type 0
+Well went q img = OnOk went (Standing q img)
 
 -- The last line was run, if its newline is missing.
 abbrev pub Ends : Reading → List ℕ → List ℕ → Type 0

@@ -2,11 +2,11 @@
 // What each byte does and what is printed is proved in `program`; here it is read and written, in pieces.
 #![tactic(auto)]
 
-ghost use Rattle.std.specs.Prelude.{IfOk, ◌≤◌, ◌≡◌, true, false, length, take};
+ghost use Rattle.std.specs.Prelude.{IfOk, IsOk, OnOk, is_ok, ◌≤◌, ◌≡◌, length, take};
 ghost use Rattle.luwbook.specs.Reached.{Moved, Printed, Standing, Ran, Takes, Well, Ends};
 
 use program::ending::put_listing;
-use program::pieces::{at_first, begin, flushed, run_last, run_piece};
+use program::pieces::{at_first, begin};
 use program::{ENDING_BYTES, IMAGE_BYTES, LIST_BYTES, REFUSED_LINE, Reading};
 use std::io;
 use std::io::{Print, Read};
@@ -17,23 +17,9 @@ const PIECE_BYTES: usize = 4096;
 // The last line's number that fits: 2^63 − 1, which no text comes to.
 const LAST_LINE: u64 = 9223372036854775807;
 
-// Where the program is, whether there is more to read, and whether a read or a write has failed.
-#[derive(Drop)]
-struct Progress {
-    reading: Reading,
-    more: bool,
-    failed: bool,
-}
-
-fn stopped(r: Reading, failed: bool) -> Progress
-    ensures { result ≡ record { reading = r; more = false; failed = failed } }
-{
-    Progress {
-        reading: r,
-        more: false,
-        failed: failed,
-    }
-}
+// A read or a write has failed, and that was told; or a line's number doesn't fit.
+#[derive(Clone, Copy)]
+struct Failed;
 
 // A line on standard error. Nothing is left to be told where that fails, too.
 fn say(rt: &HostRuntime, line: &str) {
@@ -41,26 +27,27 @@ fn say(rt: &HostRuntime, line: &str) {
 }
 
 // A write's answer, as it is: a failure is told on standard error.
-fn told(rt: &HostRuntime, written: bool) -> bool
-    ensures { result ≡ written }
+fn told(rt: &HostRuntime, written: io::Result<()>) -> Result<(), Failed>
+    ensures { is_ok result ≡ is_ok written }
 {
-    if !written {
+    if written.is_err() {
         say(rt, "luwbook: cannot write");
+        return Err(Failed);
     }
-    written
+    Ok(())
 }
 
 // Writes the first n bytes, in as many turns as it takes, and answers whether that went well.
 // No contract can say what reaches standard output: this one says what may be handed to it.
-fn write_first(rt: &HostRuntime, out: &[u8], n: usize) -> bool
+fn write_first(rt: &HostRuntime, out: &[u8], n: usize) -> Result<(), Failed>
     requires n_in_bounds { n ≤ length out.now }
     requires printed { Printed (take n out.now) }
-    ensures { n ≡ 0 → result ≡ true }
+    ensures { n ≡ 0 → IsOk result }
 {
     if n == 0 {
-        return true;
+        return Ok(());
     }
-    told(rt, rt.write_all(&out[..n]).is_ok())
+    told(rt, rt.write_all(&out[..n]))
 }
 
 // Room for what a piece prints, for the runs of a listing and for their text. Each is made by itself: a proof of the functions below then
@@ -80,113 +67,95 @@ fn listing_room() -> [u8; ENDING_BYTES] {
 }
 
 // Runs what was read, and writes what that prints: at most 55 bytes for each. A line's number has to fit.
-fn run_some(rt: &HostRuntime, img: &mut [u8], r: Reading, piece: &[u8]) -> Progress
+fn run_some(rt: &HostRuntime, img: &mut [u8], r: &mut Reading, piece: &[u8]) -> Result<(), Failed>
     requires piece_len_bound { length piece.now ≤ 4096 }
-    requires standing { Standing r img.old }
-    ensures { Ran piece.now r img.old result img.new }
+    requires standing { Standing r.old img.old }
+    ensures { Ran piece.now r.old img.old (is_ok result) r.new img.new }
 {
     if r.number > LAST_LINE {
-        return stopped(r, true);
+        return Err(Failed);
     }
     let mut out = piece_room();
-    let q = run_piece(img, &mut out, flushed(r), piece);
-    let at = q.at;
-    let written = write_first(rt, &out, at);
-    Progress {
-        reading: q,
-        more: written,
-        failed: !written,
-    }
+    r.flush();
+    r.run_piece(img, &mut out, piece);
+    write_first(rt, &out, r.at)
 }
 
-// What a read's answer means: a failure is told on standard error.
-fn take_in(rt: &HostRuntime, img: &mut [u8], r: Reading, bytes: &[u8], got: isize) -> Progress
+// What a read's answer means, and how many bytes came: a failure is told on standard error.
+fn take_in(
+    rt: &HostRuntime,
+    img: &mut [u8],
+    r: &mut Reading,
+    bytes: &[u8],
+    got: io::Result<usize>,
+) -> Result<usize, Failed>
     requires bytes_len_bound { length bytes.now ≤ 4096 }
     requires moved { Moved (length bytes.now) got }
-    requires standing { Standing r img.old }
-    ensures { Takes got bytes.now r img.old result img.new }
+    requires standing { Standing r.old img.old }
+    ensures { Takes got bytes.now r.old img.old result r.new img.new }
 {
-    if got < 0 {
+    let Ok(n) = got else {
         say(rt, "luwbook: cannot read");
-        return stopped(r, true);
+        return Err(Failed);
+    };
+    if n > 0 {
+        run_some(rt, img, r, &bytes[..n])?;
     }
-    if got == 0 {
-        return stopped(r, false);
-    }
-    let n = got as usize;
-    run_some(rt, img, r, &bytes[..n])
+    Ok(n)
 }
 
-// How many bytes a read brought, or −1 for a failure.
-fn amount(read: io::Result<usize>) -> isize
-    requires { IfOk read (λ n. n ≤ 4096) }
-    ensures { Moved 4096 result }
-{
-    match read {
-        Ok(n) => n as isize,
-        Err(_) => -1,
-    }
-}
-
-// Reads once, and runs what came.
-fn read_some(rt: &HostRuntime, img: &mut [u8], r: Reading) -> Progress
-    requires { Standing r img.old }
-    ensures { Well result img.new }
+// Reads once, and runs what came: so many bytes.
+fn read_some(rt: &HostRuntime, img: &mut [u8], r: &mut Reading) -> Result<usize, Failed>
+    requires { Standing r.old img.old }
+    ensures { Well result r.new img.new }
 {
     let mut bytes = [0u8; PIECE_BYTES];
-    let mut input = rt.stdin();
-    let got = amount(input.read(&mut bytes));
+    let got = rt.stdin().read(&mut bytes);
     take_in(rt, img, r, &bytes, got)
 }
 
-// Reads to the end, or to a failure. A proved loop has to end, and nothing says that the input does: so it counts its turns down, from a
-// number that no run uses up.
-fn read_all(rt: &HostRuntime, img: &mut [u8], r: Reading) -> Progress
-    requires { Standing r img.old }
-    ensures { Well result img.new }
+// Reads to the end, or to a failure. A proved loop has to end, and nothing says that the input does: so it counts its turns, up to a
+// number that no run comes to.
+fn read_all(rt: &HostRuntime, img: &mut [u8], r: &mut Reading) -> Result<(), Failed>
+    requires { Standing r.old img.old }
+    ensures { Well result r.new img.new }
 {
-    let mut p = Progress {
-        reading: r,
-        more: true,
-        failed: false,
-    };
-    let mut turns = u64::MAX;
-    while turns > 0 && p.more {
-        let q = p.reading;
-        p = read_some(rt, img, q);
-        turns -= 1;
+    for _turn in 0..u64::MAX {
+        if read_some(rt, img, r)? == 0 {
+            return Ok(());
+        }
     }
-    p
+    Err(Failed)
 }
 
 // The last line, if its newline is missing, and the runs; whether all is written. A text that could not be read to its end has no runs:
 // they would look like those of all of it.
-fn finish(rt: &HostRuntime, img: &mut [u8], p: Progress) -> bool
-    requires more_value { (p.more ≡ false) × (p.failed ≡ false) }
-    requires standing { Standing p.reading img.old }
-    ensures { result ≡ true → Ends p.reading img.old img.new }
+fn finish(rt: &HostRuntime, img: &mut [u8], r: &mut Reading) -> Result<(), Failed>
+    requires { Standing r.old img.old }
+    ensures { OnOk result (Ends r.old img.old img.new) }
 {
-    let r = p.reading;
     if r.number > LAST_LINE {
-        return false;
+        return Err(Failed);
     }
     let mut out = listing_room();
-    let q = run_last(img, &mut out, flushed(r));
-    let at = q.at;
-    if !write_first(rt, &out, at) {
-        return false;
-    }
+    r.flush();
+    r.run_last(img, &mut out);
+    write_first(rt, &out, r.at)?;
     let mut list = runs_room();
     let end = put_listing(img, &mut list, &mut out);
     write_first(rt, &out, end)
 }
 
-fn main(rt: HostRuntime) {
+// All of the text, and then the runs.
+fn run(rt: &HostRuntime) -> Result<(), Failed> {
     let mut img = [0u8; IMAGE_BYTES];
     begin(&mut img);
-    let p = read_all(&rt, &mut img, at_first());
-    if p.failed | p.more {
-        return;
-    }
-    finish(&rt, &mut img, p);
+    let mut r = at_first();
+    read_all(rt, &mut img, &mut r)?;
+    finish(rt, &mut img, &mut r)
+}
+
+// What failed was told: nothing is left to do.
+fn main(rt: HostRuntime) {
+    let _ = run(&rt);
 }

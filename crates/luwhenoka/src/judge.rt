@@ -1,23 +1,26 @@
 // What every call on an image reads first: the capacity of its pages.
-ghost use Rattle.std.specs.Prelude.{◌≡◌};
-ghost use Rattle.luwhenoka.specs.Answers.{judgement};
+ghost use Rattle.std.specs.Prelude.{◌≡◌, IfOk};
+ghost use Rattle.image.specs.Images.{half_of};
+ghost use Rattle.calls.specs.Numbers.{status_of};
+ghost use Rattle.calls.specs.Index.{judge};
 
-use crate::Judged;
-use calls::refusals::{IMAGE_LENGTH, UNSOUND};
-use fields::read::get_u32;
+use calls::refusals::Refusal;
+use fields::field::Field;
 use page::capacities::{capacity_named, capacity_ok};
 use page::layout::{HEAD_BYTES, HEAD_CAPACITY};
 
-// "In an image K is read before the length is judged: under 40 bytes gives 16, a bad K 21 ahead of 16".
-pub(crate) fn judge(img: &[u8]) -> Judged
-    ensures { result ≡ judgement img.now }
+// Half the capacity that an image names: "In an image K is read before the length is judged: under 40 bytes gives 16, a bad K 21 ahead
+// of 16".
+pub(crate) fn judge(img: &[u8]) -> Result<usize, Refusal>
+    ensures status { status_of result ≡ judge img.now }
+    ensures named { IfOk result (λ half. half ≡ half_of img.now) }
 {
     if img.len() < HEAD_BYTES {
-        return Judged::Refused(IMAGE_LENGTH);
+        return Err(Refusal::ImageLength);
     }
-    let k = capacity_named(get_u32(img, HEAD_CAPACITY));
+    let k = capacity_named(u32::read_at(img, HEAD_CAPACITY));
     if !capacity_ok(k) {
-        return Judged::Refused(UNSOUND);
+        return Err(Refusal::Unsound);
     }
-    Judged::Half((k / 2) as usize)
+    Ok((k / 2) as usize)
 }

@@ -12,16 +12,9 @@ mod judge;
 pub mod listings;
 pub mod rebuilds;
 
-// Half the capacity that an image names, or the status that turns a call back before.
-#[derive(Clone, Copy)]
-pub(crate) enum Judged {
-    Half(usize),
-    Refused(u32),
-}
-
 // The status, document 01's number, with the pair, the pages read, and the start and the end of the leaf entry that has the instant.
 #[repr(C)]
-#[derive(Clone, Copy)]
+#[derive(Clone, Copy, Default)]
 pub struct InstantAnswer {
     pub status: u32,
     pub pages: u32,
@@ -31,7 +24,7 @@ pub struct InstantAnswer {
     pub end: u32,
 }
 
-// What an average's answer is.
+// What an average's answer is: numbers and no enum, since the C interface has them.
 pub const NO_AVERAGE: u32 = 0;
 
 pub const IN_HUNDREDTHS: u32 = 1;
@@ -40,7 +33,7 @@ pub const BEYOND: u32 = 2;
 
 // The status, document 01's number; 0 for no average, 1 for one in hundredths, 2 for a sum that no fit page can show.
 #[repr(C)]
-#[derive(Clone, Copy)]
+#[derive(Clone, Copy, Default)]
 pub struct AverageAnswer {
     pub status: u32,
     pub answer: u32,

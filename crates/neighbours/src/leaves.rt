@@ -8,19 +8,17 @@ ghost use Rattle.neighbours.specs.Edges.{next_differs, leaf_edges};
 use super::Edges;
 use page::at::{entry_count, pair_at, sum_bits_at};
 use page::layout::MOST_HALF;
-use rule::combine::same_pair;
 
-// Whether the sums of k entries from the a-th on differ each from the next one's: then their pairs do.
+// Whether the sums of k entries from the a-th on differ each from the next one's: then their pairs do. Counted from 0, so that the compiler
+// knows how often where it knows k.
 fn sums_apart(half: usize, s: &[u8], a: usize, k: usize) -> bool
     requires { (length s.now ≡ page_size half) × (a + k < capacity half) }
     ensures { result ≡ true → every k (λ i. next_differs half s.now (a + i)) ≡ true }
 {
-    let mut i = 0;
-    while i < k {
+    for i in 0..k {
         if sum_bits_at(half, s, a + i) == sum_bits_at(half, s, a + i + 1) {
             return false;
         }
-        i += 1;
     }
     true
 }
@@ -31,13 +29,9 @@ fn rows_apart(half: usize, s: &[u8], n: usize) -> bool
     requires { (2 ≤ half) × (half ≤ 12) × (half ≤ n) × Compared half s.now n }
     ensures { result ≡ true → every (n - 1) (λ i. next_differs half s.now i) ≡ true }
 {
-    if !sums_apart(half, s, 0, half - 1) {
-        return false;
-    }
-    if !sums_apart(half, s, n / 2 - 1, 1) {
-        return false;
-    }
-    sums_apart(half, s, n - half, half - 1)
+    sums_apart(half, s, 0, half - 1)
+        && sums_apart(half, s, n / 2 - 1, 1)
+        && sums_apart(half, s, n - half, half - 1)
 }
 
 // Whether n entries clearly differ each from the next: a quick test, which most leaves pass, but for a root with few entries. For the
@@ -61,10 +55,8 @@ fn all_apart(half: usize, s: &[u8], n: usize) -> bool
     ensures { result ≡ every (n - 1) (λ i. next_differs half s.now i) }
 {
     let mut apart = true;
-    let mut i = 0;
-    while i < n - 1 {
-        apart = apart & !same_pair(pair_at(half, s, i), pair_at(half, s, i + 1));
-        i += 1;
+    for i in 0..n - 1 {
+        apart &= pair_at(half, s, i) != pair_at(half, s, i + 1);
     }
     apart
 }
@@ -74,10 +66,7 @@ fn leaf_apart(half: usize, s: &[u8], n: usize) -> bool
     requires { (2 ≤ half) × (half ≤ 12) × Compared half s.now n }
     ensures { result ≡ every (n - 1) (λ i. next_differs half s.now i) }
 {
-    if clearly_apart(half, s, n) {
-        return true;
-    }
-    all_apart(half, s, n)
+    clearly_apart(half, s, n) || all_apart(half, s, n)
 }
 
 // What is found of a leaf.

@@ -5,19 +5,17 @@ ghost use Rattle.neighbours.specs.Edges.{joined, under_pair};
 
 use super::Edges;
 use rule::Pair;
-use rule::combine::{combine, same_pair};
+use rule::combine::combine;
 use rule::limits::TOTALS;
 
 // Of some entries and of those behind them: where they meet, the last total of one and the first of the other are neighbours.
 pub(crate) fn joined(a: Edges, b: Edges) -> Edges
     ensures { result ≡ joined a b }
 {
-    let first = a.first;
-    let last = b.last;
     Edges {
-        apart: a.apart & (!same_pair(a.last, b.first) & b.apart),
-        first,
-        last,
+        apart: a.apart & (a.last != b.first) & b.apart,
+        first: a.first,
+        last: b.last,
     }
 }
 
@@ -27,8 +25,8 @@ pub(crate) fn under_pair(pair: Pair, e: Edges) -> Edges
     ensures { result ≡ under_pair pair e }
 {
     Edges {
-        apart: e.apart,
         first: combine(TOTALS, pair, e.first),
         last: combine(TOTALS, pair, e.last),
+        ..e
     }
 }

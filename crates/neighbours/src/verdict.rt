@@ -13,13 +13,12 @@ use rule::limits::TOTALS;
 
 // "no two neighbouring leaf entries have equal totals": of an image that the audit has found sound but for this, and of kind 1.
 pub fn neighbours_apart(half: usize, img: &[u8]) -> bool
-    requires le_half { (2 ≤ half) × (half ≤ 12) × (sound_before half img.now ≡ true) }
-    requires img_value { (head_of (page_at half img.now 0)).kind ≡ 1 }
+    requires sound_before { (2 ≤ half) × (half ≤ 12) × (sound_before half img.now ≡ true) }
+    requires totals { (head_of (page_at half img.now 0)).kind ≡ 1 }
     ensures { result ≡ neighbours_apart half img.now }
 {
     let h = read_head(page_at(half, img, 0));
-    let found = page_edges(half, img, h.height - 1, h.root);
-    found.apart
+    page_edges(half, img, h.height - 1, h.root).apart
 }
 
 // "a kind 1 image is sound only if no two neighbouring leaf entries have equal totals". Every call has tested the length (16) before this.
@@ -31,8 +30,5 @@ pub fn sound(half: usize, img: &[u8]) -> bool
         return false;
     }
     let h = read_head(page_at(half, img, 0));
-    if h.kind != TOTALS {
-        return true;
-    }
-    neighbours_apart(half, img)
+    h.kind != TOTALS || neighbours_apart(half, img)
 }

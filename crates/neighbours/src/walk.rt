@@ -28,15 +28,14 @@ fn leaves_edges(half: usize, img: &[u8], p: u32) -> Edges
 {
     let n = entry_count(page_at(half, img, p)) as usize;
     let mut found = leaf_below(half, img, p, 0);
-    let mut i = 1;
-    while i < n {
+    for i in 1..n {
         found = joined(found, leaf_below(half, img, p, i));
-        i += 1;
     }
     found
 }
 
-// The same from a page of any level.
+// The same from a page of any level. The loop stands twice: as one function of a closure it would be no plainer, since this closure would
+// stand in the cycle of calls and had to have entry_edges's clauses once more, longer than the loop.
 #[cycle(entry_edges_page_edges)]
 pub(crate) fn page_edges(half: usize, img: &[u8], level: u32, p: u32) -> Edges
     requires { Standing half img.now level p }
@@ -50,10 +49,8 @@ pub(crate) fn page_edges(half: usize, img: &[u8], level: u32, p: u32) -> Edges
     }
     let n = entry_count(page_at(half, img, p)) as usize;
     let mut found = entry_edges(half, img, level, p, 0);
-    let mut i = 1;
-    while i < n {
+    for i in 1..n {
         found = joined(found, entry_edges(half, img, level, p, i));
-        i += 1;
     }
     found
 }

@@ -1,6 +1,6 @@
 -- Document 01, "The page": where the numbers of a page stand, over half the capacity of a page; and which capacities there are: document 02,
 -- (xi). Assumes nothing.
-use Rattle.std.specs.Prelude.{ℕ, ◌+◌, ◌*◌, ◌-◌, ◌/◌, ◌%◌, min, Bool, cond, ◌&&◌, List, [], ◌∷◌, ◌++◌, length, eqb, leb}
+use Rattle.std.specs.Prelude.{ℕ, ◌≡◌, ◌<◌, ◌+◌, ◌*◌, ◌-◌, ◌/◌, ◌%◌, min, Bool, cond, ◌&&◌, List, [], ◌∷◌, ◌++◌, length, eqb, leb}
 use Rattle.lists.specs.Lists.{listed, concat_map}
 use Rattle.rule.specs.declared.Pair.{Pair}
 use Rattle.fields.specs.Bytes.{part, patch, unused, all_are}
@@ -39,6 +39,10 @@ entry_offset half i = 32 + 4 * capacity half + 16 * i
 -- "a page has 32 + 20 × K bytes and each array K places"
 abbrev pub page_size : ℕ → ℕ
 page_size half = 32 + 20 * capacity half
+
+-- s has as many bytes as a page, and a page has an i-th slot
+abbrev pub HasSlot : ℕ → List ℕ → ℕ → Type 0
+HasSlot half s i = (length s ≡ page_size half) × (i < capacity half)
 
 -- Reading a tree page
 

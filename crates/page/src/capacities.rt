@@ -14,7 +14,7 @@ pub const NO_FIELD: u32 = 4294967295;
 pub fn capacity_ok(k: u32) -> bool
     ensures { result ≡ capacity_ok k }
 {
-    (k % 2 == 0) & ((LEAST_CAPACITY <= k) & (k <= MOST_CAPACITY))
+    (k % 2 == 0) & (LEAST_CAPACITY..=MOST_CAPACITY).contains(&k)
 }
 
 // The capacity that a field names: "without the field (FF there) reads as K = 24".

@@ -14,6 +14,7 @@ use rule::Pair;
 pub mod at;
 pub mod blank;
 pub mod capacities;
+pub mod decoded;
 pub mod heads;
 pub mod layout;
 pub mod pages;
@@ -45,7 +46,8 @@ pub struct Head {
 }
 
 // A decoded tree page: its level, its count of entries, and an array for each of an entry's numbers. There is a slot more
-// than a written page has, for the entry that makes it split. What stands past its length means nothing.
+// than a written page has, for the entry that makes it split. What stands past its length means nothing. Arrays of numbers, and not
+// one array of entries, are the form that document 01 names.
 #[derive(Clone, Copy)]
 pub struct Page {
     pub level: u32,

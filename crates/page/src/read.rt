@@ -4,7 +4,7 @@ ghost use Rattle.page.specs.Layout.{page_size};
 ghost use Rattle.page.specs.Decoded.{Read};
 
 use super::Page;
-use super::at::{child_at, count_at, entry_count, level_of, start_at, sum_at};
+use super::at::{entry_at, entry_count, level_of};
 use super::layout::{SLOTS, capacity};
 
 // The page as a struct: all its slots are read, whatever the count is.
@@ -12,25 +12,16 @@ pub fn read_page(half: usize, s: &[u8]) -> Page
     requires { (half ≤ 12) × (length s.now ≡ page_size half) }
     ensures { Read half result s.now }
 {
-    let mut starts = [0u32; SLOTS];
-    let mut sums = [0i64; SLOTS];
-    let mut counts = [0i32; SLOTS];
-    let mut children = [0u32; SLOTS];
-    let past = capacity(half);
-    let mut i = 0;
-    while i < past {
-        starts[i] = start_at(s, i);
-        sums[i] = sum_at(half, s, i);
-        counts[i] = count_at(half, s, i);
-        children[i] = child_at(half, s, i);
-        i += 1;
-    }
-    Page {
+    let mut page = Page {
         level: level_of(s),
         len: entry_count(s) as usize,
-        starts,
-        sums,
-        counts,
-        children,
+        starts: [0; SLOTS],
+        sums: [0; SLOTS],
+        counts: [0; SLOTS],
+        children: [0; SLOTS],
+    };
+    for i in 0..capacity(half) {
+        page.set_entry(i, entry_at(half, s, i));
     }
+    page
 }

@@ -1,7 +1,7 @@
 // What one page or one leaf entry has a part in.
 ghost use Rattle.std.specs.Prelude.{◌≡◌, ◌≤◌};
 ghost use Rattle.page.specs.Layout.{capacity};
-ghost use Rattle.page_need.specs.Needs.{leaf_need, add_needs, page_need};
+ghost use Rattle.page_need.specs.Needs.{leaf_need, page_need};
 ghost use Rattle.page_need.specs.Leads.{Small};
 
 use super::Need;
@@ -12,20 +12,9 @@ use page::layout::capacity;
 pub(crate) fn leaf_need(t: u32, e: Entry) -> Need
     ensures { result ≡ leaf_need t e }
 {
-    if e.start == t {
-        return Need { adds: 0, pages: 0 };
-    }
-    Need { adds: 1, pages: 0 }
-}
-
-// What two cuts ask for together.
-pub(crate) fn add_needs(a: Need, b: Need) -> Need
-    requires { Small a × Small b }
-    ensures { result ≡ add_needs a b }
-{
     Need {
-        adds: a.adds + b.adds,
-        pages: a.pages + b.pages,
+        adds: u32::from(e.start != t),
+        pages: 0,
     }
 }
 
@@ -35,10 +24,7 @@ pub(crate) fn page_need(half: usize, n: usize, below: Need) -> Need
     ensures { result ≡ page_need half n below }
 {
     if n + below.adds as usize <= capacity(half) {
-        return Need {
-            adds: 0,
-            pages: below.pages,
-        };
+        return Need { adds: 0, ..below };
     }
     Need {
         adds: 1,

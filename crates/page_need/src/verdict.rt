@@ -14,7 +14,7 @@ use store::root::root_entry;
 // What the two cuts ask for from the root down: "nothing if t is END".
 fn cuts_need(half: usize, img: &[u8], h: Head, s: u32, e: u32) -> Need
     requires sound_image { SoundImage half img.now h }
-    requires s_lt_e { s < e }
+    requires span { s < e }
     ensures { result ≡ cuts_need half s e (image_of half img.now) }
 {
     let root = root_entry(h);
@@ -28,7 +28,7 @@ fn cuts_need(half: usize, img: &[u8], h: Head, s: u32, e: u32) -> Need
 // pages from the high mark hold".
 pub fn lacks_pages(half: usize, img: &[u8], h: Head, s: u32, e: u32) -> bool
     requires sound_image { SoundImage half img.now h }
-    requires s_lt_e { s < e }
+    requires span { s < e }
     ensures { result ≡ lacks_pages half s e (image_of half img.now) }
 {
     let n = cuts_need(half, img, h, s, e);

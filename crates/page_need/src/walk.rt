@@ -5,7 +5,7 @@ ghost use Rattle.page_need.specs.Needs.{one_cut, parted_cuts, both_cuts};
 ghost use Rattle.page_need.specs.Leads.{Leads};
 
 use super::Need;
-use super::parts::{add_needs, leaf_need, page_need};
+use super::parts::{leaf_need, page_need};
 use page::Entry;
 use store::Found;
 use store::entries::find_entry;
@@ -29,13 +29,10 @@ pub(crate) fn one_cut(half: usize, img: &[u8], t: u32, level: u32, e: Entry, hi:
 // What the cut at s asks for from x down and the cut at t from y down, entries that lead to pages of their own.
 fn parted_cuts(half: usize, img: &[u8], s: u32, t: u32, level: u32, x: Found, y: Found) -> Need
     requires leads { Leads half img.now s x.end level x.entry }
-    requires leads_2 { Leads half img.now t y.end level y.entry }
+    requires leads_later { Leads half img.now t y.end level y.entry }
     ensures { result ≡ parted_cuts half s t level x.entry y.entry (image_of half img.now) }
 {
-    add_needs(
-        one_cut(half, img, s, level, x.entry, x.end),
-        one_cut(half, img, t, level, y.entry, y.end),
-    )
+    one_cut(half, img, s, level, x.entry, x.end) + one_cut(half, img, t, level, y.entry, y.end)
 }
 
 // What the cuts at s and at t ask for from an entry down that both meet, and that ends at hi: they go on to the same entry of its page,
@@ -50,11 +47,11 @@ pub(crate) fn both_cuts(
     hi: u32,
 ) -> Need
     requires leads { Leads half img.now s hi level e }
-    requires s_lt_t { (s < t) × (t < hi) }
+    requires order { (s < t) × (t < hi) }
     ensures { result ≡ both_cuts half s t level e (image_of half img.now) }
 {
     if level == 0 {
-        return add_needs(leaf_need(s, e), leaf_need(t, e));
+        return leaf_need(s, e) + leaf_need(t, e);
     }
     let first = find_entry(half, img, e.child, hi, s);
     if t < first.end {

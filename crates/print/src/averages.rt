@@ -1,34 +1,33 @@
 // An average: document 01's "two decimals, a minus if below zero, zero without one, `-` for none".
 ghost use Rattle.std.specs.Prelude.{◌+◌, ◌≤◌, length};
 ghost use Rattle.calls.specs.Program.{two_decimals, average_text};
-ghost use Rattle.print.specs.Written.{Put};
+ghost use Rattle.print.specs.Written.{Prints};
 
-use super::bytes::put_byte;
-use super::numbers::{put_decimal, put_sign};
+use super::Printer;
 use rule::Average;
-use rule::numbers::magnitude;
 
-// Hundredths as a number with two decimals.
-fn put_hundredths(out: &mut [u8], at: usize, n: u64) -> usize
-    requires { at + 23 ≤ length out.old }
-    ensures { Put out.old at (two_decimals n) out.new result }
-{
-    let next = put_decimal(out, at, n / 100);
-    let tenths = put_byte(out, next, b'.');
-    let last = put_byte(out, tenths, b'0' + (n / 10 % 10) as u8);
-    put_byte(out, last, b'0' + (n % 10) as u8)
-}
+impl Printer<'_> {
+    // Hundredths as a number with two decimals.
+    fn put_hundredths(&mut self, n: u64)
+        requires { self.old.at + 23 ≤ length self.old.out.now }
+        ensures { Prints self.old (two_decimals n) self.new }
+    {
+        self.put_decimal(n / 100);
+        self.put_byte(b'.');
+        self.put_byte(b'0' + (n / 10 % 10) as u8);
+        self.put_byte(b'0' + (n % 10) as u8);
+    }
 
-pub(crate) fn put_average(out: &mut [u8], at: usize, average: Average) -> usize
-    requires { at + 24 ≤ length out.old }
-    ensures { Put out.old at (average_text average) out.new result }
-{
-    match average {
-        Average::Hundredths(h) => {
-            let next = put_sign(out, at, h);
-            put_hundredths(out, next, magnitude(h))
+    pub(crate) fn put_average(&mut self, average: Average)
+        requires { self.old.at + 24 ≤ length self.old.out.now }
+        ensures { Prints self.old (average_text average) self.new }
+    {
+        match average {
+            Average::Hundredths(h) => {
+                self.put_sign(h);
+                self.put_hundredths(h.unsigned_abs());
+            }
+            Average::Nothing | Average::Beyond => self.put_byte(b'-'),
         }
-        Average::Nothing => put_byte(out, at, b'-'),
-        Average::Beyond => put_byte(out, at, b'-'),
     }
 }

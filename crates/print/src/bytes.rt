@@ -1,25 +1,26 @@
 // Bytes as they are.
 ghost use Rattle.std.specs.Prelude.{[], ◌∷◌, ◌+◌, ◌<◌, ◌≤◌, length};
-ghost use Rattle.print.specs.Written.{Put};
+ghost use Rattle.print.specs.Written.{Prints};
 
-// One byte.
-pub(crate) fn put_byte(out: &mut [u8], at: usize, b: u8) -> usize
-    requires { at < length out.old }
-    ensures { Put out.old at (b ∷ []) out.new result }
-{
-    out[at] = b;
-    at + 1
-}
+use super::Printer;
 
-// A text.
-pub(crate) fn put_text(out: &mut [u8], at: usize, text: &[u8]) -> usize
-    requires { at + length text.now ≤ length out.old }
-    ensures { Put out.old at text.now out.new result }
-{
-    let mut i = 0;
-    while i < text.len() {
-        out[at + i] = text[i];
-        i += 1;
+impl Printer<'_> {
+    // One byte.
+    pub(crate) fn put_byte(&mut self, b: u8)
+        requires { self.old.at < length self.old.out.now }
+        ensures { Prints self.old (b ∷ []) self.new }
+    {
+        self.out[self.at] = b;
+        self.at += 1;
     }
-    at + i
+
+    // A text.
+    pub(crate) fn put_text(&mut self, text: &[u8])
+        requires { self.old.at + length text.now ≤ length self.old.out.now }
+        ensures { Prints self.old text.now self.new }
+    {
+        let end = self.at + text.len();
+        self.out[self.at..end].copy_from_slice(text);
+        self.at = end;
+    }
 }

@@ -1,12 +1,8 @@
 -- Runs as they stand in a listing's output. Assumes nothing.
-use Rattle.std.specs.Prelude.{ℕ, zero, suc, ◌+◌, ◌*◌, List, [], ◌∷◌}
+use Rattle.std.specs.Prelude.{ℕ, zero, suc, List, [], ◌∷◌}
 use Rattle.rule.specs.Time.{END}
-use Rattle.fields.specs.Numbers.{u32_at, i32_at, i64_at}
 use Rattle.image.specs.Listing.{Run}
-
--- "16 bytes each: start (u32), count (i32), sum (i64)"
-unfoldable pub run_at : List ℕ → ℕ → Run
-run_at s i = record { start = u32_at s (16 * i); pair = record { sum = i64_at s (16 * i + 8); count = i32_at s (16 * i + 4) } }
+use Rattle.runs.specs.Listed.{run_at}
 
 -- m runs from the i-th on
 unfoldable pub runs_at : List ℕ → ℕ → ℕ → List Run

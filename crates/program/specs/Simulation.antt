@@ -2,15 +2,16 @@
 use Rattle.std.specs.Prelude.{ℕ, ◌+◌, ◌*◌, ◌≤◌, ◌≡◌, List}
 use Rattle.calls.specs.Program.{Ran}
 use Rattle.text.specs.Reading.{Holds}
-use Rattle.print.specs.Written.{Put}
+use Rattle.print.specs.declared.Printer.{Printer}
+use Rattle.print.specs.Written.{Put, Prints}
 use Rattle.program.specs.declared.Reading.{Reading}
 use Rattle.program.specs.State.{ProgramState, at_first, unwritten}
 
--- The image is left as a line's running leaves it, and what that prints stands in the output from offset `at` on.
-pub record Does (ran : Ran) (left out : List ℕ) (at : ℕ) (after : List ℕ) (next : ℕ) : Type 0 where
+-- The image is left as a line's running leaves it, and what that prints is printed.
+pub record Does (ran : Ran) (left : List ℕ) (p q : Printer) : Type 0 where
   pub image : left ≡ ran.image
-  pub printed : Put out at ran.written after next
-  pub few : next ≤ at + 55
+  pub printed : Prints p ran.written q
+  pub few : q.at ≤ p.at + 55
 
 -- The program is where g is: its line is coming, and all that it has written stands in the output `had` from offset `from` on.
 pub record Simulates (had : List ℕ) (from : ℕ) (g : ProgramState) (r : Reading) (img out : List ℕ) : Type 0 where

@@ -8,7 +8,7 @@ ghost use Rattle.program.specs.State.{listed_text};
 use crate::printed::put_runs;
 use luwhenoka::listings::listing;
 use page::layout::HALF;
-use print::lines::put_runs_line;
+use print::Printer;
 use rule::limits::END;
 
 // The listing goes into `list`, which has room for 1,416 runs, as many as 64 pages can have: 59 leaf pages of 24 entries. A run's
@@ -21,6 +21,8 @@ pub fn put_listing(img: &[u8], list: &mut [u8], out: &mut [u8]) -> usize
 {
     let answer = listing(HALF, img, 0, END, list);
     let runs = answer.runs;
-    let next = put_runs_line(out, 0, runs as u64);
-    put_runs(out, next, list, runs as usize)
+    let mut printer = Printer { out, at: 0 };
+    printer.put_runs_line(u64::from(runs));
+    put_runs(&mut printer, list, runs as usize);
+    printer.at
 }

@@ -1,31 +1,13 @@
 // The runs of a listing, read back from its output and printed.
 ghost use Rattle.std.specs.Prelude.{◌≡◌, ◌+◌, ◌*◌, ◌-◌, ◌≤◌, ◌<◌, length};
 ghost use Rattle.calls.specs.Program.{run_text, runs_text};
-ghost use Rattle.print.specs.Written.{Put};
-ghost use Rattle.program.specs.Listed.{run_at, runs_at, end_before};
+ghost use Rattle.print.specs.Written.{Prints};
+ghost use Rattle.runs.specs.Listed.{run_at};
+ghost use Rattle.program.specs.Listed.{runs_at, end_before};
 
-use fields::read::{get_i32, get_i64, get_u32};
-use print::lines::put_run;
-use rule::Pair;
+use print::Printer;
 use rule::limits::END;
-use runs::{RUN_BYTES, RUN_COUNT_OFFSET, RUN_SUM_OFFSET};
-
-fn start_of(list: &[u8], i: usize) -> u32
-    requires { 16 * i + 16 ≤ length list.now }
-    ensures { result ≡ (run_at list.now i).start }
-{
-    get_u32(list, RUN_BYTES * i)
-}
-
-fn pair_of(list: &[u8], i: usize) -> Pair
-    requires { 16 * i + 16 ≤ length list.now }
-    ensures { result ≡ (run_at list.now i).pair }
-{
-    Pair {
-        sum: get_i64(list, RUN_BYTES * i + RUN_SUM_OFFSET),
-        count: get_i32(list, RUN_BYTES * i + RUN_COUNT_OFFSET),
-    }
-}
+use runs::listed::run_at;
 
 // A run ends where the next one starts, and the last of n at END.
 fn end_of(list: &[u8], n: usize, i: usize) -> u32
@@ -37,38 +19,29 @@ fn end_of(list: &[u8], n: usize, i: usize) -> u32
     if next == n {
         return END;
     }
-    start_of(list, next)
+    run_at(list, next).start
 }
 
 // "each run as start, end, sum, count, average"
-fn put_one(out: &mut [u8], at: usize, list: &[u8], n: usize, i: usize) -> usize
-    requires at_in_bounds { at + 111 ≤ length out.old }
+fn put_one(printer: &mut Printer<'_>, list: &[u8], n: usize, i: usize)
+    requires at_in_bounds { printer.old.at + 111 ≤ length printer.old.out.now }
     requires i_lt_n { i < n }
     requires n_in_bounds { 16 * n ≤ length list.now }
-    ensures { Put out.old at
+    ensures { Prints printer.old
         (run_text (run_at list.now i) (end_before list.now i (n - (i + 1))))
-        out.new result }
+        printer.new }
 {
-    put_run(
-        out,
-        at,
-        start_of(list, i),
-        end_of(list, n, i),
-        pair_of(list, i),
-    )
+    let run = run_at(list, i);
+    printer.put_run(run.start, end_of(list, n, i), run.pair);
 }
 
 // The n runs of a listing.
-pub(crate) fn put_runs(out: &mut [u8], at: usize, list: &[u8], n: usize) -> usize
-    requires n_in_bounds { at + 111 * n ≤ length out.old }
-    requires n_in_bounds_2 { 16 * n ≤ length list.now }
-    ensures { Put out.old at (runs_text (runs_at list.now 0 n)) out.new result }
+pub(crate) fn put_runs(printer: &mut Printer<'_>, list: &[u8], n: usize)
+    requires at_in_bounds { printer.old.at + 111 * n ≤ length printer.old.out.now }
+    requires n_in_bounds { 16 * n ≤ length list.now }
+    ensures { Prints printer.old (runs_text (runs_at list.now 0 n)) printer.new }
 {
-    let mut next = at;
-    let mut i = 0;
-    while i < n {
-        next = put_one(out, next, list, n, i);
-        i += 1;
+    for i in 0..n {
+        put_one(printer, list, n, i);
     }
-    next
 }

@@ -16,7 +16,8 @@ use Rattle.lists.specs.Lists.{concat_map}
 use Rattle.image.specs.Listing.{Run, run_bytes}
 use Rattle.runs.proofs.Laws.Steps.{length_run_bytes}
 use Rattle.runs.proofs.Laws.Entries.{length_runs_bytes}
-use Rattle.program.specs.Listed.{run_at, runs_at}
+use Rattle.runs.specs.Listed.{run_at}
+use Rattle.program.specs.Listed.{runs_at}
 
 -- "16 bytes each: start (u32), count (i32), sum (i64)"
 pub record Fits (r : Run) : Type 0 where

@@ -2,7 +2,7 @@
 use mathlib.Core.Path.{◌≡◌, refl, sym, ap, ◌∙◌, subst}
 use mathlib.Core.Bool.{Bool, true, false, cond}
 use mathlib.Core.List.{List, [], ◌∷◌, ◌++◌}
-use Prim.Native.Nat.{ℕ, ◌+◌, ◌*◌, ◌-◌, ◌/◌}
+use Prim.Native.Nat.{ℕ, ◌*◌, ◌-◌, ◌/◌}
 use native.Mathlib.Decide.{ℕ_discrete}
 use native.Mathlib.Omega.{arith}
 use lib.ListN.{length, replicate}
@@ -21,7 +21,6 @@ use Rattle.lists.specs.Lists.{concat_map}
 use Rattle.page.specs.Fit.{root_context, field_ok}
 use Rattle.image.specs.Images.{pages_in}
 use Rattle.image.specs.Listing.{Run, run_bytes, walk_over}
-use Rattle.image.specs.Sound.{sound}
 use Rattle.calls.specs.Refusals.{borrowed}
 use Rattle.calls.specs.Calls.{head, format, book, runs_over, written, listing}
 use Rattle.marks.proofs.Opened.{all_definitions}

@@ -3,6 +3,7 @@ use Prim.Native.Nat.{ℕ, ◌≤◌, ◌<◌}
 use mathlib.Core.Path.{◌≡◌, refl, sym, ap, ◌∙◌, subst⁻¹}
 use mathlib.Core.Logic.{◌≢◌}
 use mathlib.Core.Bool.{Bool, true, false}
+use mathlib.Core.List.{List}
 use lib.Dec.{ltb}
 use lib.IntN.{ℤ, pos, nat_abs, ◌*ℤ◌}
 use borrow.Author.Tests.{ltb-true, ltb-false, lt-leb}
@@ -15,8 +16,11 @@ use Rattle.rule.proofs.Rounding.{no_average, average_beyond, average_shown}
 use Rattle.book.specs.Aggregate.{aggregate}
 use Rattle.claims.specs.Demands.{TheDemands}
 use Rattle.demands.proofs.Demands.{the_demands}
+use Rattle.fields.specs.Numbers.{u32_at}
+use Rattle.calls.specs.Index.{index_instant, index_average}
+use Rattle.luwhenoka.specs.declared.InstantAnswer.{InstantAnswer}
 use Rattle.luwhenoka.specs.declared.AverageAnswer.{AverageAnswer}
-use Rattle.luwhenoka.specs.Answers.{average_answer, averaged_answer, pair_of}
+use Rattle.luwhenoka.specs.Answers.{instant_answer, average_answer, averaged_answer, pair_of}
 use Rattle.luwhenoka.proofs.Laws.Averages.{average_0}
 use Rattle.promises.specs.Refusing.{Refusing}
 use Rattle.promises.specs.Rounding.{Rounded, RoundingPromised}
@@ -58,13 +62,22 @@ module _ (p : Pair) (count : ℕ) (e : p.count ≡ pos count) (some : 0 < count)
             (hundredths_nearest p.sum count some);
       }
 
+-- the average where an instant call was answered, by that call's numbers
+average_answered : {a : InstantAnswer} (t : ℕ) (img : List ℕ) → a ≡ instant_answer (index_instant t img) → a.status ≡ 0
+    → average_answer 0 (average (u32_at img 24) (pair_of a)) ≡ averaged_answer (index_average t img)
+unfolding instant_answer averaged_answer
+average_answered t img e accepted =
+    let z : (index_instant t img).status ≡ 0 = sym (ap (λ (a : InstantAnswer). a.status) e) ∙ accepted in
+    ap (λ (a : InstantAnswer). average_answer 0 (average (u32_at img 24) (pair_of a))) e
+    ∙ ap averaged_answer (average_0 t img refl z)
+
 pub rounding_promised : RoundingPromised
 unfolding averaged_answer
 rounding_promised =
     record {
       of_pair = λ sum count r q some h. rounded (pair sum (pos count)) count refl some r q h;
       at_instant = λ t img a count r answers averages accepted kind e some.
-          let q = averages ∙ sym (rw kind at (average_0 t img answers accepted)) in
+          let q = averages ∙ sym (rw kind at (average_answered t img answers accepted)) in
           rounded (pair_of a) count e some r q (within (pair_of a) count e some r q (refused.of_average t img r averages).1);
       of_bookings = λ window field img cs T t count r averages h e some.
           let q = averages ∙ ap averaged_answer ((met.demand_2 T).averages t h) in

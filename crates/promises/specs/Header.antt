@@ -1,5 +1,5 @@
 -- What the header for C says of the output of a listing and of the scratch, of what the functions promise. Assumes nothing.
-use Rattle.std.specs.Prelude.{ℕ, ◌+◌, ◌*◌, ◌-◌, ◌≤◌, ◌<◌, ◌≢◌, List, length, ℤ}
+use Rattle.std.specs.Prelude.{ℕ, ◌+◌, ◌*◌, ◌-◌, ◌≤◌, ◌≢◌, List, length, ℤ}
 use Rattle.page.specs.Layout.{capacity}
 use Rattle.image.specs.Images.{half_of, pages_in}
 use Rattle.calls.specs.Changes.{Side}

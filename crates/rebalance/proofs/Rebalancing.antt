@@ -35,26 +35,26 @@ module _ (i : ℕ) (e : i ≡ 0 → ⊥) where
   unfolding sibling
   sibling_left = ap (λ b. cond b 1 (i - 1)) (sym (ne_eqb i 0 e))
 
-  pub left_before : i - 1 ≡ left_of i
-  unfolding left_of
-  left_before = refl
-
   pub share_left : (half n : ℕ) → n - 1 ≡ cond (eqb i 0) half (n - 1)
   share_left half n = ap (λ b. cond b half (n - 1)) (sym (ne_eqb i 0 e))
 
 -- ---- the sibling
+
+pub left_before : (i : ℕ) → i - 1 ≡ left_of i
+unfolding left_of
+left_before i = refl
 
 -- of the first page the right one, of another one the left one
 right_is : suc (left_of 0) ≡ sibling 0
 right_is = ap suc (sym (left_itself 0 refl)) ∙ sibling_right 0 refl
 
 left_is : (i : ℕ) → left_of (suc i) ≡ sibling (suc i)
-left_is i = sym (left_before (suc i) (λ z. omega arith)) ∙ sibling_left (suc i) (λ z. omega arith)
+left_is i = sym (left_before (suc i)) ∙ sibling_left (suc i) (λ z. omega arith)
 
 after_left : (i : ℕ) → suc (left_of (suc i)) ≡ suc i
 after_left i =
     let d : suc (suc i - 1) ≡ suc i = omega arith in
-    ap suc (sym (left_before (suc i) (λ z. omega arith))) ∙ d
+    ap suc (sym (left_before (suc i))) ∙ d
 
 -- The page under the i-th entry is one of the two siblings, its sibling the other one.
 pub record Pairing (level p i : ℕ) (X : Image) : Type 0 where

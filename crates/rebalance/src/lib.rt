@@ -10,6 +10,14 @@ pub mod rebalance;
 pub mod redistribute;
 pub mod share;
 
+// Two siblings, by the entries above them: the l-th of page p and the next. With the kind, whose rule combines pairs.
+#[derive(Clone, Copy)]
+pub(crate) struct SiblingsAt {
+    kind: u32,
+    p: u32,
+    l: usize,
+}
+
 // Two siblings, by their page numbers.
 #[derive(Clone, Copy)]
 pub struct SiblingPages {

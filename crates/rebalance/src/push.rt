@@ -10,7 +10,7 @@ ghost use Rattle.store.specs.Encoding.{Encodes, PreLevel, PostLevel};
 ghost use Rattle.store.specs.Preconditions.{HasEntry, PushReady};
 ghost use Rattle.rebalance.specs.Siblings.{Siblings, EntryPushable, with_pair, emptied, BothPushed, pair_emptied};
 
-use crate::SiblingPages;
+use crate::{SiblingPages, SiblingsAt};
 use page::Entry;
 use rule::Pair;
 use rule::combine::combine;
@@ -25,19 +25,8 @@ fn push_entry(half: usize, img: &mut [u8], kind: u32, pair: Pair, q: u32, i: usi
         (put q (tree v (splice i (with_pair kind pair (at (entries X q) i) ∷ []) (entries X q))) X)) }
 {
     let e = entry_of(half, img, q, i);
-    let own = e.pair;
-    let both = combine(kind, pair, own);
-    set_entry(
-        half,
-        img,
-        q,
-        i,
-        Entry {
-            start: e.start,
-            pair: both,
-            child: e.child,
-        },
-    );
+    let pair = combine(kind, pair, e.pair);
+    set_entry(half, img, q, i, Entry { pair, ..e });
 }
 
 // The pair of e combined into each entry of the page under e.
@@ -46,29 +35,21 @@ pub fn push_down(half: usize, img: &mut [u8], kind: u32, e: Entry)
     ensures { PostLevel half img.old (λ v. PushReady v e)
         (λ v X. Encodes half img.new (put e.child (tree v (pushed (combine kind) X e)) X)) }
 {
-    let n = entry_count_in(half, img, e.child);
-    let mut i: usize = 0;
-    while i < n {
+    for i in 0..entry_count_in(half, img, e.child) {
         push_entry(half, img, kind, e.pair, e.child, i);
-        i += 1;
     }
 }
 
-// The pages under the l-th entry of page p and under the next.
-pub(crate) fn push_siblings(
-    half: usize,
-    img: &mut [u8],
-    kind: u32,
-    p: u32,
-    l: usize,
-) -> SiblingPages
-    requires { PreLevel half img.old (λ v. Siblings v p l) }
-    ensures { PostLevel half img.old (λ v. Siblings v p l) (λ v X. BothPushed half kind v p l X result img.new) }
+// Both pages.
+pub(crate) fn push_siblings(half: usize, img: &mut [u8], at: SiblingsAt) -> SiblingPages
+    requires { PreLevel half img.old (λ v. Siblings v at.p at.l) }
+    ensures { PostLevel half img.old (λ v. Siblings v at.p at.l)
+        (λ v X. BothPushed half at.kind v at.p at.l X result img.new) }
 {
-    let a = entry_of(half, img, p, l);
-    let b = entry_of(half, img, p, l + 1);
-    push_down(half, img, kind, a);
-    push_down(half, img, kind, b);
+    let a = entry_of(half, img, at.p, at.l);
+    let b = entry_of(half, img, at.p, at.l + 1);
+    push_down(half, img, at.kind, a);
+    push_down(half, img, at.kind, b);
     SiblingPages {
         left: a.child,
         right: b.child,
@@ -79,11 +60,10 @@ pub(crate) fn push_siblings(
 pub(crate) fn emptied(e: Entry, start: u32) -> Entry
     ensures { result ≡ emptied start e }
 {
-    let pair = Pair { sum: 0, count: 0 };
     Entry {
         start,
-        pair,
-        child: e.child,
+        pair: Pair::NONE,
+        ..e
     }
 }
 

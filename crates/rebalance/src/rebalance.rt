@@ -1,10 +1,11 @@
 // "A page other than the root left with" K/2 − 1 "turns to its left neighbour under the same parent, else the right."
 ghost use Rattle.std.specs.Prelude.{◌≡◌, cond, eqb, ◌-◌, ◌≤◌};
 ghost use Rattle.rule.specs.Pairs.{combine};
-ghost use Rattle.steps.specs.Heal.{sibling, left_of, rebalance};
+ghost use Rattle.steps.specs.Heal.{sibling, rebalance};
 ghost use Rattle.store.specs.Encoding.{Encodes, PreLevel, PostLevel};
 ghost use Rattle.rebalance.specs.Siblings.{Rebalanceable};
 
+use crate::SiblingsAt;
 use crate::merge::merge;
 use crate::redistribute::redistribute;
 use store::entries::{entry_count_in, entry_of};
@@ -14,13 +15,6 @@ fn sibling(i: usize) -> usize
     ensures { result ≡ sibling i }
 {
     if i == 0 { 1 } else { i - 1 }
-}
-
-// The index of the left one of the two.
-fn left_of(i: usize) -> usize
-    ensures { result ≡ left_of i }
-{
-    if i == 0 { 0 } else { i - 1 }
 }
 
 // How many entries the left one has then, if the sibling has n and gives one.
@@ -39,9 +33,12 @@ pub fn rebalance(half: usize, img: &mut [u8], kind: u32, p: u32, i: usize)
 {
     let e = entry_of(half, img, p, sibling(i));
     let n = entry_count_in(half, img, e.child);
+    // The left one of the two stands before the i-th, or is the first.
+    let l = i.saturating_sub(1);
+    let at = SiblingsAt { kind, p, l };
     if n > half {
-        redistribute(half, img, kind, p, left_of(i), left_share(half, i, n));
-        return;
+        redistribute(half, img, at, left_share(half, i, n));
+    } else {
+        merge(half, img, at);
     }
-    merge(half, img, kind, p, left_of(i));
 }

@@ -15,12 +15,9 @@ pub(crate) fn append_all(half: usize, img: &mut [u8], a: u32, b: u32)
         (λ v X. Encodes half img.new (put a (tree v (entries X a ++ entries X b)) X)) }
 {
     let m = entry_count_in(half, img, a);
-    let n = entry_count_in(half, img, b);
-    let mut i: usize = 0;
-    while i < n {
+    for i in 0..entry_count_in(half, img, b) {
         let e = entry_of(half, img, b, i);
         insert_entry(half, img, a, m + i, e);
-        i += 1;
     }
 }
 
@@ -29,23 +26,25 @@ pub(crate) fn append_all(half: usize, img: &mut [u8], a: u32, b: u32)
 fn move_one(half: usize, img: &mut [u8], a: u32, b: u32, m: usize, k: usize) -> usize
     requires { PreLevel half img.old (λ v. Movable half v a b m k) }
     ensures nearer { Nearer m k result }
-    ensures post_level { PostLevel half img.old (λ v. Movable half v a b m k)
+    ensures shared { PostLevel half img.old (λ v. Movable half v a b m k)
         (λ v X. Encodes half img.new (shared v a b result X)) }
 {
     if m < k {
         let e = entry_of(half, img, b, 0);
         insert_entry(half, img, a, m, e);
         remove_entry(half, img, b, 0);
-        return m + 1;
+        m + 1
+    } else {
+        let last = m - 1;
+        let e = entry_of(half, img, a, last);
+        remove_entry(half, img, a, last);
+        insert_entry(half, img, b, 0, e);
+        last
     }
-    let last = m - 1;
-    let e = entry_of(half, img, a, last);
-    remove_entry(half, img, a, last);
-    insert_entry(half, img, b, 0, e);
-    last
 }
 
-// Page a has the first k of all entries from now on. A heal moves one; however many there are to move, the loop gets there.
+// Page a has the first k of all entries from now on. A heal moves one; however many there are to move, and whichever way, the loop gets
+// there: m rises or falls, so it is no range.
 pub(crate) fn share(half: usize, img: &mut [u8], a: u32, b: u32, k: usize)
     requires { PreLevel half img.old (λ v. Sharable half v a b k) }
     ensures { PostLevel half img.old (λ v. Sharable half v a b k)

@@ -1,11 +1,12 @@
 -- What a rebuild asks of its source and its target. Assumes nothing.
-use Rattle.std.specs.Prelude.{ℕ, ◌≤◌, ◌≡◌, Bool, true, false, cond, not, List, length}
+use Rattle.std.specs.Prelude.{ℕ, ◌≤◌, ◌≡◌, true, false, cond, List, [], ◌∷◌, length, eqb}
 use Rattle.rule.specs.Time.{END}
 use Rattle.page.specs.declared.Head.{Head}
 use Rattle.image.specs.Images.{pages_in, length_ok}
 use Rattle.image.specs.Listing.{walk_over}
 use Rattle.access.specs.Access.{OpenImage}
 use Rattle.tight.specs.Tight.{too_small}
+use Rattle.calls.specs.Refusals.{first}
 use Rattle.calls.specs.Calls.{full_runs, rebuilt_bytes}
 
 -- The source has this head and only fit pages, and so many runs; the target is of a length in range, with pages enough for them.
@@ -19,7 +20,7 @@ pub record Rebuildable (half : ℕ) (source : List ℕ) (h : Head) (target : Lis
   pub whole : length_ok half target ≡ true
   pub room : too_small half (pages_in half target) m ≡ false
 
--- What is left of the target, and whether it had pages enough: where it hadn't, its bytes are as they were.
-pub record Fills (half : ℕ) (source target : List ℕ) (r : Bool) (left : List ℕ) : Type 0 where
-  pub told : r ≡ not (too_small half (pages_in half target) (length (full_runs half source)))
-  pub leaves : left ≡ cond r (rebuilt_bytes half source (pages_in half target)) target
+-- The status of the last row, and what is left of the target: where it has too few pages, its bytes are as they were.
+pub record Fills (half : ℕ) (source target : List ℕ) (status : ℕ) (left : List ℕ) : Type 0 where
+  pub told : status ≡ first ((24, too_small half (pages_in half target) (length (full_runs half source))) ∷ [])
+  pub leaves : left ≡ cond (eqb status 0) (rebuilt_bytes half source (pages_in half target)) target

@@ -14,8 +14,9 @@ use access::lengths::page_count;
 use fields::fill::{UNUSED_BYTE, fill};
 use listing::passes::write_runs;
 use page::Head;
+use page::heads::write_head;
 use page::layout::{capacity, page_size};
-use page::pages::write_head_at;
+use page::pages::page_range;
 use rule::limits::END;
 
 // "the chain is empty, the high mark follows the last page used; kind, window and changes are kept", h being the source's head. "A rebuild
@@ -31,10 +32,8 @@ fn tight_head(half: usize, pages: u32, tree: TreeSize, h: Head) -> Head
         free: 0,
         chain: 0,
         mark: tree.pages + 1,
-        kind: h.kind,
-        window: h.window,
-        changes: h.changes,
         capacity: capacity(half) as u32,
+        ..h
     }
 }
 
@@ -50,7 +49,7 @@ fn write_ends(half: usize, img: &mut [u8], h: Head)
     let end = page_size(half) * h.mark as usize;
     let length = img.len();
     fill(img, end, length - end, UNUSED_BYTE);
-    write_head_at(half, img, h);
+    write_head(half, &mut img[page_range(half, 0)], h);
 }
 
 // Writes the tight image of the source's runs over all of the target: `runs` of them, in a tree of that size, for which it has pages enough.

@@ -3,9 +3,11 @@
 // last to the first, and each level above of the pages below it.
 #![tactic(auto)]
 
+pub mod entries;
 pub mod images;
 pub mod leaves;
 pub mod levels;
+pub mod pages;
 pub mod sizes;
 pub mod targets;
 pub mod trees;

@@ -20,10 +20,7 @@ pub fn page_entries(least: u32, larger: u32, i: u32) -> u32
     requires { least < 4294967295 }
     ensures { result ≡ least + cond (ltb i larger) 1 0 }
 {
-    if i < larger {
-        return least + 1;
-    }
-    least
+    least + u32::from(i < larger)
 }
 
 // The pages and the levels of a tree with m leaf entries, level by level up to the one that is one page.
@@ -36,8 +33,8 @@ pub fn tree_size(half: usize, m: u32) -> TreeSize
     let mut height = 1;
     while 1 < level {
         level = pages_for(half, level);
-        pages = pages + level;
-        height = height + 1;
+        pages += level;
+        height += 1;
     }
     TreeSize { pages, height }
 }

@@ -13,8 +13,8 @@ use crate::sizes::pages_for;
 
 // "Leaf pages come first from page 1 in time order, then each level." The last level is one page, the root.
 pub fn write_tree(half: usize, img: &mut [u8], runs: u32)
-    requires le_half { (2 ≤ half) × (half ≤ 12) × (1 ≤ runs) }
-    requires runs_bound { (pages_used half runs < 4294967295) × (page_size half * suc (pages_used half runs) ≤ length img.old) }
+    requires some_runs { (2 ≤ half) × (half ≤ 12) × (1 ≤ runs) }
+    requires room { (pages_used half runs < 4294967295) × (page_size half * suc (pages_used half runs) ≤ length img.old) }
     ensures { img.new
         ≡ patch img.old (page_size half)
         (concat_map (cell_bytes half) (cells half runs 0 1 (run_entries img.old runs))) }
@@ -25,9 +25,9 @@ pub fn write_tree(half: usize, img: &mut [u8], runs: u32)
     let mut below = 1;
     while 1 < n {
         let pages = pages_for(half, n);
-        level = level + 1;
+        level += 1;
         write_level(half, img, level, below, n, pages);
-        below = below + n;
+        below += n;
         n = pages;
     }
 }

@@ -1,5 +1,5 @@
 -- The laws of the combining rules: each is lawful, and what each keeps within bounds. Assumes nothing.
-use Rattle.std.proofs.Common.{◌≡◌, ℕ, ◌+◌, ◌≤◌, max, Bool, true, false, cond, ◌&&◌, eqb, ◌⊎◌, ◌↔◌, ℤ, pos, ◌+ℤ◌, nat_abs, sym, refl, ap, ◌∙◌, inl, inr, ⊎_elim, arith, w32, w64, SFits, eqb-true, le-leb, leb-true}
+use Rattle.std.proofs.Common.{int_eq, ap₂, ◌≡◌, ℕ, ◌+◌, ◌≤◌, max, Bool, true, false, cond, ◌&&◌, eqb, ◌⊎◌, ◌↔◌, ℤ, pos, ◌+ℤ◌, nat_abs, sym, refl, ap, ◌∙◌, inl, inr, ⊎_elim, arith, w32, w64, SFits, eqb-true, le-leb, leb-true}
 use mathlib.Core.Path.{subst⁻¹}
 use mathlib.Core.Bool.{and-false}
 use lib.IntN.{+ℤ_assoc, +ℤ_comm, +ℤ_idl, +ℤ_invr}
@@ -8,10 +8,15 @@ use Rattle.rule.specs.Time.{most_value, value_ok}
 use Rattle.rule.specs.Pairs.{none, opposite, same_number, same_pair, added, greater, lesser, better, combine, Lawful, Invertible}
 use Rattle.rule.specs.Bounds.{Combinable, value_or_none}
 use Rattle.rule.proofs.Tests.{one_test, both, either}
-use Rattle.rule.proofs.Signed.{sfits_nat_abs, nat_abs_add, same_number_is}
+use Rattle.rule.proofs.Signed.{sfits_nat_abs, nat_abs_add, same_number_is, int_eq_same}
 use Rattle.rule.proofs.Order.{Best, least, greatest}
 
 -- ---- equal pairs
+
+-- what `p == q` answers on pairs is the test for equal pairs
+pub pairs_equal : (p q : Pair) → int_eq p.sum q.sum && int_eq p.count q.count ≡ same_pair p q
+unfolding same_pair
+pairs_equal p q = ap₂ ◌&&◌ (int_eq_same p.sum q.sum) (int_eq_same p.count q.count)
 
 pub pair_eq : {p q : Pair} → p.sum ≡ q.sum → p.count ≡ q.count → p ≡ q
 pair_eq e f = λ i. record { sum = e i; count = f i }

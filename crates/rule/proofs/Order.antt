@@ -1,7 +1,9 @@
 -- The better of two numbers under a total order: the greater and the lesser are it under ≤ and ≥. Assumes nothing.
-use Rattle.std.proofs.Common.{◌≡◌, Bool, true, false, cond, ◌⊎◌, ℤ, pos, negsuc, sym, refl, ap, inl, inr, true≢false, le_trans, le_of_lt, le_antisymm, le-leb, leb-false, leb-true}
+use Rattle.std.proofs.Common.{arith, ◌≡◌, Bool, true, false, cond, ◌⊎◌, ℤ, pos, negsuc, sym, refl, ap, inl, inr, true≢false, le_trans, le_of_lt, le_antisymm, le-leb, leb-false, leb-true}
+use Rattle.std.proofs.lemmas.Int.{ints}
+use Rattle.std.specs.Int.{int_max, int_min}
 use mathlib.Core.Logic.{⊎_swap}
-use mathlib.Core.Bool.{beq, false≢true}
+use mathlib.Core.Bool.{false≢true}
 use lib.Signed.{le_z}
 use Rattle.rule.specs.Pairs.{greater, lesser}
 
@@ -108,13 +110,11 @@ greatest =
       picks = λ a b. ⊎_swap (g.picks b a);
     }
 
--- one comparison picks: the second if a ≤ b goes with wanting the greater, else the first
-pub best_by : (y z : Bool) (a b : ℤ) → beq (le_z a b) y ≡ z → cond z b a ≡ cond y (greater a b) (lesser a b)
-unfolding greater lesser
-best_by y z a b e = rw (← e) (go (le_z a b) y)
-  where
-    go : (x y : Bool) → cond (beq x y) b a ≡ cond y (cond x b a) (cond x a b)
-    go true true = refl
-    go true false = refl
-    go false true = refl
-    go false false = refl
+-- the library's greater and lesser of two numbers
+pub max_greater : (a b : ℤ) → int_max a b ≡ greater a b
+unfolding greater
+max_greater a b = grind (arith, ints)
+
+pub min_lesser : (a b : ℤ) → int_min a b ≡ lesser a b
+unfolding lesser
+min_lesser a b = grind (arith, ints)

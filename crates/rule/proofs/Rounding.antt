@@ -1,7 +1,7 @@
 -- Rounding: the code's way leads to `hundredths`, and each way out of it to the average. Assumes nothing.
-use Rattle.std.proofs.Common.{◌≡◌, ℕ, suc, ◌*◌, ◌/◌, ◌%◌, ◌^◌, ◌<◌, ◌≤◌, Bool, true, false, cond, not, ◌||◌, T, eqb, ℤ, pos, negsuc, ◌+ℤ◌, ◌*ℤ◌, neg_ℤ, nat_abs, refl, ap, ◌∙◌, ⊎_elim, true≢false, not-suc-le-zero, mod-lt, div-le_self, arith, w32, w64, SFits, of_z, ltb-true, le-ltb, lt-ltb, leb-false}
+use Rattle.std.proofs.Common.{◌≡◌, ℕ, suc, ◌*◌, ◌/◌, ◌%◌, ◌<◌, ◌≤◌, Bool, true, false, cond, not, ◌||◌, eqb, ℤ, pos, negsuc, ◌+ℤ◌, ◌*ℤ◌, neg_ℤ, nat_abs, refl, ap, ◌∙◌, ⊎_elim, true≢false, not-suc-le-zero, mod-lt, div-le_self, arith, w64, SFits, of_z, ltb-true, le-ltb, lt-ltb, leb-false}
 use lib.IntN.{neg_ℤ-+ℤ}
-use lib.Signed.{quot_z, rem_z, le_z, lt_z, non_neg, nat_abs-le}
+use lib.Signed.{quot_z, rem_z, le_z, lt_z}
 use Rattle.rule.specs.declared.Pair.{Pair}
 use Rattle.rule.specs.declared.Average.TheVariants.{Hundredths, Nothing, Beyond}
 use Rattle.rule.specs.Averages.{next_taken, nearest, hundredths, signed_as, most_sum, average}
@@ -66,11 +66,8 @@ chosen (negsuc n) d =
 -- Each number on the way fits, and the choice is the average.
 pub record Steps (sum count : ℤ) : Type 0 where
   pub scaled : SFits w64 (pos 100 *ℤ sum)
-  pub nonzero : 0 < of_z w64 count
   pub divided : SFits w64 (quotient sum count)
   pub left : SFits w64 (rest sum count)
-  pub short : nat_abs (rest sum count) < 2 ^ 63
-  pub positive : T (non_neg count)
   pub step : SFits w64 (signed_as sum (pos 1))
   pub stepped : SFits w64 (quotient sum count +ℤ signed_as sum (pos 1))
   pub done : hundredths sum (nat_abs count) ≡ choice sum count
@@ -87,11 +84,8 @@ steps sum count ok =
     let next = nat_abs_add (quotient sum count) (signed_as sum (pos 1)) in
     record {
       scaled = sfits_nat_abs w64 (omega arith);
-      nonzero = rw d.0 (omega arith);
       divided = sfits_nat_abs w64 (omega arith);
       left = sfits_nat_abs w64 (omega arith);
-      short = omega arith;
-      positive = rw d.0 tt;
       step = sfits_nat_abs w64 (omega arith);
       stepped = sfits_nat_abs w64 (omega arith);
       done = rw d.0 (chosen sum (nat_abs count));
@@ -102,10 +96,6 @@ steps sum count ok =
 -- kind 2 or 3, or a count of zero or below
 abbrev pub no_average : ℕ → Pair → Bool
 no_average kind p = not (eqb kind 1) || le_z p.count (pos 0)
-
-right_fails : (a b : Bool) → a || b ≡ false → b ≡ false
-right_fails true b e = absurd (true≢false e)
-right_fails false b e = e
 
 module _ (kind : ℕ) (p : Pair) where
   pub average_nothing : no_average kind p ≡ true → Nothing ≡ average kind p
@@ -120,11 +110,3 @@ module _ (kind : ℕ) (p : Pair) where
       → Hundredths (hundredths p.sum (nat_abs p.count)) ≡ average kind p
   unfolding average
   average_shown e h = rw (e, le-ltb most_sum (nat_abs p.sum) h)
-
-  pub averageable : no_average kind p ≡ false → nat_abs p.sum ≤ most_sum → SFits w32 p.count → Averageable p.sum p.count
-  averageable e h fits =
-      record {
-        shown = h;
-        some = right_fails (not (eqb kind 1)) (le_z p.count (pos 0)) e;
-        narrow = omega (arith, nat_abs-le p.count fits.sfits);
-      }

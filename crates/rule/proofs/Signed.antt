@@ -1,13 +1,12 @@
 -- Signed numbers: the absolute value of each operation's result, and from it that the result fits its width. Assumes nothing.
-use Rattle.std.proofs.Common.{◌≡◌, ℕ, zero, suc, ◌+◌, ◌-◌, ◌*◌, ◌/◌, ◌%◌, ◌^◌, ◌<◌, ◌≤◌, Bool, true, false, cond, T, eqb, ltb, ◌⊎◌, ◌↔◌, ℤ, pos, negsuc, ◌+ℤ◌, ◌-ℤ◌, ◌*ℤ◌, neg_ℤ, nat_abs, sym, refl, ap, ◌∙◌, inl, inr, true≢false, le_refl, not-suc-le-zero, lt_of_le_of_lt, mod-lt, zero-mul, arith, SFits, to_z, of_z, ltb-false, ltb-true, eq-eqb, eqb-true}
-use mathlib.Core.Path.{subst⁻¹}
+use Rattle.std.proofs.Common.{int_eq, ◌≡◌, ℕ, zero, suc, ◌+◌, ◌-◌, ◌*◌, ◌/◌, ◌%◌, ◌^◌, ◌<◌, ◌≤◌, Bool, true, false, cond, ltb, ◌⊎◌, ◌↔◌, ℤ, pos, negsuc, ◌+ℤ◌, ◌-ℤ◌, ◌*ℤ◌, neg_ℤ, nat_abs, sym, refl, ap, inl, inr, le_refl, lt_of_le_of_lt, mod-lt, zero-mul, arith, SFits, ltb-false, ltb-true, eq-eqb, eqb-true}
+use Rattle.std.proofs.lemmas.Bool.Decides.{Decides-int_eq}
 use mathlib.Core.Bool.{false≢true}
 use native.Mathlib.Nat.{zero-div, zero-mod}
-use lib.IntN.{sub_ℕ, pos-ne-negsuc, +ℤ_one, +ℤ_idl, neg_ℤ-neg_ℤ}
-use lib.Signed.{mag, quot_z, rem_z, lt_z, non_neg}
+use lib.IntN.{sub_ℕ, pos-ne-negsuc, neg_ℤ-neg_ℤ}
+use lib.Signed.{mag, quot_z, rem_z}
 use mir.Syntax.{Width}
 use mir.Val.{hbits}
-use mir.ValLaws.{to_z-of_z}
 use Rattle.rule.specs.Pairs.{same_number}
 use Rattle.rule.proofs.Tests.{one_test}
 
@@ -84,27 +83,6 @@ parity n = go (n % 2) (mod-lt n (omega arith))
     go (suc zero) h = inr refl
     go (suc (suc m)) h = absurd (omega arith)
 
--- ---- the absolute value by the code's way: one more, the opposite, and one more again
-
-pub not_negative : (z : ℤ) → lt_z z (pos 0) ≡ false → T (non_neg z)
-not_negative (pos n) e = tt
-not_negative (negsuc n) e = absurd (true≢false e)
-
-pub record Towards (z : ℤ) : Type 0 where
-  pub opposite : pos 0 -ℤ (z +ℤ pos 1) ≡ pos (nat_abs (z +ℤ pos 1))
-  pub less : nat_abs (z +ℤ pos 1) + 1 ≡ nat_abs z
-
--- a negative number's next is nearer to zero
-pub towards : (z : ℤ) → lt_z z (pos 0) ≡ true → Towards z
-towards (pos n) e = absurd (not-suc-le-zero (ltb-true n 0 e))
-towards (negsuc zero) e = record { opposite = refl; less = refl }
-towards (negsuc (suc n)) e =
-    let next = +ℤ_one (negsuc (suc n)) in
-    record {
-      opposite = subst⁻¹ (λ (y : ℤ). pos 0 -ℤ y ≡ pos (nat_abs y)) next (+ℤ_idl (pos (suc n)));
-      less = subst⁻¹ (λ (y : ℤ). nat_abs y + 1 ≡ suc (suc n)) next (omega arith);
-    }
-
 -- ---- equal numbers
 
 pub same_number_is : (a b : ℤ) → (same_number a b ≡ true) ↔ (a ≡ b)
@@ -114,9 +92,6 @@ same_number_is (pos a) (negsuc b) = (λ e. absurd (false≢true e), λ e. absurd
 same_number_is (negsuc a) (pos b) = (λ e. absurd (false≢true e), λ e. absurd (pos-ne-negsuc b a (sym e)))
 same_number_is (negsuc a) (negsuc b) = (λ e. ap negsuc (eqb-true a b e), λ e. eq-eqb a b (ap mag e))
 
--- the machine compares bits
-pub same_bits : (w : Width) {a b : ℤ} → SFits w a → SFits w b → eqb (of_z w a) (of_z w b) ≡ same_number a b
-same_bits w {a} {b} fa fb = one_test (eqb (of_z w a) (of_z w b)) (same_number a b) (back, λ e. eq-eqb _ _ (ap (of_z w) e)) (same_number_is a b)
-  where
-    back : eqb (of_z w a) (of_z w b) ≡ true → a ≡ b
-    back e = sym (to_z-of_z w a fa) ∙ ap (to_z w) (eqb-true _ _ e) ∙ to_z-of_z w b fb
+-- the library's equality, by which a derived `==` compares numbers, is the same test
+pub int_eq_same : (a b : ℤ) → int_eq a b ≡ same_number a b
+int_eq_same a b = one_test (int_eq a b) (same_number a b) (Decides-int_eq a b) (same_number_is a b)

@@ -1,5 +1,5 @@
 -- Comparisons by the top bit of numbers that wrap at 64 bits, and the absolute value of the number that bits are. Assumes nothing.
-use Rattle.std.proofs.Common.{◌≡◌, ℕ, suc, ◌+◌, ◌-◌, ◌%◌, ◌^◌, ◌<◌, ◌≤◌, true, ◌&&◌, ltb, leb, ◌↔◌, nat_abs, sym, ap, ◌∙◌, arith, w64, to_z, ltb-true, lt-ltb, le-leb, leb-true}
+use Rattle.std.proofs.Common.{◌≡◌, ℕ, suc, ◌+◌, ◌-◌, ◌%◌, ◌^◌, ◌<◌, ◌≤◌, true, ◌&&◌, leb, ◌↔◌, nat_abs, ap, ◌∙◌, arith, w64, to_z, ltb-true, lt-ltb, le-leb, leb-true}
 use native.Mathlib.Decide.{dec_lt}
 use lib.Bits.{bit_or, or_lt, or_add_and, and_le_l, and_le_r}
 use mir.Syntax.{Width}

@@ -4,7 +4,6 @@ ghost use Rattle.rule.specs.Averages.{signed_as, next_taken, hundredths, average
 ghost use Rattle.rule.specs.Bounds.{Averageable};
 
 use crate::limits::{MOST_SUM, TOTALS};
-use crate::numbers::magnitude;
 use crate::{Average, Pair};
 
 // One step away from zero, on the side of the sum's sign.
@@ -32,8 +31,8 @@ fn rounded(sum: i64, count: i64) -> i64
 {
     let scaled = 100 * sum;
     let quotient = scaled / count;
-    let rest = magnitude(scaled % count);
-    if next_taken(quotient, rest, count as u64) {
+    let rest = (scaled % count).unsigned_abs();
+    if next_taken(quotient, rest, count.unsigned_abs()) {
         quotient + away(sum)
     } else {
         quotient
@@ -44,13 +43,12 @@ fn rounded(sum: i64, count: i64) -> i64
 pub fn average(kind: u32, pair: Pair) -> Average
     ensures { result ≡ average kind pair }
 {
-    let sum = pair.sum;
-    let count = pair.count;
+    let Pair { sum, count } = pair;
     if (kind != TOTALS) | (count <= 0) {
         return Average::Nothing;
     }
-    if magnitude(sum) <= MOST_SUM {
-        return Average::Hundredths(rounded(sum, count as i64));
+    if sum.unsigned_abs() <= MOST_SUM {
+        return Average::Hundredths(rounded(sum, i64::from(count)));
     }
     Average::Beyond
 }

@@ -5,15 +5,19 @@
 pub mod averages;
 pub mod combine;
 pub mod limits;
-pub mod numbers;
 pub mod time;
 pub mod top_bits;
 
 // What an index answers at an instant, and what a tree entry holds.
-#[derive(Clone, Copy)]
+#[derive(Clone, Copy, PartialEq, Eq)]
 pub struct Pair {
     pub sum: i64,
     pub count: i32,
+}
+
+impl Pair {
+    // What an instant answers where nothing counts.
+    pub const NONE: Pair = Pair { sum: 0, count: 0 };
 }
 
 // An average in hundredths, document 01's 'none', or a sum that no fit page can show.

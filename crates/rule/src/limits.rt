@@ -3,8 +3,6 @@
 // "END = 4,294,967,295 is no instant."
 pub const END: u32 = 4294967295;
 
-pub const END_WIDE: u64 = END as u64;
-
 // The greatest absolute value.
 pub const MOST_VALUE: u64 = 1000000;
 

@@ -2,21 +2,20 @@
 ghost use Rattle.std.specs.Prelude.{◌≡◌};
 ghost use Rattle.rule.specs.Time.{value_ok, kind_ok, window_ok, effect_end, overlaps};
 
-use crate::limits::{END, END_WIDE, LEAST, MOST_VALUE, MOST_WINDOW, TOTALS};
-use crate::numbers::magnitude;
+use crate::limits::{LEAST, MOST_VALUE, MOST_WINDOW, TOTALS};
 
 // Whether a number is a value.
 pub fn value_ok(v: i64) -> bool
     ensures { result ≡ value_ok v }
 {
-    magnitude(v) <= MOST_VALUE
+    v.unsigned_abs() <= MOST_VALUE
 }
 
 // Whether a number names a kind.
 pub fn kind_ok(kind: u32) -> bool
     ensures { result ≡ kind_ok kind }
 {
-    (TOTALS <= kind) & (kind <= LEAST)
+    (TOTALS..=LEAST).contains(&kind)
 }
 
 // Whether a number is a window's length.
@@ -26,12 +25,11 @@ pub fn window_ok(w: u32) -> bool
     w <= MOST_WINDOW
 }
 
-// Where the effect of a booking up to e ends: the sum may pass 32 bits, so it is taken in 64.
+// Where the effect of a booking up to e ends: END is the greatest u32, so the sum stops there.
 pub fn effect_end(e: u32, w: u32) -> u32
     ensures { result ≡ effect_end e w }
 {
-    let sum = e as u64 + w as u64;
-    if sum < END_WIDE { sum as u32 } else { END }
+    e.saturating_add(w)
 }
 
 // Whether the spans [a, b) and [lo, hi) have an instant in common.

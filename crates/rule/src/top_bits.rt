@@ -13,7 +13,7 @@ pub fn at_most(a: u64, b: u64) -> u64
     requires { (a ≤ 2 ^ 63) × (b < 2 ^ 63) }
     ensures { top_clear result ≡ nat_le a b }
 {
-    std::num::wrapping_sub_u64(b, a)
+    b.wrapping_sub(a)
 }
 
 // Top bit clear where the number that the bits x are lies in -b to b: neither x + b nor b - x is below zero.
@@ -21,5 +21,5 @@ pub fn within(x: u64, b: u64) -> u64
     requires { b < 2 ^ 62 }
     ensures { top_clear result ≡ nat_le (unsigned_abs (to_z w64 x)) b }
 {
-    std::num::wrapping_add_u64(x, b) | std::num::wrapping_sub_u64(b, x)
+    x.wrapping_add(b) | b.wrapping_sub(x)
 }

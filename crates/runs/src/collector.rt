@@ -1,25 +1,25 @@
 // "While the walk goes on, one open run is updated in place at every leaf entry."
 ghost use Rattle.std.specs.Prelude.{◌≡◌, ◌<◌};
+ghost use Rattle.image.specs.Listing.{run};
 ghost use Rattle.runs.specs.Open.{stepped};
 
-use crate::Run;
 use crate::next::stepped;
-use rule::Pair;
+use crate::{ListedRun, Run};
 
-// The collector's step: the open run is updated behind its reference.
-fn step(run: &mut Run, start: u32, pair: Pair)
-    requires { run.old.written < 4294967295 }
-    ensures { run.new ≡ stepped run.old (record { start = start; pair = pair }) }
+// The collector's step: the open run is updated behind its reference, the form that document 01 names.
+fn step(r: &mut Run, x: ListedRun)
+    requires { r.old.written < 4294967295 }
+    ensures { r.new ≡ stepped r.old (run x.start x.pair) }
 {
-    *run = stepped(*run, start, pair);
+    *r = stepped(*r, x);
 }
 
-// Lends the open run to the step: by this contract, which names no reference, callers need no walk by hand.
-pub fn collect(r: Run, start: u32, pair: Pair) -> Run
+// Lends the open run to the step. This contract names no reference: callers hand the run on by value, in registers.
+pub fn collect(r: Run, x: ListedRun) -> Run
     requires { r.written < 4294967295 }
-    ensures { result ≡ stepped r (record { start = start; pair = pair }) }
+    ensures { result ≡ stepped r (run x.start x.pair) }
 {
-    let mut run = r;
-    step(&mut run, start, pair);
-    run
+    let mut next = r;
+    step(&mut next, x);
+    next
 }

@@ -14,7 +14,7 @@ fn borrowed(half: usize, img: &[u8]) -> usize
     requires { half ≤ 12 }
     ensures { result ≡ borrowed (pages_in half img.now) }
 {
-    (page_count(half, img) + 7) / 8
+    page_count(half, img).div_ceil(8)
 }
 
 // 17: whether the scratch is as long as that.

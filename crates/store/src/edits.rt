@@ -8,8 +8,7 @@ ghost use Rattle.store.specs.Encoding.{Encodes, PreLevel, PostLevel};
 ghost use Rattle.store.specs.Preconditions.{HasEntry, HasRoom};
 
 use page::Entry;
-use page::layout::page_size;
-use page::pages::page_offset;
+use page::pages::page_range;
 use page::slots::{insert_slot, remove_slot, set_slot};
 
 // The i-th entry of page p becomes e.
@@ -18,9 +17,7 @@ pub fn set_entry(half: usize, img: &mut [u8], p: u32, i: usize, e: Entry)
     ensures { PostLevel half img.old (λ l. HasEntry l p i)
         (λ l X. Encodes half img.new (put p (tree l (splice i (e ∷ []) (entries X p))) X)) }
 {
-    let a = page_offset(half, p);
-    let b = a + page_size(half);
-    set_slot(half, &mut img[a..b], i, e)
+    set_slot(half, &mut img[page_range(half, p)], i, e)
 }
 
 // e becomes the i-th entry of page p, which has room for it: those from there on move up by a slot.
@@ -29,9 +26,7 @@ pub fn insert_entry(half: usize, img: &mut [u8], p: u32, i: usize, e: Entry)
     ensures { PostLevel half img.old (λ l. HasRoom half l p i)
         (λ l X. Encodes half img.new (put p (tree l (inserted i e (entries X p))) X)) }
 {
-    let a = page_offset(half, p);
-    let b = a + page_size(half);
-    insert_slot(half, &mut img[a..b], i, e)
+    insert_slot(half, &mut img[page_range(half, p)], i, e)
 }
 
 // Page p loses its i-th entry: those behind it move down by a slot, and the last slot is unused then.
@@ -40,7 +35,5 @@ pub fn remove_entry(half: usize, img: &mut [u8], p: u32, i: usize)
     ensures { PostLevel half img.old (λ l. HasEntry l p i)
         (λ l X. Encodes half img.new (put p (tree l (splice i [] (entries X p))) X)) }
 {
-    let a = page_offset(half, p);
-    let b = a + page_size(half);
-    remove_slot(half, &mut img[a..b], i)
+    remove_slot(half, &mut img[page_range(half, p)], i)
 }

@@ -44,10 +44,10 @@ pub fn find_entry(half: usize, img: &[u8], p: u32, hi: u32, t: u32) -> Found
     ensures { PostLevel half img.now (λ l. Searchable l p t) (λ l X. result ≡ found_in hi t (entries X p)) }
 {
     let s = page_at(half, img, p);
-    let n = entry_count(s) as usize;
-    let found = find(s, n, hi, t);
+    let count = entry_count(s) as usize;
+    let found = find(s, count, hi, t);
     Found {
-        count: n,
+        count,
         index: found.index,
         entry: entry_at(half, s, found.index),
         end: found.end,

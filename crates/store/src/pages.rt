@@ -10,8 +10,10 @@ ghost use Rattle.store.specs.Preconditions.{InImage, TreePage};
 use access::pages::page_at;
 use page::Page;
 use page::at::next_of;
-use page::pages::{write_free_at, write_page_at};
+use page::blank::write_free;
+use page::pages::page_range;
 use page::read::read_page;
+use page::write::write_page;
 
 // The tree page p as a struct.
 pub fn load(half: usize, img: &[u8], p: u32) -> Page
@@ -31,12 +33,12 @@ pub(crate) fn next_free(half: usize, img: &[u8], p: u32) -> u32
 
 // Page p becomes the tree page of a struct.
 pub fn save(half: usize, img: &mut [u8], p: u32, page: Page)
-    requires pre { Pre half img.old (InImage p) }
-    requires level_bound { (page.level < 255) × (page.len ≤ capacity half) }
+    requires in_image { Pre half img.old (InImage p) }
+    requires writable { (page.level < 255) × (page.len ≤ capacity half) }
     ensures { Post half img.old (InImage p)
         (λ X. Encodes half img.new (put p (tree page.level (entry_list page)) X)) }
 {
-    write_page_at(half, img, p, page)
+    write_page(half, &mut img[page_range(half, p)], page)
 }
 
 // Page p becomes a free page.
@@ -44,5 +46,5 @@ pub(crate) fn set_free(half: usize, img: &mut [u8], p: u32, next: u32)
     requires { Pre half img.old (InImage p) }
     ensures { Post half img.old (InImage p) (λ X. Encodes half img.new (put p (free next) X)) }
 {
-    write_free_at(half, img, p, next)
+    write_free(half, &mut img[page_range(half, p)], next)
 }

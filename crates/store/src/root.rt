@@ -16,7 +16,7 @@ pub fn root_entry(h: Head) -> Entry
 {
     Entry {
         start: 0,
-        pair: Pair { sum: 0, count: 0 },
+        pair: Pair::NONE,
         child: h.root,
     }
 }
@@ -26,10 +26,15 @@ pub fn set_root(half: usize, img: &mut [u8], height: u32, p: u32)
     requires { Pre half img.old Any }
     ensures { Post half img.old Any (λ X. Encodes half img.new (with_root height p X)) }
 {
-    let mut h = head_of(half, img);
-    h.height = height;
-    h.root = p;
-    set_head(img, h);
+    let h = head_of(half, img);
+    set_head(
+        img,
+        Head {
+            height,
+            root: p,
+            ..h
+        },
+    );
 }
 
 // "Then changes rises by 1."
@@ -37,7 +42,12 @@ pub fn count_change(half: usize, img: &mut [u8])
     requires { Pre half img.old Countable }
     ensures { Post half img.old Countable (λ X. Encodes half img.new (count_change X)) }
 {
-    let mut h = head_of(half, img);
-    h.changes = h.changes + 1;
-    set_head(img, h);
+    let h = head_of(half, img);
+    set_head(
+        img,
+        Head {
+            changes: h.changes + 1,
+            ..h
+        },
+    );
 }

@@ -6,24 +6,35 @@ ghost use Rattle.store.specs.Preconditions.{Takable, Givable};
 
 use super::heads::{head_of, set_head};
 use super::pages::{next_free, set_free};
+use page::Head;
 
 // Takes a page. Its bytes stay: whoever takes it writes it.
 pub fn take(half: usize, img: &mut [u8]) -> u32
     requires { Pre half img.old Takable }
     ensures { Post half img.old Takable (λ X. (result ≡ spare X) × Encodes half img.new (taken X)) }
 {
-    let mut h = head_of(half, img);
+    let h = head_of(half, img);
     if h.chain == 0 {
-        let p = h.mark;
-        h.mark = p + 1;
-        set_head(img, h);
-        return p;
+        set_head(
+            img,
+            Head {
+                mark: h.mark + 1,
+                ..h
+            },
+        );
+        h.mark
+    } else {
+        let next = next_free(half, img, h.free);
+        set_head(
+            img,
+            Head {
+                free: next,
+                chain: h.chain - 1,
+                ..h
+            },
+        );
+        h.free
     }
-    let p = h.free;
-    h.free = next_free(half, img, p);
-    h.chain = h.chain - 1;
-    set_head(img, h);
-    p
 }
 
 // Gives page p back: it is the chain's first now, and leads to the one that was.
@@ -31,10 +42,14 @@ pub fn give_back(half: usize, img: &mut [u8], p: u32)
     requires { Pre half img.old (Givable p) }
     ensures { Post half img.old (Givable p) (λ X. Encodes half img.new (given_back p X)) }
 {
-    let mut h = head_of(half, img);
-    let first = h.free;
-    h.free = p;
-    h.chain = h.chain + 1;
-    set_head(img, h);
-    set_free(half, img, p, first);
+    let h = head_of(half, img);
+    set_head(
+        img,
+        Head {
+            free: p,
+            chain: h.chain + 1,
+            ..h
+        },
+    );
+    set_free(half, img, p, h.free);
 }

@@ -1,33 +1,34 @@
--- Reading a line: where a byte stands next, and which line an answer of `parse` is. Assumes nothing.
-use Rattle.std.specs.Prelude.{ℕ, suc, ◌+◌, ◌≤◌, min, ◌≡◌, Bool, true, false, cond, List, [], ◌∷◌, length, take, drop, eqb}
-use Rattle.calls.specs.Changes.{Side, entering, withdrawing}
-use Rattle.calls.specs.Program.{Line, booking, unread}
-use Rattle.text.specs.declared.Fed.{Fed}
-use Rattle.text.specs.declared.Parsed.{Parsed}
-use Rattle.text.specs.declared.Parsed.TheVariants.{Enter, Withdraw, Unread}
+-- Reading a line: what a field is, and which line an answer of `parse` is. Assumes nothing.
+use Rattle.std.specs.Prelude.{ℕ, ◌≡◌, cond, Option, Some, None, ℤ, List, [], ◌∷◌, take, eqb}
+use Rattle.calls.specs.Program.{Line, booking, unread, number_read, number_from, instant_read, value_read, value_from}
+use Rattle.calls.specs.declared.bookings.Side as declared
+use Rattle.calls.specs.declared.bookings.Side.TheVariants.{Entering, Withdrawing}
+use Rattle.calls.specs.declared.bookings.Booking.{Booking}
+use Rattle.calls.specs.Bookings.{side_of}
 
--- how many bytes stand before the first c, or in all if there is none
-unfoldable pub ahead : ℕ → List ℕ → ℕ
-ahead c [] = 0
-ahead c (x ∷ xs) = cond (eqb x c) 0 (suc (ahead c xs))
+-- "1 to 10 digits": the number that a field is, if it is one
+unfoldable pub number_of : List ℕ → Option ℕ
+number_of ds = cond (number_read ds) (Some (number_from 0 ds)) None
 
--- the offset of the first byte b of s at `from` or behind it, or the end
-pub record Found (s : List ℕ) (b from offset : ℕ) : Type 0 where
-  pub there : offset ≡ from + ahead b (drop from s)
-  pub within : offset ≤ length s
+-- "s and e at most END"
+unfoldable pub instant_of : List ℕ → Option ℕ
+instant_of ds = cond (instant_read ds) (Some (number_from 0 ds)) None
+
+-- "v may have a minus"
+unfoldable pub value_of : List ℕ → Option ℤ
+value_of ds = cond (value_read ds) (Some (value_from ds)) None
+
+-- the side of a sign, + (43) or - (45), alone
+unfoldable pub sign_of : List ℕ → Option declared.Side
+sign_of [] = None
+sign_of (c ∷ []) = cond (eqb c 43) (Some Entering) (cond (eqb c 45) (Some Withdrawing) None)
+sign_of (c ∷ d ∷ ds) = None
 
 -- "`+ v s e` or `- v s e`", or "any other form"
-unfoldable pub line_of : Parsed → Line
-line_of (Enter v s e) = booking entering v s e
-line_of (Withdraw v s e) = booking withdrawing v s e
-line_of Unread = unread
+unfoldable pub line_of : Option Booking → Line
+line_of (Some b) = booking (side_of b.side) b.value b.start b.end
+line_of None = unread
 
--- the side of a sign, `+` or `-`
-unfoldable pub side_of : Bool → Side
-side_of true = entering
-side_of false = withdrawing
-
--- what is kept of a line: its first 36 bytes, and how many of them there are
-pub record Holds (f : Fed) (line : List ℕ) : Type 0 where
-  pub count : f.length ≡ min (length line) 36
-  pub same : take f.length f.bytes ≡ take 36 line
+-- what is kept of a line: its first 36 bytes
+abbrev pub Holds : List ℕ → List ℕ → Type 0
+Holds kept line = kept ≡ take 36 line

@@ -1,43 +1,71 @@
 // A line that comes byte by byte, of any length, in a buffer of fixed size.
-ghost use Rattle.std.specs.Prelude.{◌≡◌, ℕ, List, [], ◌∷◌, ◌++◌};
+ghost use Rattle.std.specs.Prelude.{◌≡◌, ℕ, ◌≤◌, List, [], ◌∷◌, ◌++◌, take, length};
 ghost use Rattle.calls.specs.Program.{cut_at, line_from};
 ghost use Rattle.text.specs.Reading.{line_of, Holds};
 
 use super::parse::parse;
-use super::{FED_BYTES, Fed, LINE_BYTES, Parsed};
+use super::{FED_BYTES, LINE_BYTES};
+use calls::bookings::Booking;
+use std::marker::Model;
 
-// A line of which nothing has come.
-pub fn none_fed() -> Fed
-    ensures { Holds result [] }
-{
-    Fed {
-        bytes: [0; FED_BYTES],
-        length: 0,
-    }
+// The line that is being read: its first bytes, as many as there is room for. A line of any length is told from a booking by these.
+#[derive(Drop)]
+pub struct Fed {
+    bytes: [u8; FED_BYTES],
+    length: usize,
 }
 
-// The line with one byte more.
-pub fn feed(f: Fed, b: u8) -> Fed
-    ensures { (line : List ℕ) → Holds f line → Holds result (line ++ (b ∷ [])) }
-{
-    let at = f.length;
-    let mut r = f;
-    if at < FED_BYTES {
-        r.bytes[at] = b;
-        r.length = at + 1;
-        return r;
-    }
-    r
+impl Model for Fed {
+    ghost Value = { List ℕ };
+
+    ghost view = { λ f. take f.length f.bytes };
+
+    ghost invariant = { λ f. f.length ≤ 36 };
 }
 
-// The line that has come, parsed.
-pub fn parse_fed(f: Fed) -> Parsed
-    ensures { (line : List ℕ) → Holds f line → line_of result ≡ line_from (cut_at 32 line) }
-{
-    let n = f.length;
-    if LINE_BYTES < n {
-        return Parsed::Unread;
+impl Fed {
+    // A line of which nothing has come.
+    pub fn new() -> Self
+        ensures { Holds result [] }
+    {
+        Fed {
+            bytes: [0; FED_BYTES],
+            length: 0,
+        }
     }
-    let bytes = f.bytes;
-    parse(&bytes[..n])
+
+    // The line has one byte more.
+    pub fn feed(&mut self, b: u8)
+        ensures { (line : List ℕ) → Holds self.old line → Holds self.new (line ++ (b ∷ [])) }
+    {
+        if self.length < FED_BYTES {
+            self.bytes[self.length] = b;
+            self.length += 1;
+        }
+    }
+
+    // What is kept of it.
+    fn kept(&self) -> &[u8]
+        ensures { result.now ≡ self.now }
+    {
+        &self.bytes[..self.length]
+    }
+
+    // How many bytes of it are kept.
+    pub fn len(&self) -> usize
+        ensures { result ≡ length self.now }
+    {
+        self.kept().len()
+    }
+
+    // The line that has come, parsed.
+    pub fn parse(&self) -> Option<Booking>
+        ensures { (line : List ℕ) → Holds self.now line → line_of result ≡ line_from (cut_at 32 line) }
+    {
+        let line = self.kept();
+        if line.len() > LINE_BYTES {
+            return None;
+        }
+        parse(line)
+    }
 }

@@ -1,40 +1,22 @@
 // The fields behind the sign: a value and two instants.
-ghost use Rattle.std.specs.Prelude.{◌≡◌, true};
-ghost use Rattle.calls.specs.Program.{instant_read, value_read, value_from};
+ghost use Rattle.std.specs.Prelude.{◌≡◌};
+ghost use Rattle.text.specs.Reading.{instant_of, value_of};
 
-use super::digits::{number_from, number_read};
-use rule::limits::END_WIDE;
+use super::digits::number;
 
-// Document 01: "s and e at most END"
-pub(crate) fn instant_read(ds: &[u8]) -> bool
-    ensures { result ≡ instant_read ds.now }
+// Document 01: "s and e at most END", which is the greatest u32.
+pub(crate) fn instant(ds: &[u8]) -> Option<u32>
+    ensures { result ≡ instant_of ds.now }
 {
-    if !number_read(ds) {
-        return false;
-    }
-    number_from(ds) <= END_WIDE
+    u32::try_from(number(ds)?).ok()
 }
 
-// Document 01: "v may have a minus"
-pub(crate) fn value_read(v: &[u8]) -> bool
-    ensures { result ≡ value_read v.now }
+// Document 01: "v may have a minus". Ten digits and a minus fit an i64.
+pub(crate) fn value(v: &[u8]) -> Option<i64>
+    ensures { result ≡ value_of v.now }
 {
-    if v.len() == 0 {
-        return false;
+    match v.strip_prefix(b"-") {
+        Some(digits) => Some(-(number(digits)? as i64)),
+        None => Some(number(v)? as i64),
     }
-    if v[0] == b'-' {
-        return number_read(&v[1..]);
-    }
-    number_read(v)
-}
-
-// The value: ten digits and a minus fit an i64.
-pub(crate) fn value_from(ds: &[u8]) -> i64
-    requires { value_read ds.now ≡ true }
-    ensures { result ≡ value_from ds.now }
-{
-    if ds[0] == b'-' {
-        return -(number_from(&ds[1..]) as i64);
-    }
-    number_from(ds) as i64
 }

@@ -1,7 +1,7 @@
 -- What an accepted booking finds: an image that can be changed, and an effect within its bounds. Assumes nothing.
 use Prim.Native.Nat.{ℕ, ◌≤◌, ◌<◌}
 use mathlib.Core.Path.{◌≡◌, refl, ap, ◌∙◌, subst⁻¹}
-use mathlib.Core.Bool.{Bool, true, false, cond, not, ◌&&◌, true≢false}
+use mathlib.Core.Bool.{Bool, true, false, not, ◌&&◌, true≢false}
 use mathlib.Core.List.{List, [], ◌∷◌}
 use mathlib.Core.Logic.{◌≢◌}
 use native.Mathlib.Omega.{arith}
@@ -27,8 +27,7 @@ use Rattle.change.specs.Changeable.{Changeable}
 use Rattle.soundness.proofs.Sound.{sound_old}
 use Rattle.page_need.proofs.Held.{sound_holds}
 use Rattle.preconditions.proofs.Changes.{changeable}
-use Rattle.booking.specs.declared.StateCheck.TheVariants.{Accepted, Refused}
-use Rattle.booking.specs.Rows.{state_check, Accepts}
+use Rattle.booking.specs.Rows.{Accepts}
 
 -- the four tests are passed
 pub record Passed (unsound other full lacking : Bool) : Type 0 where
@@ -37,16 +36,14 @@ pub record Passed (unsound other full lacking : Bool) : Type 0 where
   pub few : full ≡ false
   pub enough : lacking ≡ false
 
-passed : (unsound other full lacking : Bool) {h g : Head}
-    → Accepted h ≡ cond (eqb (first ((21, unsound) ∷ (22, other) ∷ (23, full) ∷ (24, lacking) ∷ [])) 0) (Accepted g)
-    (Refused (first ((21, unsound) ∷ (22, other) ∷ (23, full) ∷ (24, lacking) ∷ [])))
-    → Passed unsound other full lacking × (h ≡ g)
+passed : (unsound other full lacking : Bool) → first ((21, unsound) ∷ (22, other) ∷ (23, full) ∷ (24, lacking) ∷ []) ≡ 0
+    → Passed unsound other full lacking
 unfolding first
-passed true other full lacking e = absurd (let z : ◌≡◌ {A = ℕ} 0 1 = cc in omega arith)
-passed false true full lacking e = absurd (let z : ◌≡◌ {A = ℕ} 0 1 = cc in omega arith)
-passed false false true lacking e = absurd (let z : ◌≡◌ {A = ℕ} 0 1 = cc in omega arith)
-passed false false false true e = absurd (let z : ◌≡◌ {A = ℕ} 0 1 = cc in omega arith)
-passed false false false false e = (record { is_sound = refl; sided = refl; few = refl; enough = refl }, cc)
+passed true other full lacking e = absurd (omega arith)
+passed false true full lacking e = absurd (omega arith)
+passed false false true lacking e = absurd (omega arith)
+passed false false false true e = absurd (omega arith)
+passed false false false false e = record { is_sound = refl; sided = refl; few = refl; enough = refl }
 
 of_not : (b : Bool) → not b ≡ false → b ≡ true
 of_not true e = refl
@@ -55,15 +52,10 @@ of_not false e = absurd (true≢false e)
 module _ {half : ℕ} {side : Side} {v : ℤ} {s e : ℕ} {img : List ℕ} {h : Head} (a : Accepts half side v s e img h) where
   facts : Passed (not (sound half img)) (withdraws side && not (eqb (head half img).kind 1)) (eqb (head half img).changes most_changes)
       (lacks_pages half s (effect_end e (head half img).window) (image_of half img))
-      × (h ≡ head half img)
-  unfolding state_check
-  facts = passed _ _ _ _ a.judged_so
-
-  accepted_head : h ≡ head half img
-  accepted_head = facts.1
+  facts = passed _ _ _ _ a.not_refused
 
   accepted_sound : sound half img ≡ true
-  accepted_sound = of_not _ facts.0.is_sound
+  accepted_sound = of_not _ facts.is_sound
 
   abbrev X : Image
   X = image_of half img
@@ -76,7 +68,7 @@ module _ {half : ℕ} {side : Side} {v : ℤ} {s e : ℕ} {img : List ℕ} {h : 
   unfolding image_of head
   ready =
       let g = sound_invariant half img (omega (arith, a.half_least)) accepted_sound in
-      let f = facts.0 in
+      let f = facts in
       let n : (head half img).changes ≢ most_changes = eqb-false (head half img).changes most_changes f.few in
       changeable a.half_least s end (effect side v) g (effective (head half img).kind side v a.fits f.sided)
       (below (head half img).changes most_changes g.structure.changes_most n) f.enough
@@ -87,11 +79,11 @@ module _ {half : ℕ} {side : Side} {v : ℤ} {s e : ℕ} {img : List ℕ} {h : 
   -- by the head that was judged
   module _ (bytes : Bytes img) {to : ℕ} {p : Pair} (same_end : to ≡ effect_end e h.window) (same_effect : p ≡ effect side v) where
     end_so : to ≡ end
-    end_so = same_end ∙ ap (λ (g : Head). effect_end e g.window) accepted_head
+    end_so = same_end ∙ ap (λ (g : Head). effect_end e g.window) a.shown
 
     ready_so : Changeable half h.kind s to p X
     ready_so =
-        subst⁻¹ (λ (g : Head). Changeable half g.kind s to p X) accepted_head
+        subst⁻¹ (λ (g : Head). Changeable half g.kind s to p X) a.shown
         (subst⁻¹ (λ t. Changeable half (head half img).kind s t p X) end_so
         (subst⁻¹ (λ q. Changeable half (head half img).kind s end q X) same_effect ready))
 
@@ -106,4 +98,4 @@ module _ {half : ℕ} {side : Side} {v : ℤ} {s e : ℕ} {img : List ℕ} {h : 
         → after ≡ changed half side v s e img
     unfolding changed
     accepted_changed g =
-        (g X holds ready_so).bytes ∙ (λ j. image_bytes half (change half (combine (accepted_head j).kind) s (end_so j) (same_effect j) X))
+        (g X holds ready_so).bytes ∙ (λ j. image_bytes half (change half (combine (a.shown j).kind) s (end_so j) (same_effect j) X))

@@ -7,16 +7,14 @@ use mathlib.Core.List.{List, [], ◌∷◌, ◌++◌}
 use native.Mathlib.Omega.{arith}
 use lib.Dec.{eqb}
 use lib.IntN.{ℤ}
-use borrow.Author.Tests.{eqb-true, ne_eqb, ltb-true}
+use borrow.Author.Tests.{ne_eqb, ltb-true}
 use Rattle.rule.specs.Time.{span_ok, value_ok}
 use Rattle.page.specs.declared.Head.{Head}
 use Rattle.image.specs.Images.{pages_in, length_ok}
 use Rattle.calls.specs.Refusals.{Row, first, borrowed, scratch_ok, cleared, scratch_after}
 use Rattle.calls.specs.Changes.{Side}
-use Rattle.calls.specs.Calls.{Booked, head, book_input_rows, book_status, changed, book}
-use Rattle.booking.specs.declared.StateCheck.TheVariants.{Accepted, Refused}
-use Rattle.calls.specs.Calls.{book_state_rows}
-use Rattle.booking.specs.Rows.{state_check, Accepts}
+use Rattle.calls.specs.Calls.{Booked, head, book_input_rows, book_state_rows, book_status, changed, book}
+use Rattle.booking.specs.Rows.{Accepts}
 
 -- ---- rows
 
@@ -113,32 +111,14 @@ module _ (half : ℕ) (side : Side) (v : ℤ) (s e : ℕ) (img scratch : List �
         ∙ (λ j. record { status = number j; image = cond (eqb (number j) 0) done img; scratch = cond (eqb (sym z j) 0) clean scratch })
         ∙ book_is
 
-    -- what a judgement says of the later rows
-    refused_row : (n : ℕ) (h : Head) {row : ℕ} → Refused row ≡ cond (eqb n 0) (Accepted h) (Refused n) → (row ≡ n) × (eqb n 0 ≡ false)
-    refused_row n h {row} = go (eqb n 0) refl
-      where
-        go : (b : Bool) → eqb n 0 ≡ b → Refused row ≡ cond b (Accepted h) (Refused n) → (row ≡ n) × (b ≡ false)
-        go true f e = absurd (let y : ◌≡◌ {A = ℕ} 0 1 = cc in omega arith)
-        go false f e = (cc, refl)
+    pub book_late_out : {n : ℕ} {left : List ℕ} → n ≡ first late → n ≢ 0 → left ≡ clean
+        → record { status = n; image = img; scratch = left } ≡ book borrowed half side v s e img scratch
+    book_late_out {n} r d c = by_late r (sym (ap (λ b. cond b done img) (ne_eqb n 0 d))) c
 
-    accepted_row : (n : ℕ) (g : Head) {h : Head} → Accepted h ≡ cond (eqb n 0) (Accepted g) (Refused n) → n ≡ 0
-    accepted_row n g {h} = go (eqb n 0) refl
-      where
-        go : (b : Bool) → eqb n 0 ≡ b → Accepted h ≡ cond b (Accepted g) (Refused n) → n ≡ 0
-        go true f e = eqb-true n 0 f
-        go false f e = absurd (let y : ◌≡◌ {A = ℕ} 0 1 = cc in omega arith)
-
-    pub book_late_out : {row : ℕ} {left : List ℕ} → Refused row ≡ state_check half side s e img → left ≡ clean
-        → record { status = row; image = img; scratch = left } ≡ book borrowed half side v s e img scratch
-    unfolding state_check
-    book_late_out j c =
-        let r = refused_row (first late) (head half img) j in
-        by_late r.0 (sym (ap (λ b. cond b done img) (ap (λ n. eqb n 0) r.0 ∙ r.1))) c
-
-    pub book_done : {h : Head} {after left : List ℕ} → Accepted h ≡ state_check half side s e img → after ≡ done → left ≡ clean
+    pub book_done : {after left : List ℕ} → 0 ≡ first late → after ≡ done → left ≡ clean
         → record { status = 0; image = after; scratch = left } ≡ book borrowed half side v s e img scratch
-    unfolding state_check
-    book_done j a c = by_late (sym (accepted_row (first late) (head half img) j)) a c
+    book_done r a c = by_late r a c
 
-    pub accepts : {h : Head} → Accepted h ≡ state_check half side s e img → 2 ≤ half → half ≤ 12 → Accepts half side v s e img h
-    accepts j least most = record { half_least = least; half_most = most; span = early_span; fits = early_fits; judged_so = j }
+    pub accepts : {h : Head} → first late ≡ 0 → h ≡ head half img → 2 ≤ half → half ≤ 12 → Accepts half side v s e img h
+    accepts r k least most =
+        record { half_least = least; half_most = most; span = early_span; fits = early_fits; not_refused = r; shown = k }

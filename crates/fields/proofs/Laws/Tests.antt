@@ -93,12 +93,7 @@ pub unused_all_are : (n : ℕ) (xs : List ℕ) → length xs ≡ n → all_are 2
 unfolding unused
 unused_all_are n xs e h = all_are_true 255 xs h ∙ ap (λ k. replicate k 255) e
 
--- ---- a loop over the words of a part, each of k bytes: m is the number of k bytes FF
-
--- the `and` of the words passed is m exactly where their n bytes are FF
-pub record Ones (m : ℕ) (s : List ℕ) (a n all : ℕ) : Type 0 where
-  pub most : all ≤ m
-  pub same : eqb all m ≡ all_are 255 (part s a n)
+-- ---- the words of a part, each of k bytes: m is the number of k bytes FF
 
 module _ (k m : ℕ) (ff : digits k m ≡ unused k) (full : suc m ≡ 256 ^ k) where
   below : (n : ℕ) → n < 256 ^ k → n ≤ m
@@ -117,27 +112,25 @@ module _ (k m : ℕ) (ff : digits k m ≡ unused k) (full : suc m ≡ 256 ^ k) w
           let l : m < 256 ^ k = rw (← full) (omega arith) in
           eq-eqb _ _ ((unsigned k).at_bytes s o m (unused_all_are k (part s o k) (length_part s o k h) e ∙ sym ff) l)
 
-  pub ones_none : (s : List ℕ) (a : ℕ) → Ones m s a 0 m
-  ones_none s a = record { most = omega arith; same = eq-eqb m m refl ∙ sym (all_are_none 255 s a) }
-
-  pub ones_more : {s : List ℕ} {a n all : ℕ} (next w : ℕ) → Ones m s a n all → Bytes s → a + n + k ≤ length s → next ≡ n + k
-      → w ≡ num (part s (a + n) k) → Ones m s a next (bit_and all w)
-  ones_more {s} {a} {n} {all} next w o b h e f =
-      let v = num (part s (a + n) k) in
-      record {
-        most = omega (arith, o.most, and_le_l all w);
-        same = ap (λ x. eqb (bit_and all x) m) f
-            ∙ and_ones m all v o.most (below v ((unsigned k).at_fits s (a + n) b))
-            ∙ ap₂ ◌&&◌ o.same (word_unused s (a + n) b h)
-            ∙ sym (all_are_append 255 (part s a n) (part s (a + n) k))
-            ∙ ap (all_are 255) (sym (part_add s a n k) ∙ ap (part s a) (sym e));
-      }
+  -- the `and` of a number and a word is m exactly where the number is m and the word's bytes are FF
+  pub and_word : (s : List ℕ) (o all w : ℕ) → Bytes s → o + k ≤ length s → all ≤ m → w ≡ num (part s o k)
+      → eqb (bit_and all w) m ≡ (eqb all m && all_are 255 (part s o k))
+  and_word s o all w b h l f =
+      let v = num (part s o k) in
+      ap (λ x. eqb (bit_and all x) m) f
+      ∙ and_ones m all v l (below v ((unsigned k).at_fits s o b))
+      ∙ ap (λ t. eqb all m && t) (word_unused s o b h)
 
 -- a part in two
 pub all_are_split : (b : ℕ) (s : List ℕ) (a n m l : ℕ) → n + m ≡ l
     → (all_are b (part s a n) && all_are b (part s (a + n) m)) ≡ all_are b (part s a l)
 all_are_split b s a n m l e =
     sym (all_are_append b (part s a n) (part s (a + n) m)) ∙ ap (all_are b) (sym (part_add s a n m) ∙ ap (part s a) e)
+
+-- a test of a part, and of what stands behind it too
+pub all_are_next : (b : ℕ) (s : List ℕ) (a n m l : ℕ) {before now : Bool} → before ≡ all_are b (part s a n)
+    → now ≡ (before && all_are b (part s (a + n) m)) → n + m ≡ l → now ≡ all_are b (part s a l)
+all_are_next b s a n m l passed next e = next ∙ ap (λ t. t && all_are b (part s (a + n) m)) passed ∙ all_are_split b s a n m l e
 
 -- ---- p of each number below n
 

@@ -1,5 +1,5 @@
 -- The limits of a page allow an entry exactly where it may stand there, by the kind and by what is left of the bounds. Assumes nothing.
-use Rattle.std.proofs.Common.{◌≡◌, ℕ, zero, ◌+◌, ◌-◌, ◌*◌, ◌%◌, ◌^◌, ◌<◌, ◌≤◌, Bool, true, false, cond, ◌&&◌, eqb, ltb, leb, ◌⊎◌, ◌↔◌, ℤ, pos, negsuc, nat_abs, sym, refl, ap, ◌∙◌, ap₂, inl, inr, arith, w32, w64, Fits, to_z, le-ltb, eq-eqb, eqb-true}
+use Rattle.std.proofs.Common.{◌≡◌, ℕ, ◌+◌, ◌-◌, ◌*◌, ◌%◌, ◌^◌, ◌<◌, ◌≤◌, Bool, true, false, cond, ◌&&◌, eqb, ltb, leb, ◌⊎◌, ℤ, pos, negsuc, nat_abs, sym, refl, ap, ◌∙◌, ap₂, inl, inr, arith, w32, w64, to_z, le-ltb, eq-eqb, eqb-true}
 use mathlib.Core.Bool.{and-false, and-eq-true_iff, false≢true}
 use native.Mathlib.Decide.{dec_lt}
 use lib.Dec.{leb-zero}
@@ -11,10 +11,9 @@ use Rattle.rule.proofs.Tests.{one_test, both}
 use Rattle.rule.proofs.Laws.{value_or_none_is}
 use Rattle.rule.proofs.Wrapped.{abs_low, abs_high}
 use Rattle.page.specs.declared.Head.{Head}
-use Rattle.page.specs.Fit.{PageContext, child_ok, pair_ok}
-use Rattle.fit.specs.declared.Limits.{Limits}
-use Rattle.fit.specs.Limits.{allows, Small, LimitsOf}
-use Rattle.fit.proofs.Tests.{le_is, lt_is, eq_is}
+use Rattle.page.specs.Fit.{PageContext, child_ok}
+use Rattle.fit.specs.Limits.{allows, LimitsOf}
+use Rattle.fit.proofs.Tests.{le_is, lt_is}
 use Rattle.fit.proofs.Laws.Parts.{pair_total, pair_mark}
 
 -- ---- the child, by the level

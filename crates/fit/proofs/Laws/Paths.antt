@@ -1,6 +1,6 @@
 -- A walk down from a fit head stays within bounds. Assumes nothing.
 use Rattle.std.proofs.Common.{◌≡◌, ℕ, ◌+◌, ◌*◌, ◌<◌, ◌≤◌, Bool, true, false, cond, eqb, List, nat_abs, refl, mul-one, mul-add, arith}
-use Rattle.rule.specs.Time.{Span, most_value}
+use Rattle.rule.specs.Time.{most_value}
 use Rattle.rule.proofs.Laws.{value_or_none_bound}
 use Rattle.page.specs.declared.Head.{Head}
 use Rattle.page.specs.Layout.{entry_count, pair_at}

@@ -1,18 +1,17 @@
 -- The leaves below a page as walks in turn, and a leaf as its own one. Assumes nothing.
+use Rattle.std.specs.Prelude.{Option, Some}
 use mathlib.Core.Path.{◌≡◌, refl, sym}
 use mathlib.Core.Bool.{Bool, true, false, cond}
 use mathlib.Core.List.{List}
 use Prim.Native.Nat.{ℕ, ◌≤◌, ◌<◌}
 use native.Mathlib.Omega.{arith}
 use lib.Dec.{eqb}
-use borrow.Author.Tests.{eq-eqb, ne_eqb, eqb-true, eqb-false}
+use borrow.Author.Tests.{eqb-true, eqb-false}
 use Rattle.image.specs.Listing.{Walked, nothing, then, in_turn}
 use Rattle.runs.specs.declared.Run.{Run}
 use Rattle.listing.specs.declared.SpanQuery.{SpanQuery}
 use Rattle.listing.specs.declared.Cursor.{Cursor}
-use Rattle.listing.specs.declared.EntryRange.{EntryRange}
-use Rattle.listing.specs.declared.PageCheck.TheVariants.{Entries}
-use Rattle.listing.specs.declared.WalkAnswer.{WalkAnswer}
+use Rattle.std.specs.declared.ops.Range.{Range}
 use Rattle.listing.specs.Walks.{bytes_at, page_walk, page_check, entry_walk, cursor_below, leaf_cursor, Room, Does}
 use Rattle.listing.specs.Cursors.{ValidCursor, ValidEntry}
 use Rattle.listing.specs.Met.{LeafRange}
@@ -37,7 +36,7 @@ not_leaf on z =
     let h : on.at.level ≡ 0 → ⊥ = eqb-false on.at.level 0 z in
     omega arith
 
-module _ {img : List ℕ} {q : SpanQuery} {on : Cursor} {n : ℕ} {r : EntryRange} (e : Entries n ≡ page_check img q on)
+module _ {img : List ℕ} {q : SpanQuery} {on : Cursor} {n : ℕ} {r : Range ℕ} (e : Some n ≡ page_check img q on)
     (range : LeafRange img q on n r) where
   pub leaves_ranged : q.half ≤ 12 → Ranged (page_walk img q on) (leaf_walk img q on) (leaf_count on n) r
   unfolding leaf_walk leaf_count
@@ -59,7 +58,7 @@ module _ {img : List ℕ} {q : SpanQuery} {on : Cursor} {n : ℕ} {r : EntryRang
           }
       go false z = entries_ranged img q on few e (range.below (not_leaf on z))
 
-  pub leaf_entry : {i : ℕ} → r.from ≤ i → i < r.to → 1 ≤ on.at.level → ValidEntry img q on i
+  pub leaf_entry : {i : ℕ} → r.start ≤ i → i < r.end → 1 ≤ on.at.level → ValidEntry img q on i
   leaf_entry l h inner = entry_met img q on e (range.below inner) l h
 
 -- The i-th leaf is a leaf that the walk can go on at, and its walk is what it gives.
@@ -87,17 +86,6 @@ module _ {img : List ℕ} {q : SpanQuery} {on leaf : Cursor} {i : ℕ} {writing 
   pub leaf_room : {known : Bool} → Room known writing run (leaf_walk img q on i) out → Room known writing run (page_walk img q leaf) out
   leaf_room h = rw here.gives at h
 
-  pub leaf_does : {r : WalkAnswer} {left : List ℕ} → Does writing run (page_walk img q leaf) out r left
+  pub leaf_does : {r : Option Run} {left : List ℕ} → Does writing run (page_walk img q leaf) out r left
       → Does writing run (leaf_walk img q on i) out r left
   leaf_does d = rw here.gives d
-
--- ---- the two ways to a leaf
-
-module _ (img : List ℕ) (q : SpanQuery) (on : Cursor) (i : ℕ) where
-  pub leaf_itself : on.at.level ≡ 0 → on ≡ leaf_cursor img q on i
-  unfolding leaf_cursor
-  leaf_itself z = rw (eq-eqb on.at.level 0 z)
-
-  pub leaf_below : 1 ≤ on.at.level → cursor_below q (bytes_at q.half img on) on i ≡ leaf_cursor img q on i
-  unfolding leaf_cursor
-  leaf_below l = rw (ne_eqb on.at.level 0 (λ z. absurd (omega arith)))

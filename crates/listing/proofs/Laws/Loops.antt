@@ -1,6 +1,8 @@
 -- What the code is told of a page and its entries. Assumes nothing.
+use Rattle.std.specs.Prelude.{Option, Some, None}
+use Rattle.std.proofs.lemmas.Option.{cond_some}
 use mathlib.Core.Path.{◌≡◌, refl, sym, ap, ◌∙◌}
-use mathlib.Core.Bool.{Bool, true, false, cond, false≢true}
+use mathlib.Core.Bool.{Bool, true, false, false≢true}
 use mathlib.Core.List.{List}
 use Prim.Native.Nat.{ℕ, ◌≤◌, ◌<◌}
 use native.Mathlib.Omega.{arith}
@@ -12,21 +14,18 @@ use Rattle.image.specs.Listing.{Walked, stopped, in_turn}
 use Rattle.runs.specs.declared.Run.{Run}
 use Rattle.listing.specs.declared.SpanQuery.{SpanQuery}
 use Rattle.listing.specs.declared.Cursor.{Cursor}
-use Rattle.listing.specs.declared.EntryRange.{EntryRange}
-use Rattle.listing.specs.declared.PageCheck.TheVariants as opened
-use Rattle.listing.specs.declared.WalkAnswer.{WalkAnswer}
-use Rattle.listing.specs.declared.WalkAnswer.TheVariants.{Unfit}
+use Rattle.std.specs.declared.ops.Range.{Range}
 use Rattle.listing.specs.Walks.{bytes_at, cursor_below, page_walk, page_check, entry_walk, answer, Does, Room}
 use Rattle.listing.specs.Cursors.{ValidCursor, KnownFit, ValidEntry}
 use Rattle.listing.specs.Met.{Met}
-use Rattle.listing.proofs.Laws.Turns.{output_none}
+use Rattle.listing.proofs.Laws.Turns.{cond_none, output_none}
 use Rattle.listing.proofs.Laws.Ranges.{Ranged}
 use Rattle.listing.proofs.Laws.Stands.{page_length}
 use Rattle.listing.proofs.Laws.Pages.{entry_apart, entry_inner, page_stopped, page_in_turn}
 
 -- ---- an unfit page
 
-pub does_stopped : (writing : Bool) (run : Run) (out : List ℕ) → Does writing run stopped out Unfit out
+pub does_stopped : (writing : Bool) (run : Run) (out : List ℕ) → Does writing run stopped out None out
 unfolding answer stopped
 does_stopped writing run out = record { answers = refl; writes = sym (output_none writing run stopped out refl) }
 
@@ -37,7 +36,7 @@ module _ {img : List ℕ} {q : SpanQuery} {on below : Cursor} {i : ℕ} {writing
   pub room_below : {known : Bool} → Room known writing run (entry_walk img q on i) out → Room known writing run (page_walk img q below) out
   room_below h = rw (entry_inner img q on i here.met inner down) at h
 
-  pub does_below : {r : WalkAnswer} {left : List ℕ} → Does writing run (page_walk img q below) out r left
+  pub does_below : {r : Option Run} {left : List ℕ} → Does writing run (page_walk img q below) out r left
       → Does writing run (entry_walk img q on i) out r left
   does_below d = rw (entry_inner img q on i here.met inner down) d
 
@@ -45,7 +44,7 @@ module _ {img : List ℕ} {q : SpanQuery} {on below : Cursor} {i : ℕ} {writing
 
 module _ (img : List ℕ) (q : SpanQuery) (on : Cursor) where
   -- where the pages are known, this one is fit
-  pub room_known : {run : Run} {out : List ℕ} → Room q.known q.writing run (page_walk img q on) out → KnownFit img q on
+  pub room_known : {writing : Bool} {run : Run} {out : List ℕ} → Room q.known writing run (page_walk img q on) out → KnownFit img q on
   unfolding stopped
   room_known room = record { known = λ w. go (page_fit q.half q.head on.at (bytes_at q.half img on)) refl (room.fit w) }
     where
@@ -53,26 +52,20 @@ module _ (img : List ℕ) (q : SpanQuery) (on : Cursor) where
       go true e f = refl
       go false e f = absurd (false≢true (sym (ap (λ (w : Walked). w.fit) (page_stopped img q on e)) ∙ f))
 
-  pub opened_unfit : opened.Unfit ≡ page_check img q on → page_walk img q on ≡ stopped
+  pub opened_unfit : None ≡ page_check img q on → page_walk img q on ≡ stopped
   unfolding page_check
-  opened_unfit e = page_stopped img q on (go (page_fit q.half q.head on.at (bytes_at q.half img on)) e)
-    where
-      go : (b : Bool) → opened.Unfit ≡ cond b (opened.Entries (entry_count (bytes_at q.half img on))) opened.Unfit → b ≡ false
-      go true f = let z : ◌≡◌ {A = ℕ} 0 1 = cc in absurd (omega arith)
-      go false f = refl
+  opened_unfit e = page_stopped img q on (cond_none (page_fit q.half q.head on.at (bytes_at q.half img on)) _ e)
 
-  pub opened_fit : {n : ℕ} → opened.Entries n ≡ page_check img q on
+  pub opened_fit : {n : ℕ} → Some n ≡ page_check img q on
       → (page_fit q.half q.head on.at (bytes_at q.half img on) ≡ true) × (n ≡ entry_count (bytes_at q.half img on))
   unfolding page_check
-  opened_fit {n} e = go (page_fit q.half q.head on.at (bytes_at q.half img on)) e
-    where
-      go : (b : Bool) → opened.Entries n ≡ cond b (opened.Entries (entry_count (bytes_at q.half img on))) opened.Unfit
-          → (b ≡ true) × (n ≡ entry_count (bytes_at q.half img on))
-      go true f = (refl, cc)
-      go false f = let z : ◌≡◌ {A = ℕ} 0 1 = cc in absurd (omega arith)
+  opened_fit {n} e =
+      let s = bytes_at q.half img on in
+      let f = cond_some (page_fit q.half q.head on.at s) (entry_count s) n (sym e) in
+      (f.0, sym f.1)
 
   -- its count of entries may be used
-  pub opened_compared : {n : ℕ} {s : List ℕ} → ValidCursor img q on → opened.Entries n ≡ page_check img q on
+  pub opened_compared : {n : ℕ} {s : List ℕ} → ValidCursor img q on → Some n ≡ page_check img q on
       → s ≡ bytes_at q.half img on → Compared q.half s n
   opened_compared sits e d =
       let f = opened_fit e in
@@ -86,7 +79,7 @@ module _ (img : List ℕ) (q : SpanQuery) (on : Cursor) where
       })
 
   -- its walk is that of the entries that overlap the span
-  pub entries_ranged : {n : ℕ} {r : EntryRange} → q.half ≤ 12 → opened.Entries n ≡ page_check img q on → Met img q on n r
+  pub entries_ranged : {n : ℕ} {r : Range ℕ} → q.half ≤ 12 → Some n ≡ page_check img q on → Met img q on n r
       → Ranged (page_walk img q on) (entry_walk img q on) n r
   entries_ranged few e m =
       let f = opened_fit e in
@@ -99,7 +92,7 @@ module _ (img : List ℕ) (q : SpanQuery) (on : Cursor) where
         behind = λ k l h. entry_apart img q on k (m.behind k l h);
       }
 
-  pub entry_met : {n i : ℕ} {r : EntryRange} → opened.Entries n ≡ page_check img q on → Met img q on n r → r.from ≤ i → i < r.to
+  pub entry_met : {n i : ℕ} {r : Range ℕ} → Some n ≡ page_check img q on → Met img q on n r → r.start ≤ i → i < r.end
       → ValidEntry img q on i
   entry_met {i = i} e m l h =
       let f = opened_fit e in

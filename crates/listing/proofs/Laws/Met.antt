@@ -3,7 +3,6 @@ use mathlib.Core.Path.{◌≡◌}
 use mathlib.Core.Bool.{true, false, and-false}
 use mathlib.Core.List.{List}
 use Prim.Native.Nat.{ℕ, suc, ◌-◌, ◌≤◌, ◌<◌}
-use native.Mathlib.Decide.{dec_lt}
 use native.Mathlib.Omega.{arith}
 use lib.Dec.{ltb}
 use borrow.Author.Tests.{lt-ltb, le-ltb}
@@ -33,18 +32,6 @@ module _ (a b lo hi : ℕ) where
   overlaps_both : lo < b → a < hi → overlaps a b lo hi ≡ true
   unfolding overlaps
   overlaps_both l h = rw (lt-ltb lo b l, lt-ltb a hi h)
-
--- ---- a loop that counts i down
-
--- what holds from i on, and right before it, holds from there on
-pub behind_more : (P : ℕ → Type 0) {n i : ℕ} → ((k : ℕ) → i ≤ k → k < n → P k) → P (i - 1) → (k : ℕ) → i - 1 ≤ k → k < n → P k
-behind_more P {n} {i} all here k l m = go (dec_lt k i)
-  where
-    go : Dec (k < i) → P k
-    go (yes b) =
-        let e : i - 1 ≡ k = omega arith in
-        rw e at here
-    go (no b) = all k (omega arith) m
 
 -- ---- a page's starts and ends rise with its entries
 
@@ -79,7 +66,7 @@ pub met_range : {img : List ℕ} {q : SpanQuery} {on : Cursor} {n from to : ℕ}
     → n ≡ entry_count (bytes_at q.half img on)
     → FirstMet (bytes_at q.half img on) n on.at.hi q.a from
     → PastMet (bytes_at q.half img on) n q.b to
-    → Met img q on n (record { from = from; to = to })
+    → Met img q on n (record { start = from; end = to })
 met_range fit len first past =
     record {
       from_most = first.most;

@@ -1,4 +1,5 @@
 -- The walk from the root: what it is, and that its runs can be counted. Assumes nothing.
+use Rattle.std.specs.Prelude.{Some, None}
 use mathlib.Core.Path.{◌≡◌, ap, ◌∙◌}
 use mathlib.Core.Bool.{Bool, true, false}
 use mathlib.Core.List.{List}
@@ -21,8 +22,6 @@ use Rattle.runs.specs.declared.Run.{Run}
 use Rattle.runs.specs.Open.{no_run}
 use Rattle.runs.proofs.Laws.Entries.{written_join, output_join}
 use Rattle.listing.specs.declared.SpanQuery.{SpanQuery}
-use Rattle.listing.specs.declared.WalkAnswer.TheVariants.{Fit, Unfit}
-use Rattle.listing.specs.declared.RunCount.TheVariants as counted
 use Rattle.listing.specs.Walks.{page_walk, root_cursor, answer, output, count, Room}
 use Rattle.listing.proofs.Laws.Turns.{room_unwritten, of_answer, of_unfit}
 use Rattle.listing.proofs.Laws.Pages.{under_none}
@@ -61,15 +60,15 @@ module _ {half : ℕ} {img : List ℕ} {h : Head} (a b : ℕ) (out : List ℕ) (
       }
 
 module _ (w : image.Walked) where
-  pub count_unfit : Unfit ≡ answer no_run w → counted.Unfit ≡ count w
+  pub count_unfit : None ≡ answer no_run w → None ≡ count w
   unfolding count
   count_unfit e = rw (of_unfit no_run w e)
 
-  pub count_fit : {last : Run} → Fit last ≡ answer no_run w → counted.Runs last.written ≡ count w
+  pub count_fit : {last : Run} → Some last ≡ answer no_run w → Some last.written ≡ count w
   unfolding count
   count_fit {last} e =
       let f = of_answer no_run w e in
-      rw f.0 (ap counted.Runs (ap (λ (r : Run). r.written) f.1 ∙ written_join w.runs))
+      rw f.0 (ap Some (ap (λ (r : Run). r.written) f.1 ∙ written_join w.runs))
 
   pub output_all : (out : List ℕ) → 16 * length (join w.runs) ≤ length out
       → output true no_run w out ≡ patch out 0 (concat_map run_bytes (join w.runs))

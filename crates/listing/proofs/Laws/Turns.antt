@@ -1,4 +1,6 @@
 -- One walk and then another, from the open run on: what is answered, written and left to count on. Assumes nothing.
+use Rattle.std.specs.Prelude.{Some, None}
+use Rattle.std.proofs.lemmas.Option.{cond_some, none-some}
 use mathlib.Core.Path.{◌≡◌, refl, sym, ap, ◌∙◌, subst⁻¹}
 use mathlib.Core.Bool.{Bool, true, false, cond, ◌&&◌, and-true, and-false, true≢false, false≢true}
 use mathlib.Core.List.{List, [], append-nil}
@@ -13,35 +15,31 @@ use Rattle.image.specs.Listing.{nothing, then, in_turn}
 use Rattle.runs.specs.declared.Run.{Run}
 use Rattle.runs.specs.Open.{stepped_all, output_after_all}
 use Rattle.runs.proofs.Laws.Entries.{stepped_all_append, output_after_all_append, written_grows, written_few, length_output}
-use Rattle.listing.specs.declared.WalkAnswer.TheVariants.{Fit, Unfit}
 use Rattle.listing.specs.Walks.{answer, output, Does, Room}
 
 -- ---- the answer, by whether the walk is fit
 
+-- beside the library's `cond_some`
+pub cond_none : {A : Type 0} (b : Bool) (x : A) → None ≡ cond b (Some x) None → b ≡ false
+cond_none true x e = absurd (none-some x e)
+cond_none false x e = refl
+
 module _ (run : Run) (w : image.Walked) where
-  pub answer_of : w.fit ≡ true → Fit (stepped_all run w.runs) ≡ answer run w
+  pub answer_of : w.fit ≡ true → Some (stepped_all run w.runs) ≡ answer run w
   unfolding answer
   answer_of h = rw h
 
-  pub answer_unfit : w.fit ≡ false → Unfit ≡ answer run w
+  pub answer_unfit : w.fit ≡ false → None ≡ answer run w
   unfolding answer
   answer_unfit h = rw h
 
-  pub of_answer : {r : Run} → Fit r ≡ answer run w → (w.fit ≡ true) × (r ≡ stepped_all run w.runs)
+  pub of_answer : {r : Run} → Some r ≡ answer run w → (w.fit ≡ true) × (r ≡ stepped_all run w.runs)
   unfolding answer
-  of_answer {r} e = go w.fit e
-    where
-      go : (b : Bool) → Fit r ≡ cond b (Fit (stepped_all run w.runs)) Unfit → (b ≡ true) × (r ≡ stepped_all run w.runs)
-      go true f = (refl, cc)
-      go false f = let z : ◌≡◌ {A = ℕ} 0 1 = cc in absurd (omega arith)
+  of_answer {r} e = let f = cond_some w.fit (stepped_all run w.runs) r (sym e) in (f.0, sym f.1)
 
-  pub of_unfit : Unfit ≡ answer run w → w.fit ≡ false
+  pub of_unfit : None ≡ answer run w → w.fit ≡ false
   unfolding answer
-  of_unfit e = go w.fit e
-    where
-      go : (b : Bool) → Unfit ≡ cond b (Fit (stepped_all run w.runs)) Unfit → b ≡ false
-      go true f = let z : ◌≡◌ {A = ℕ} 0 1 = cc in absurd (omega arith)
-      go false f = refl
+  of_unfit e = cond_none w.fit _ e
 
 -- ---- the output, by whether the walk writes
 
@@ -180,7 +178,7 @@ module _ (f : ℕ → image.Walked) where
       pub walking_room : {known : Bool} → Room known writing run (in_turn n f) out → i < n → Room known writing r (f i) left
       walking_room m l = rw (h.runs, h.writes) (room_turn n m i l)
 
-      pub walking_more : i < n → {next : Run} {left' : List ℕ} → Does writing r (f i) left (Fit next) left' → length left' ≡ length left
+      pub walking_more : i < n → {next : Run} {left' : List ℕ} → Does writing r (f i) left (Some next) left' → length left' ≡ length left
           → Walking n (i + 1) next left'
       unfolding in_turn then
       walking_more l {next} {left'} d k =
@@ -195,8 +193,8 @@ module _ (f : ℕ → image.Walked) where
 
       -- the walk stops at an unfit page: a walk that writes meets none
       pub walking_unfit : {known : Bool} → Room known writing run (in_turn n f) out → i < n → {left' : List ℕ}
-          → Does writing r (f i) left Unfit left'
-          → Does writing run (in_turn n f) out Unfit left'
+          → Does writing r (f i) left None left'
+          → Does writing run (in_turn n f) out None left'
       unfolding output
       walking_unfit m l {left'} d =
           let u = unfit_turn n i l (of_unfit r (f i) d.answers) in
@@ -206,10 +204,10 @@ module _ (f : ℕ → image.Walked) where
           kept u true e = absurd (true≢false (sym (m.fit (m.checked e)) ∙ u))
           kept u false e = d.writes ∙ rw e (h.writes ∙ rw e)
 
-      pub walking_all : n ≤ i → Does writing run (in_turn n f) out (Fit r) left
+      pub walking_all : n ≤ i → Does writing run (in_turn n f) out (Some r) left
       walking_all l =
           let e : i ≡ n = omega (arith, h.within) in
           record {
-            answers = ap Fit (h.runs ∙ ap (λ k. stepped_all run (in_turn k f).runs) e) ∙ answer_of run (in_turn n f) (rw e at h.fit);
+            answers = ap Some (h.runs ∙ ap (λ k. stepped_all run (in_turn k f).runs) e) ∙ answer_of run (in_turn n f) (rw e at h.fit);
             writes = h.writes ∙ ap (λ k. output writing run (in_turn k f) out) e;
           }

@@ -18,27 +18,27 @@ use Rattle.access.specs.Access.{PageIn, OpenImage}
 use Rattle.access.proofs.Laws.{opened_ranges, opened_within}
 use Rattle.lookup.specs.declared.Holding.{Holding}
 use Rattle.lookup.specs.declared.LookupAnswer.{LookupAnswer}
-use Rattle.lookup.specs.declared.LookupAnswer.TheVariants.{Answered, Unfit}
+use Rattle.std.specs.Prelude.{Option, Some, None, option_map}
 use Rattle.lookup.specs.Levels.{OnPath, ComeTo}
-use Rattle.lookup.specs.Answers.{lookup_of, CombinableAbove}
+use Rattle.lookup.specs.Answers.{found_after, lookup_of, CombinableAbove}
 use Rattle.lookup.proofs.Laws.Levels.{Found, found_fit, found_in, found_start, found_pair, found_child, found_context}
 use Rattle.lookup.proofs.Laws.Bounds.{paired_combinable}
 use Rattle.lookup.proofs.Laws.Looks.{look_unfit, look_leaf, look_inner, look_few, look_paired}
 
 -- ---- an entry above what was found
 
-module _ (comb : Pair → Pair → Pair) (p : Pair) (n : ℕ) where
-  one_more : n + 1 ≡ suc n
-  one_more = omega arith
+one_more : (n : ℕ) → n + 1 ≡ suc n
+one_more n = omega arith
 
-  pub answered_above : (x : Holding) → lookup_of (Answered (record { pair = comb p x.pair; start = x.start; end = x.end }) (n + 1))
-      ≡ above comb p (lookup_of (Answered x n))
-  unfolding lookup_of above
-  answered_above x = λ j. record { fit = true; pair = comb p x.pair; start = x.start; end = x.end; pages = one_more j }
+module _ (comb : Pair → Pair → Pair) (p : Pair) where
+  -- what was found below, with the entry's pair combined into it
+  abbrev pub above_found : Option Holding → Option Holding
+  above_found = option_map (λ (x : Holding). record { pair = comb p x.pair; start = x.start; end = x.end })
 
-  pub unfit_above : lookup_of (Unfit (n + 1)) ≡ above comb p (lookup_of (Unfit n))
-  unfolding lookup_of above
-  unfit_above = λ j. record { fit = false; pair = none; start = 0; end = 0; pages = one_more j }
+  pub found_above : (o : Option Holding) (n : ℕ) → found_after (above_found o) (n + 1) ≡ above comb p (found_after o n)
+  unfolding above
+  found_above (Some x) n = λ j. record { fit = true; pair = comb p x.pair; start = x.start; end = x.end; pages = one_more n j }
+  found_above None n = λ j. record { fit = false; pair = none; start = 0; end = 0; pages = one_more n j }
 
 -- ---- on the way down
 
@@ -61,13 +61,13 @@ module _ {half : ℕ} {img : List ℕ} {h : Head} (some : 1 ≤ half) (o : OpenI
     pub come_on_path : OnPath at t
     come_on_path = record { begun = w.begun; bounded = path_bounded w.path (opened_ranges o).changes_most }
 
-    pub unfit_looked : page_fit half h at (page_at half img p) ≡ false → lookup_of (Unfit 1) ≡ look half h img t at.level at p
+    pub unfit_looked : page_fit half h at (page_at half img p) ≡ false → lookup_of (record { found = None; pages = 1 }) ≡ look half h img t at.level at p
     unfolding lookup_of stopped
     unfit_looked e = sym (look_unfit half h img t at p at.level e)
 
     module _ {e : Entry} {end : ℕ} (f : Found half h at t (page_at half img p) e end) where
       pub leaf_looked : at.level ≡ 0
-          → lookup_of (Answered (record { pair = e.pair; start = e.start; end = end }) 1) ≡ look half h img t at.level at p
+          → lookup_of (record { found = Some (record { pair = e.pair; start = e.start; end = end }); pages = 1 }) ≡ look half h img t at.level at p
       unfolding lookup_of leaf_answer
       leaf_looked z = sym (ap (λ l. look half h img t l at p) z ∙ look_leaf half h img t at p f)
 
@@ -96,7 +96,7 @@ module _ {half : ℕ} {img : List ℕ} {h : Head} (some : 1 ≤ half) (o : OpenI
 
         -- the page below is unfit
         pub unfit_below : page_fit half h under (page_at half img e.child) ≡ false
-            → lookup_of (Unfit 2) ≡ look half h img t at.level at p
+            → lookup_of (record { found = None; pages = 2 }) ≡ look half h img t at.level at p
         unfolding lookup_of above stopped
         unfit_below z = inner_by stopped (sym (look_unfit half h img t under e.child under.level z))
 

@@ -5,17 +5,16 @@ use Rattle.luwbook.proofs.Laws.{put_none, writable, shown, stood, ran_written, r
 use Rattle.luwbook.proofs.run_some.Goals as goal
 
 pub returns-then-r-gt-LAST_LINE : goal.returns-then-r-gt-LAST_LINE
-returns-then-r-gt-LAST_LINE c = ran_failed (λ l. omega arith) c.stopped.ensures
+returns-then-r-gt-LAST_LINE c = ran_failed (λ l. omega arith)
 
-pub write_first-written-requires : goal.write_first-written-requires
-write_first-written-requires c =
+pub write_first-requires : goal.write_first-requires
+write_first-requires c =
     let was = c.requires.standing in
-    let w = writable (shown c.flushed.ensures.flushes c.run_piece-q.ensures.simulates_step was.stands).printed (by_piece was.reached _) in
+    let w = writable (shown c.flush.ensures.flushes c.run_piece.ensures.simulates_step was.stands).printed (by_piece was.reached _) in
     record { n_in_bounds = w.0; printed = w.1 }
 
 pub returns : goal.returns
 returns c =
-    let turned = c.flushed.ensures.flushes in
-    let went = c.run_piece-q.ensures.simulates_step in
-    ran_written _ (λ g s. stood turned went s)
-    (λ g s e. c.write_first-written.ensures (put_none (shown turned went s).printed e))
+    let turned = c.flush.ensures.flushes in
+    let went = c.run_piece.ensures.simulates_step in
+    ran_written (λ g s. stood turned went s) (λ g s e. c.write_first.ensures (put_none (shown turned went s).printed e))

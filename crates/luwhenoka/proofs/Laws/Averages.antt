@@ -8,7 +8,6 @@ use native.Mathlib.Omega.{arith}
 use lib.Dec.{eqb}
 use lib.ListN.{length}
 use borrow.Author.Tests.{ne_eqb, ltb-false}
-use Rattle.rule.specs.declared.Pair.{Pair}
 use Rattle.rule.specs.declared.Average.TheVariants.{Nothing}
 use Rattle.rule.specs.Averages.{average}
 use Rattle.fields.specs.Numbers.{u32_at}
@@ -17,17 +16,13 @@ use Rattle.image.proofs.Capacity.{own_half, kind_read}
 use Rattle.calls.specs.Calls.{Instant, Averaged, head, instant, average_at}
 use Rattle.calls.specs.Index.{names_capacity, judge, index_instant, index_average}
 use Rattle.calls.proofs.Judged.{by_judge, judged_own, judged_refused, goes_on}
-use Rattle.luwhenoka.specs.declared.InstantAnswer.{InstantAnswer}
-use Rattle.luwhenoka.specs.Answers.{instant_answer, average_answer, averaged_answer}
 
-module _ {r : InstantAnswer} (t : ℕ) (img : List ℕ) (e : r ≡ instant_answer (index_instant t img)) where
+module _ {r : Instant} (t : ℕ) (img : List ℕ) (e : r ≡ index_instant t img) where
   number_is : r.status ≡ (index_instant t img).status
-  unfolding instant_answer
-  number_is = ap (λ (a : InstantAnswer). a.status) e
+  number_is = ap (λ (a : Instant). a.status) e
 
-  pair_is : record { sum = r.sum; count = r.count } ≡ (index_instant t img).pair
-  unfolding instant_answer
-  pair_is = ap (λ (a : InstantAnswer). record { sum = a.sum; count = a.count }) e
+  pair_is : r.pair ≡ (index_instant t img).pair
+  pair_is = ap (λ (a : Instant). a.pair) e
 
   -- an image whose instant is answered names its capacity
   passed : r.status ≡ 0 → judge img ≡ 0
@@ -48,29 +43,29 @@ module _ {r : InstantAnswer} (t : ℕ) (img : List ℕ) (e : r ≡ instant_answe
     unfolding head names_capacity
     kind_is = sym (kind_read (half_of img) img (omega (arith, (own_half (goes_on img g).named).least)))
 
-  pub average_0 : r.status ≡ 0
-      → average_answer 0 (average (u32_at img 24) (record { sum = r.sum; count = r.count })) ≡ averaged_answer (index_average t img)
-  unfolding index_average averaged_answer average_at
+  pub average_0 : r.status ≡ 0 → record { status = 0; average = average (u32_at img 24) r.pair } ≡ index_average t img
+  unfolding index_average average_at
   average_0 n =
       let g = passed n in
       let half = half_of img in
       let z : 0 ≡ (instant half t img).status = sym n ∙ number_is ∙ ap (λ (a : Instant). a.status) (own g) in
-      let p : record { sum = r.sum; count = r.count } ≡ (instant half t img).pair = pair_is ∙ ap (λ (a : Instant). a.pair) (own g) in
-      (λ j. average_answer (z j) (cond (eqb (z j) 0) (average (kind_is g j) (p j)) Nothing))
-      ∙ ap averaged_answer (sym (judged_own _ (λ half. average_at half t img) img g))
+      let p : r.pair ≡ (instant half t img).pair = pair_is ∙ ap (λ (a : Instant). a.pair) (own g) in
+      (λ j. record { status = z j; average = cond (eqb (z j) 0) (average (kind_is g j) (p j)) Nothing })
+      ∙ sym (judged_own _ (λ half. average_at half t img) img g)
 
-  pub average_refused : r.status ≢ 0 → average_answer r.status Nothing ≡ averaged_answer (index_average t img)
-  unfolding index_instant index_average averaged_answer average_at
+  pub average_refused : r.status ≢ 0 → record { status = r.status; average = Nothing } ≡ index_average t img
+  unfolding index_instant index_average average_at
   average_refused n =
       by_judge _ (λ half. average_at half t img) img
-      (λ (a : Averaged). average_answer r.status Nothing ≡ average_answer a.status a.average)
+      (λ (a : Averaged). record { status = r.status; average = Nothing } ≡ a)
       (λ g.
       let half = half_of img in
       let m : ℕ = (instant half t img).status in
       let same : r.status ≡ m = number_is ∙ ap (λ (a : Instant). a.status) (own g) in
       let off : eqb m 0 ≡ false = ne_eqb m 0 (λ z. n (same ∙ z)) in
-      ap (λ k. average_answer k Nothing) same
-      ∙ ap (λ b. average_answer m (cond b (average (head half img).kind (instant half t img).pair) Nothing)) (sym off))
-      (λ k.
-      ap (λ s. average_answer s Nothing)
-      (number_is ∙ ap (λ (a : Instant). a.status) (judged_refused _ (λ half. instant half t img) img k)))
+      (λ j. record { status = same j; average = Nothing })
+      ∙ (λ j. record { status = m; average = cond (sym off j) (average (head half img).kind (instant half t img).pair) Nothing }))
+      (λ k. λ j. record {
+        status = (number_is ∙ ap (λ (a : Instant). a.status) (judged_refused _ (λ half. instant half t img) img k)) j;
+        average = Nothing;
+      })

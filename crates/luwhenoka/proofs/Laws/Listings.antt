@@ -5,12 +5,11 @@ use mathlib.Core.Bool.{Bool, true, false, cond, not, ◌&&◌}
 use mathlib.Core.List.{List, [], ◌∷◌}
 use lib.ListN.{length}
 use lib.Dec.{eqb, leb}
-use native.Mathlib.Omega.{arith}
 use borrow.Author.Tests.{lt-ltb, le-ltb, le-leb}
 use Rattle.rule.specs.Time.{END, span_ok}
 use Rattle.image.specs.Images.{length_ok}
 use Rattle.image.specs.Listing.{Run, walk_over}
-use Rattle.listing.specs.declared.RunCount.TheVariants.{Runs, Unfit}
+use Rattle.std.specs.Prelude.{Some, None}
 use Rattle.listing.specs.Walks.{count}
 use Rattle.listing.proofs.Laws.Counts.{counted_runs, not_counted}
 use Rattle.calls.specs.Refusals.{first}
@@ -24,13 +23,13 @@ pub record CountedAs (half : ℕ) (img : List ℕ) (a b n : ℕ) : Type 0 where
   pub status : n ≡ length (runs_over half a b img)
 
 module _ (half : ℕ) (img : List ℕ) (a b : ℕ) where
-  pub counted : {n : ℕ} → Runs n ≡ count (walk_over half img a b) → CountedAs half img a b n
+  pub counted : {n : ℕ} → Some n ≡ count (walk_over half img a b) → CountedAs half img a b n
   unfolding runs_over
   counted e =
       let k = counted_runs (walk_over half img a b) e in
       record { fit = k.0; status = k.1 }
 
-  pub uncounted : Unfit ≡ count (walk_over half img a b) → (walk_over half img a b).fit ≡ false
+  pub uncounted : None ≡ count (walk_over half img a b) → (walk_over half img a b).fit ≡ false
   uncounted e = not_counted (walk_over half img a b) e
 
 -- ---- the ways out

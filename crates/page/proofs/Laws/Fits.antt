@@ -1,10 +1,10 @@
 -- Entries whose numbers have their widths still have them in a list that was edited. Assumes nothing.
 use mathlib.Core.List.{List, [], ◌∷◌, ◌++◌}
 use Prim.Native.Nat.{ℕ, zero, suc}
-use lib.ListN.{get_or, take, drop}
+use lib.ListN.{take, drop}
 use Rattle.lists.specs.Lists.{splice}
 use Rattle.page.specs.declared.Entry.{Entry}
-use Rattle.page.specs.Entries.{no_entry, inserted}
+use Rattle.page.specs.Entries.{inserted}
 use Rattle.page.specs.Widths.{EntryFits, EntriesFit}
 use Rattle.page.proofs.Laws.Entries.{no_entry_fits}
 

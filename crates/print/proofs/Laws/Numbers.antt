@@ -1,11 +1,12 @@
 -- The texts of numbers: a decimal by its last digit, its length, and a sign in front. Assumes nothing.
+use mathlib.Core.Logic.{◌⊎◌, inl, inr}
 use mathlib.Core.Path.{◌≡◌, refl, sym, ap, ◌∙◌}
 use mathlib.Core.Bool.{true, false, cond, true≢false}
 use Prim.Native.Nat.{ℕ, zero, suc, ◌+◌, ◌*◌, ◌/◌, ◌%◌, ◌^◌, ◌≤◌, ◌<◌}
 use native.Mathlib.Nat.{pow-succ'}
 use native.Mathlib.Decide.{dec_lt}
 use native.Mathlib.Omega.{arith}
-use mathlib.Core.List.{List, [], ◌∷◌, ◌++◌, append_assoc}
+use mathlib.Core.List.{[], ◌∷◌, ◌++◌, append_assoc}
 use lib.ListN.{length, length-append}
 use lib.IntN.{ℤ, pos, negsuc, nat_abs}
 use lib.Signed.{lt_z}
@@ -15,7 +16,8 @@ use Rattle.rule.specs.declared.Average.TheVariants.{Hundredths, Nothing, Beyond}
 use Rattle.rule.specs.Averages.{average}
 use Rattle.image.specs.Listing.{Run}
 use Rattle.calls.specs.Program.{decimal_in, decimal, integer, two_decimals, average_text, run_text}
-use Rattle.print.specs.Written.{Put, sign_text}
+use Rattle.print.specs.declared.Printer.{Printer}
+use Rattle.print.specs.Written.{Prints, sign_text}
 
 -- one digit, and more
 in_one : (k n : ℕ) → n < 10 → decimal_in (suc k) n ≡ (48 + n) ∷ []
@@ -106,6 +108,12 @@ average_signed (negsuc n) = refl
 pub signed_average : {z : ℤ} {m : ℕ} {a : Average} → m ≡ nat_abs z → a ≡ Hundredths z → sign_text z ++ two_decimals m ≡ average_text a
 signed_average {z} e f = ap (λ n. sign_text z ++ two_decimals n) e ∙ average_signed z ∙ ap average_text (sym f)
 
+-- "`-` for none", and for a sum that no fit page can show
+pub without_average : {a : Average} → (a ≡ Nothing) ⊎ (a ≡ Beyond) → 45 ∷ [] ≡ average_text a
+unfolding average_text
+without_average (inl e) = ap average_text (sym e)
+without_average (inr e) = ap average_text (sym e)
+
 length_two_decimals : (n : ℕ) → length (two_decimals n) ≤ 23
 unfolding two_decimals
 length_two_decimals n =
@@ -127,26 +135,26 @@ length_instant t = omega (arith, length-append (decimal t) (32 ∷ []), length_d
 pub length_amount : (z : ℤ) → length (integer z ++ (32 ∷ [])) ≤ 22
 length_amount z = omega (arith, length-append (integer z) (32 ∷ []), length_integer z)
 
--- ---- how far what is put reaches at most: rules for omega, which applies each to every thing that was put
+-- ---- how far what is printed reaches at most: rules for omega, which applies each to every thing that was printed
 
-module _ {s t : List ℕ} {at p : ℕ} where
-  pub behind_decimal : (n : ℕ) → Put s at (decimal n) t p → p ≤ at + 20
-  behind_decimal n f = omega (arith, length_decimal n)
+module _ {p q : Printer} where
+  pub behind_decimal : (n : ℕ) → Prints p (decimal n) q → q.at ≤ p.at + 20
+  behind_decimal n f = omega (arith, f.put.offset, length_decimal n)
 
-  pub behind_sign : (z : ℤ) → Put s at (sign_text z) t p → p ≤ at + 1
-  behind_sign z f = omega (arith, length_sign z)
+  pub behind_sign : (z : ℤ) → Prints p (sign_text z) q → q.at ≤ p.at + 1
+  behind_sign z f = omega (arith, f.put.offset, length_sign z)
 
-  pub behind_integer : (z : ℤ) → Put s at (integer z) t p → p ≤ at + 21
-  behind_integer z f = omega (arith, length_integer z)
+  pub behind_integer : (z : ℤ) → Prints p (integer z) q → q.at ≤ p.at + 21
+  behind_integer z f = omega (arith, f.put.offset, length_integer z)
 
-  pub behind_instant : (n : ℕ) → Put s at (decimal n ++ (32 ∷ [])) t p → p ≤ at + 21
-  behind_instant n f = omega (arith, length_instant n)
+  pub behind_instant : (n : ℕ) → Prints p (decimal n ++ (32 ∷ [])) q → q.at ≤ p.at + 21
+  behind_instant n f = omega (arith, f.put.offset, length_instant n)
 
-  pub behind_amount : (z : ℤ) → Put s at (integer z ++ (32 ∷ [])) t p → p ≤ at + 22
-  behind_amount z f = omega (arith, length_amount z)
+  pub behind_amount : (z : ℤ) → Prints p (integer z ++ (32 ∷ [])) q → q.at ≤ p.at + 22
+  behind_amount z f = omega (arith, f.put.offset, length_amount z)
 
-  pub behind_average : (a : Average) → Put s at (average_text a) t p → p ≤ at + 24
-  behind_average a f = omega (arith, length_average a)
+  pub behind_average : (a : Average) → Prints p (average_text a) q → q.at ≤ p.at + 24
+  behind_average a f = omega (arith, f.put.offset, length_average a)
 
 -- six things make the line of a run
 pub run_pieces : (r : Run) (end : ℕ) {z y : ℤ} {a : Average} → z ≡ r.pair.sum → y ≡ r.pair.count → a ≡ average 1 r.pair

@@ -13,7 +13,8 @@ use Rattle.image.specs.Listing.{walk_over}
 use Rattle.calls.specs.Refusals.{first}
 use Rattle.calls.specs.Calls.{Listed, head_ok, runs_over, too_short, listing_status, listing}
 use Rattle.calls.specs.Program.{decimal, runs_text}
-use Rattle.print.specs.Written.{Put, runs_line}
+use Rattle.print.specs.declared.Printer.{Printer}
+use Rattle.print.specs.Written.{Prints, runs_line}
 use Rattle.print.proofs.Laws.Numbers.{length_decimal}
 use Rattle.luwhenoka.specs.declared.ListingAnswer.{ListingAnswer}
 use Rattle.luwhenoka.specs.Answers.{listing_answer}
@@ -21,9 +22,9 @@ use Rattle.program.specs.Listed.{runs_at}
 use Rattle.program.specs.State.{listed_text}
 
 -- how far the line of the runs' number reaches at most
-pub behind_runs_line : {s t : List ℕ} {at p : ℕ} (n : ℕ) → Put s at (runs_line n) t p → p ≤ at + 26
+pub behind_runs_line : {p q : Printer} (n : ℕ) → Prints p (runs_line n) q → q.at ≤ p.at + 26
 unfolding runs_line
-behind_runs_line n f = omega (arith, length-append (decimal n) (10 ∷ []), length_decimal n)
+behind_runs_line n f = omega (arith, f.put.offset, length-append (decimal n) (10 ∷ []), length_decimal n)
 
 -- the runs that a listing returns have room: 15 turns it back else
 has_room : (w x y z : Bool) (runs size : ℕ) → z ≡ ltb size (16 * runs)

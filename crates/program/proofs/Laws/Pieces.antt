@@ -12,10 +12,11 @@ use Rattle.page.specs.Layout.{capacity_ok}
 use Rattle.calls.specs.Calls.{Formatted, format}
 use Rattle.calls.specs.Index.{index_format}
 use Rattle.calls.specs.Program.{Line, cut_at, line_from, ran_line}
-use Rattle.text.specs.declared.Fed.{Fed}
 use Rattle.text.specs.Reading.{Holds}
+use Rattle.text.proofs.Laws.Feeds.{held_none, held_some}
+use Rattle.print.specs.declared.Printer.{Printer}
 use Rattle.print.specs.Written.{Put}
-use Rattle.print.proofs.Laws.Puts.{put_none, put_then}
+use Rattle.print.proofs.Laws.Puts.{put_none, put_then, put_left}
 use Rattle.program.specs.declared.Reading.{Reading}
 use Rattle.program.specs.State.{ProgramState, at_first, unwritten, line_run, after_byte, after_bytes, ended}
 use Rattle.program.specs.Simulation.{Does, Simulates, SimulatesStep, Begins, Flushes, Advances}
@@ -26,19 +27,24 @@ shows_as : {had : List ℕ} {from : ℕ} {g g' : ProgramState} {r : Reading} {im
     → Simulates had from g r img out → Simulates had from g' r img out
 shows_as {had} {from} {g} {g'} {r} {img} {out} e s = subst (λ x. Simulates had from x r img out) e s
 
+-- what was printed, up to an offset by another name
+put_at : {had bs out : List ℕ} {at p q : ℕ} → Put had at bs out p → p ≡ q → Put had at bs out q
+put_at f e = record { room = f.room; written = f.written; offset = sym e ∙ f.offset }
+
 -- ---- a line that ends
 
-pub goes_line : {r : Reading} {img out left after : List ℕ} {line : Line} {none : Fed} {next : ℕ}
+pub goes_line : {r : Reading} {img left after : List ℕ} {line : Line} {none : List ℕ} {p q : Printer} → p.at ≡ r.at
     → ((text : List ℕ) → Holds r.fed text → line ≡ line_from (cut_at 32 text)) → Holds none []
-    → Does (ran_line 12 64 r.number line img) left out r.at after next
-    → SimulatesStep (line_run 12 64) r img out (record { fed = none; number = r.number + 1; at = next }) left after
+    → Does (ran_line 12 64 r.number line img) left p q → after ≡ q.out.now
+    → SimulatesStep (line_run 12 64) r img p.out.now (record { fed = none; number = r.number + 1; at = q.at }) left after
 unfolding line_run
-goes_line parsed empty d had from g s =
+goes_line {p = p} a parsed empty d f had from g s =
     let e = parsed g.line s.fed in
     let d' = does_as (λ j. ran_line 12 64 (s.number j) (e j) (s.image j)) d in
-    record { fed = empty; number = omega (arith, s.number); image = d'.image; printed = put_then s.printed d'.printed }
+    let here : Put had from g.written p.out.now p.at = put_at s.printed (sym a) in
+    record { fed = empty; number = omega (arith, s.number); image = d'.image; printed = put_left f (put_then here d'.printed.put) }
 
-pub within_line : {r : Reading} {fed : Fed} {next : ℕ} → next ≤ r.at + 55
+pub within_line : {r : Reading} {fed : List ℕ} {next : ℕ} → next ≤ r.at + 55
     → Advances 1 r (record { fed = fed; number = r.number + 1; at = next })
 within_line h = record { number = omega arith; at = omega arith }
 
@@ -62,18 +68,16 @@ pub goes_end : {b : ℕ} {r q : Reading} {img out left after : List ℕ} → b �
     → SimulatesStep (after_byte 12 64 b) r img out q left after
 goes_end {b} e f had from g s = shows_as (goes_newline 12 64 b g e) (f had from g s)
 
-pub goes_fed : {b : ℕ} {r : Reading} {img out : List ℕ} {more : Fed} → (b ≡ 10 → ⊥)
+pub goes_fed : {b : ℕ} {r : Reading} {img out : List ℕ} {more : List ℕ} → (b ≡ 10 → ⊥)
     → ((line : List ℕ) → Holds r.fed line → Holds more (line ++ (b ∷ [])))
     → SimulatesStep (after_byte 12 64 b) r img out (record { fed = more; number = r.number; at = r.at }) img out
 goes_fed {b} n f had from g s =
     shows_as (goes_other 12 64 b g n)
     (record { fed = f g.line s.fed; number = s.number; image = s.image; printed = s.printed })
 
-pub within_none : {r : Reading} → Advances 1 r r
-within_none = record { number = omega arith; at = omega arith }
-
-pub within_byte : {r : Reading} {fed : Fed} → Advances 1 r (record { fed = fed; number = r.number; at = r.at })
-within_byte = record { number = omega arith; at = omega arith }
+-- at most as far as before
+pub within_same : {r q : Reading} → q.number ≡ r.number → q.at ≡ r.at → Advances 1 r q
+within_same e f = record { number = omega arith; at = omega arith }
 
 -- ---- a piece, byte by byte: the loop's invariant
 
@@ -140,13 +144,13 @@ module _ (half pages : ℕ) (g : ProgramState) where
   unfolding ended
   ended_line n = ap (λ t. cond t g (line_run half pages g)) (sym (ne_eqb (length g.line) 0 n))
 
-pub goes_empty : {r : Reading} {img out : List ℕ} → r.fed.length ≡ 0 → SimulatesStep (ended 12 64) r img out r img out
-goes_empty e had from g s = shows_as (ended_empty 12 64 g (omega (arith, s.fed.count))) s
+pub goes_empty : {r : Reading} {img out : List ℕ} → length r.fed ≡ 0 → SimulatesStep (ended 12 64) r img out r img out
+goes_empty e had from g s = shows_as (ended_empty 12 64 g (held_none g.line s.fed e)) s
 
-pub goes_last : {r q : Reading} {img out left after : List ℕ} → (r.fed.length ≡ 0 → ⊥)
+pub goes_last : {r q : Reading} {img out left after : List ℕ} → (length r.fed ≡ 0 → ⊥)
     → SimulatesStep (line_run 12 64) r img out q left after
     → SimulatesStep (ended 12 64) r img out q left after
-goes_last {r} n f had from g s = shows_as (ended_line 12 64 g (λ e. n (omega (arith, s.fed.count)))) (f had from g s)
+goes_last {r} n f had from g s = shows_as (ended_line 12 64 g (λ e. n (held_some g.line s.fed e))) (f had from g s)
 
 -- ---- the first byte, and an output that is empty again
 
@@ -158,9 +162,6 @@ begun e f = ap (λ (r : Formatted). r.image) f ∙ ap (λ s. (format 12 1 0 24 s
 pub begins : {r : Reading} → Holds r.fed [] → r.number ≡ 1 → r.at ≡ 0 → Begins r
 unfolding at_first
 begins {r} h n a out = record { fed = h; number = n; image = refl; printed = put_at (put_none out 0 (omega arith)) (sym a) }
-  where
-    put_at : {had bs out : List ℕ} {at p q : ℕ} → Put had at bs out p → p ≡ q → Put had at bs out q
-    put_at f e = record { room = f.room; written = f.written; offset = sym e ∙ f.offset }
 
 pub turns : {r : Reading} → Flushes r (record { fed = r.fed; number = r.number; at = 0 })
 unfolding unwritten

@@ -9,10 +9,12 @@ use Rattle.rule.specs.Time.{END}
 use Rattle.rule.specs.Averages.{average}
 use Rattle.image.specs.Listing.{Run}
 use Rattle.calls.specs.Program.{decimal, integer, average_text, run_text, runs_text}
-use Rattle.print.specs.Written.{Put}
-use Rattle.print.proofs.Laws.Puts.{put_as, put_none, put_then, put_length}
+use Rattle.print.specs.declared.Printer.{Printer}
+use Rattle.print.specs.Written.{Prints}
+use Rattle.print.proofs.Laws.Puts.{prints_as, prints_none, prints_then, prints_length}
 use Rattle.print.proofs.Laws.Numbers.{length_instant, length_amount, length_average, run_pieces}
-use Rattle.program.specs.Listed.{run_at, runs_at, end_before}
+use Rattle.runs.specs.Listed.{run_at}
+use Rattle.program.specs.Listed.{runs_at, end_before}
 
 pub length_run : (r : Run) (end : ℕ) → length (run_text r end) ≤ 111
 length_run r end =
@@ -58,47 +60,46 @@ runs_first s i (suc m) = refl
 
 -- ---- the loop's invariant
 
-pub record Printing (had : List ℕ) (at : ℕ) (s : List ℕ) (n i : ℕ) (out : List ℕ) (next : ℕ) : Type 0 where
+pub record Printing (p : Printer) (s : List ℕ) (n i : ℕ) (q : Printer) : Type 0 where
   pub within : i ≤ n
   pub done : List ℕ
-  pub printed : Put had at done out next
+  pub printed : Prints p done q
   pub rest : done ++ runs_text (runs_at s i (n - i)) ≡ runs_text (runs_at s 0 n)
-  pub room : next + 111 * (n - i) ≤ length out
+  pub room : q.at + 111 * (n - i) ≤ length q.out.now
 
-pub printing_none : (had : List ℕ) (at : ℕ) (s : List ℕ) (n : ℕ) → at + 111 * n ≤ length had → Printing had at s n 0 had at
-printing_none had at s n h =
+pub printing_none : (p : Printer) (s : List ℕ) (n : ℕ) → p.at + 111 * n ≤ length p.out.now → Printing p s n 0 p
+printing_none p s n h =
     let z : n - 0 ≡ n = omega arith in
     record {
       within = omega arith;
       done = [];
-      printed = put_none had at (omega arith);
+      printed = prints_none p (omega arith);
       rest = ap (λ k. runs_text (runs_at s 0 k)) z;
       room = omega arith;
     }
 
-pub printing_more : {had : List ℕ} {at : ℕ} {s : List ℕ} {n i : ℕ} {out out' : List ℕ} {next next' : ℕ}
-    → Printing had at s n i out next → i < n
-    → Put out next (run_text (run_at s i) (end_before s i (n - (i + 1)))) out' next' → Printing had at s n (i + 1) out' next'
-printing_more {had} {at} {s} {n} {i} {out} {out'} {next} {next'} so h p =
+pub printing_more : {p : Printer} {s : List ℕ} {n i : ℕ} {q r : Printer} → Printing p s n i q → i < n
+    → Prints q (run_text (run_at s i) (end_before s i (n - (i + 1)))) r → Printing p s n (i + 1) r
+printing_more {p} {s} {n} {i} {q} {r} so h f =
     let m : ℕ = n - (i + 1) in
     let line : List ℕ = run_text (run_at s i) (end_before s i m) in
     let e : suc m ≡ n - i = omega arith in
     record {
       within = omega arith;
       done = so.done ++ line;
-      printed = put_then so.printed p;
+      printed = prints_then so.printed f;
       rest =
           append_assoc so.done line (runs_text (runs_at s (i + 1) m))
           ∙ ap (λ k. so.done ++ (line ++ runs_text (runs_at s k m))) (add-one i)
           ∙ ap (λ l. so.done ++ l) (sym (runs_first s i m))
           ∙ ap (λ k. so.done ++ runs_text (runs_at s i k)) e
           ∙ so.rest;
-      room = omega (arith, so.room, p.offset, put_length p, length_run (run_at s i) (end_before s i m));
+      room = omega (arith, so.room, f.put.offset, prints_length f, length_run (run_at s i) (end_before s i m));
     }
 
-pub printing_all : {had : List ℕ} {at : ℕ} {s : List ℕ} {n i : ℕ} {out : List ℕ} {next : ℕ} → Printing had at s n i out next → n ≤ i
-    → Put had at (runs_text (runs_at s 0 n)) out next
+pub printing_all : {p : Printer} {s : List ℕ} {n i : ℕ} {q : Printer} → Printing p s n i q → n ≤ i
+    → Prints p (runs_text (runs_at s 0 n)) q
 unfolding runs_text runs_at
-printing_all {had} {at} {s} {n} {i} so h =
+printing_all {p} {s} {n} {i} so h =
     let z : 0 ≡ n - i = omega arith in
-    put_as (sym (append-nil so.done) ∙ ap (λ k. so.done ++ runs_text (runs_at s i k)) z ∙ so.rest) so.printed
+    prints_as (sym (append-nil so.done) ∙ ap (λ k. so.done ++ runs_text (runs_at s i k)) z ∙ so.rest) so.printed

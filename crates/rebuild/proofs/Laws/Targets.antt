@@ -1,8 +1,8 @@
 -- The ways out where a target is filled: a sound source has a fit head, fit pages and a run. Assumes nothing.
 use Prim.Native.Nat.{ℕ, suc, ◌-◌, ◌≤◌, ◌<◌}
 use mathlib.Core.Path.{◌≡◌, refl, sym, ap, ◌∙◌}
-use mathlib.Core.Bool.{true, false, not, false≢true}
-use mathlib.Core.List.{List}
+use mathlib.Core.Bool.{true, false≢true}
+use mathlib.Core.List.{List, []}
 use native.Mathlib.Omega.{arith}
 use lib.ListN.{length}
 use borrow.Author.Tests.{lt-ltb, le-ltb}
@@ -12,10 +12,12 @@ use Rattle.page.specs.declared.Head.{Head}
 use Rattle.image.specs.Images.{pages_in, length_ok, image_bytes}
 use Rattle.image.specs.Sound.{sound_before}
 use Rattle.image.specs.Instant.{look_up}
+use Rattle.std.specs.Prelude.{None}
 use Rattle.tight.specs.Tight.{pages_used, tight, too_small}
-use Rattle.access.specs.declared.HeadCheck.TheVariants.{Unfit}
 use Rattle.access.specs.Access.{OpenImage, head_check}
 use Rattle.access.proofs.Laws.{shut}
+use Rattle.calls.specs.Refusals.{first}
+use Rattle.calls.proofs.Rows.{first_on, first_off}
 use Rattle.calls.specs.Calls.{head, head_ok, full_runs, rebuilt_bytes}
 use Rattle.book.specs.Book.{runs_after, runs_of}
 use Rattle.answers.proofs.Sound.{sound_head, sound_walk}
@@ -24,7 +26,7 @@ use Rattle.rebuild.specs.Rebuild.{Rebuildable, Fills}
 
 module _ (half : ℕ) (source : List ℕ) (fits : sound_before half source ≡ true) where
   -- the test of the head doesn't turn it back
-  pub not_shut : Unfit ≡ head_check half source → ⊥
+  pub not_shut : None ≡ head_check half source → ⊥
   not_shut e = false≢true (sym (shut half source e) ∙ unfold head_ok in sound_head half source fits)
 
   some_run : 1 ≤ length (full_runs half source)
@@ -39,13 +41,13 @@ module _ (half : ℕ) (source : List ℕ) (fits : sound_before half source ≡ t
     some_told = omega (arith, told, some_run)
 
     -- too few pages: nothing is written
-    pub fills_not : (target : List ℕ) → pages_in half target ≤ pages_used half m → Fills half source target false target
-    unfolding too_small
+    pub fills_not : (target : List ℕ) → pages_in half target ≤ pages_used half m → Fills half source target 24 target
+    unfolding too_small first
     fills_not target few =
         let e : pages_used half m ≡ pages_used half (length (full_runs half source)) = ap (pages_used half) told in
         record {
           told =
-              sym (ap not (lt-ltb (pages_in half target) (suc (pages_used half (length (full_runs half source)))) (omega (arith, few, e))));
+              sym (first_on 24 [] (lt-ltb (pages_in half target) (suc (pages_used half (length (full_runs half source)))) (omega (arith, few, e))));
           leaves = refl;
         }
 
@@ -65,14 +67,14 @@ module _ (half : ℕ) (source : List ℕ) (fits : sound_before half source ≡ t
             room = le-ltb (pages_in half target) (suc (pages_used half m)) (omega arith);
           }
 
-      pub fills : {left : List ℕ} → left ≡ rebuilt_bytes half source (pages_in half target) → Fills half source target true left
-      unfolding too_small
+      pub fills : {left : List ℕ} → left ≡ rebuilt_bytes half source (pages_in half target) → Fills half source target 0 left
+      unfolding too_small first
       fills e =
           let same : pages_used half m ≡ pages_used half (length (full_runs half source)) = ap (pages_used half) told in
           record {
             told =
                 sym
-                (ap not
+                (first_off 24 []
                 (le-ltb (pages_in half target) (suc (pages_used half (length (full_runs half source)))) (omega (arith, room, same))));
             leaves = e;
           }

@@ -1,34 +1,21 @@
 -- Where a byte stands next, and a list cut at every such byte. Assumes nothing.
-use mathlib.Core.Path.{◌≡◌, refl, sym, ap, ◌∙◌}
+use mathlib.Core.Path.{◌≡◌, refl, ap, ap₂, ◌∙◌}
 use mathlib.Core.Bool.{Bool, true, false, cond}
-use Prim.Native.Nat.{ℕ, suc, ◌+◌, ◌≤◌, ◌<◌}
-use native.Mathlib.Numerals.{add-one}
+use Prim.Native.Nat.{ℕ, suc, ◌≤◌, ◌<◌}
 use native.Mathlib.Omega.{arith}
 use mathlib.Core.List.{List, [], ◌∷◌}
-use lib.ListN.{length, get_or, take, drop}
-use lib.Seq.{drop-cons, drop-length}
+use lib.ListN.{length, take, drop}
 use lib.Dec.{eqb}
-use borrow.Author.Tests.{eq-eqb, ne_eqb}
+use Rattle.std.specs.List as list
+use Rattle.std.specs.List.{slice_split}
 use Rattle.calls.specs.Program.{cut_at, onto_first}
-use Rattle.text.specs.Reading.{ahead}
 
 -- ---- where a byte stands next
 
-pub ahead_here : (b : ℕ) (s : List ℕ) (i : ℕ) → i < length s → get_or s i 0 ≡ b → ahead b (drop i s) ≡ 0
-unfolding ahead
-ahead_here b s i h e =
-    ap (ahead b) (drop-cons s i 0 h) ∙ ap (λ t. cond t 0 (suc (ahead b (drop (suc i) s)))) (eq-eqb (get_or s i 0) b e)
-
-pub ahead_more : (b : ℕ) (s : List ℕ) (i : ℕ) → i < length s → (get_or s i 0 ≡ b → ⊥) → ahead b (drop i s) ≡ suc (ahead b (drop (i + 1) s))
-unfolding ahead
-ahead_more b s i h n =
-    ap (ahead b) (drop-cons s i 0 h)
-    ∙ ap (λ t. cond t 0 (suc (ahead b (drop (suc i) s)))) (ne_eqb (get_or s i 0) b n)
-    ∙ ap (λ k. suc (ahead b (drop k s))) (sym (add-one i))
-
-pub ahead_none : (b : ℕ) (s : List ℕ) → ahead b (drop (length s) s) ≡ 0
-unfolding ahead
-ahead_none b s = ap (ahead b) (drop-length s)
+-- how many bytes stand before the first c, or in all if there is none
+unfoldable pub ahead : ℕ → List ℕ → ℕ
+ahead c [] = 0
+ahead c (x ∷ xs) = cond (eqb x c) 0 (suc (ahead c xs))
 
 -- ---- a list cut there
 
@@ -70,3 +57,16 @@ cut_some b (x ∷ xs) = step (eqb x b) (cut_some b xs)
     step : (t : Bool) → Pieces (cut_at b xs) → Pieces (cond t ([] ∷ cut_at b xs) (onto_first x (cut_at b xs)))
     step true p = record { first = []; others = cut_at b xs; same = refl }
     step false p = record { first = x ∷ p.first; others = p.others; same = ap (onto_first x) p.same }
+
+-- ---- a list cut by the library's `split`
+
+onto_same : (x : ℕ) (ls : List (List ℕ)) → onto_first x ls ≡ list.onto_first x ls
+unfolding onto_first
+onto_same x [] = refl
+onto_same x (l ∷ ls) = refl
+
+pub cut_split : (b : ℕ) (s : List ℕ) → cut_at b s ≡ slice_split (λ x. eqb x b) s
+unfolding cut_at
+cut_split b [] = refl
+cut_split b (x ∷ xs) =
+    ap₂ (λ p q. cond (eqb x b) ([] ∷ p) q) (cut_split b xs) (ap (onto_first x) (cut_split b xs) ∙ onto_same x (slice_split (λ y. eqb y b) xs))

@@ -1,39 +1,39 @@
 -- What is kept of a line that comes byte by byte. Assumes nothing.
 use mathlib.Core.Path.{◌≡◌, sym, ap, ◌∙◌}
-use Prim.Native.Nat.{ℕ, ◌+◌, ◌≤◌, ◌<◌}
+use Prim.Native.Nat.{ℕ, ◌+◌, ◌≤◌, ◌<◌, min}
 use native.Mathlib.Numerals.{add-one}
 use native.Mathlib.Omega.{arith}
 use mathlib.Core.List.{List, [], ◌∷◌, ◌++◌}
-use lib.ListN.{length, set, take, length-append}
-use lib.Seq.{take_all, take-append-le, take-suc-set}
-use Rattle.text.specs.declared.Fed.{Fed}
+use lib.ListN.{length, set, take, length-append, length-take}
+use lib.Seq.{take_all, take-append-le, take-suc-set, length-take-le}
 use Rattle.text.specs.Reading.{Holds}
 
-module _ {f : Fed} {line : List ℕ} (h : Holds f line) where
+-- the first n bytes of a buffer are what is kept of a line
+module _ (line buffer : List ℕ) (n : ℕ) (l : length buffer ≡ 36) (m : n ≤ 36) (h : Holds (take n buffer) line) where
+  count : n ≡ min 36 (length line)
+  count = sym (length-take-le n buffer (omega arith)) ∙ ap length h ∙ length-take 36 line
+
   -- a byte more, where there is room, and where there is none
-  pub fed_more : (b : ℕ) → length f.bytes ≡ 36 → f.length < 36
-      → Holds (record { bytes = set f.bytes f.length b; length = f.length + 1 }) (line ++ (b ∷ []))
-  fed_more b l k =
-      let n : length (line ++ (b ∷ [])) ≡ length line + 1 = length-append line (b ∷ []) in
-      record {
-        count = omega (arith, h.count);
-        same =
-            ap (λ i. take i (set f.bytes f.length b)) (add-one f.length)
-            ∙ take-suc-set f.bytes f.length b (omega arith)
-            ∙ ap (λ l. l ++ (b ∷ [])) (h.same ∙ take_all 36 line (omega (arith, h.count)))
-            ∙ sym (take_all 36 (line ++ (b ∷ [])) (omega (arith, h.count)));
-      }
+  pub fed_more : (b : ℕ) → n < 36 → Holds (take (n + 1) (set buffer n b)) (line ++ (b ∷ []))
+  fed_more b k =
+      ap (λ i. take i (set buffer n b)) (add-one n)
+      ∙ take-suc-set buffer n b (omega arith)
+      ∙ ap (λ r. r ++ (b ∷ [])) (h ∙ take_all 36 line (omega (arith, count)))
+      ∙ sym (take_all 36 (line ++ (b ∷ [])) (omega (arith, count, length-append line (b ∷ []))))
 
-  pub fed_full : (b : ℕ) → 36 ≤ f.length → Holds f (line ++ (b ∷ []))
-  fed_full b k =
-      record {
-        count = omega (arith, h.count, length-append line (b ∷ []));
-        same = h.same ∙ sym (take-append-le 36 line (b ∷ []) (omega (arith, h.count)));
-      }
+  pub fed_full : (b : ℕ) → 36 ≤ n → Holds (take n buffer) (line ++ (b ∷ []))
+  fed_full b k = h ∙ sym (take-append-le 36 line (b ∷ []) (omega (arith, count)))
 
-  -- a line that is not too long is all there
-  pub fed_line : f.length ≤ 35 → take f.length f.bytes ≡ line
-  fed_line k = h.same ∙ take_all 36 line (omega (arith, h.count))
+-- a line of which not too much is kept is all there, and another one is longer than a booking
+pub held_line : {kept : List ℕ} (line : List ℕ) → Holds kept line → length kept ≤ 35 → kept ≡ line
+held_line line h k = h ∙ take_all 36 line (omega (arith, ap length h, length-take 36 line))
 
-  pub fed_long : 35 < f.length → 35 < length line
-  fed_long k = omega (arith, h.count)
+pub held_long : {kept : List ℕ} (line : List ℕ) → Holds kept line → 35 < length kept → 35 < length line
+held_long line h k = omega (arith, ap length h, length-take 36 line)
+
+-- nothing is kept of the empty line, and of no other
+pub held_none : {kept : List ℕ} (line : List ℕ) → Holds kept line → length kept ≡ 0 → length line ≡ 0
+held_none line h e = omega (arith, ap length h, length-take 36 line)
+
+pub held_some : {kept : List ℕ} (line : List ℕ) → Holds kept line → length line ≡ 0 → length kept ≡ 0
+held_some line h e = omega (arith, ap length h, length-take 36 line)

@@ -1,5 +1,5 @@
 -- A booking has 35 bytes at most: the sign, a value of 11 and two instants of 10, and three spaces. Assumes nothing.
-use mathlib.Core.Path.{◌≡◌, refl, sym, ap, ◌∙◌}
+use mathlib.Core.Path.{◌≡◌, refl, ap, ◌∙◌}
 use mathlib.Core.Bool.{Bool, true, false, cond}
 use Prim.Native.Nat.{ℕ, suc, ◌+◌, ◌<◌}
 use native.Mathlib.Decide.{dec_lt, ℕ_discrete}
@@ -7,11 +7,11 @@ use native.Mathlib.Omega.{arith}
 use mathlib.Core.List.{List, [], ◌∷◌}
 use lib.ListN.{length, get_or, drop, length-drop}
 use lib.Dec.{eqb}
-use Rattle.calls.specs.Changes.{Side, entering, withdrawing}
+use Rattle.calls.specs.Changes.{Side}
 use Rattle.calls.specs.Program.{unread, cut_at, onto_first, instant_read, value_read, line_with, signed_line, line_from}
 use Rattle.text.proofs.Laws.Cuts.{Pieces, cut_some}
 use Rattle.text.proofs.Laws.Digits.{read_long}
-use Rattle.text.proofs.Laws.Lines.{instant_not, value_minus, value_plain, sign_alone, not_value, not_start, not_end}
+use Rattle.text.proofs.Laws.Lines.{instant_not, value_minus, value_plain, sign_alone, unsigned, sign_unread, not_value, not_start, not_end}
 
 -- the bytes of the pieces, and one more for each
 unfoldable size : List (List ℕ) → ℕ
@@ -40,11 +40,11 @@ value_long ds h = step (ℕ_discrete (get_or ds 0 0) 45)
     step : Dec (get_or ds 0 0 ≡ 45) → value_read ds ≡ false
     step (yes e) =
         let l : 10 < length (drop 1 ds) = simp length-drop (omega arith) in
-        value_minus ds (omega arith) e ∙ sym (read_long (drop 1 ds) l)
-    step (no n) = value_plain ds (omega arith) n ∙ sym (read_long ds (omega arith))
+        value_minus ds (omega arith) e ∙ read_long (drop 1 ds) l
+    step (no n) = value_plain ds (omega arith) n ∙ read_long ds (omega arith)
 
 instant_long : (ds : List ℕ) → 10 < length ds → instant_read ds ≡ false
-instant_long ds h = sym (instant_not ds (sym (read_long ds h)))
+instant_long ds h = instant_not ds (read_long ds h)
 
 three_long : (side : Side) (v s e : List ℕ) → 31 < length v + length s + length e → line_with side v s e ≡ unread
 three_long side v s e h = step (dec_lt 11 (length v)) (dec_lt 10 (length s))
@@ -54,23 +54,12 @@ three_long side v s e h = step (dec_lt 11 (length v)) (dec_lt 10 (length s))
     step (no n) (yes l) = not_start side v s e (instant_long s l)
     step (no n) (no m) = not_end side v s e (instant_long e (omega arith))
 
-sign_unread : (c v s e : List ℕ) → ((side : Side) → line_with side v s e ≡ unread) → signed_line c v s e ≡ unread
-unfolding signed_line
-sign_unread [] v s e f = refl
-sign_unread (x ∷ []) v s e f = step (eqb x 43) (eqb x 45)
-  where
-    step : (p m : Bool) → cond p (line_with entering v s e) (cond m (line_with withdrawing v s e) unread) ≡ unread
-    step true m = f entering
-    step false true = f withdrawing
-    step false false = refl
-sign_unread (x ∷ y ∷ ys) v s e f = refl
-
 four_long : (c v s e : List ℕ) → 32 < length c + length v + length s + length e → signed_line c v s e ≡ unread
 four_long c v s e h = step (ℕ_discrete (length c) 1)
   where
     step : Dec (length c ≡ 1) → signed_line c v s e ≡ unread
     step (yes l) = sign_unread c v s e (λ side. three_long side v s e (omega arith))
-    step (no n) = sign_alone c v s e n
+    step (no n) = unsigned c v s e (sign_alone c n)
 
 pieces_long : (ls : List (List ℕ)) → 36 < size ls → line_from ls ≡ unread
 unfolding size line_from

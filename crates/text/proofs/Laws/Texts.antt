@@ -10,8 +10,7 @@ use lib.Seq.{take_at, drop-append-add, append_snoc}
 use lib.Dec.{eqb}
 use borrow.Author.Tests.{ne_eqb}
 use Rattle.calls.specs.Program.{cut_at, without_empty_last, lines_of}
-use Rattle.text.specs.Reading.{ahead}
-use Rattle.text.proofs.Laws.Cuts.{Pieces, cut_there, cut_whole, cut_some}
+use Rattle.text.proofs.Laws.Cuts.{ahead, Pieces, cut_there, cut_whole, cut_some}
 
 -- a piece that others follow is a line; the last one is, unless it is empty
 with_others : (l : List ℕ) {ms : List (List ℕ)} → Pieces ms → without_empty_last (l ∷ ms) ≡ l ∷ without_empty_last ms

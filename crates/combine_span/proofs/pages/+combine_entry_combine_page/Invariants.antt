@@ -1,6 +1,6 @@
 -- A page's measure is 2·level + 1, an entry's 2·level: the level falls from an entry to the page below. The loop's invariant: the entries
 -- passed have sent below what they send.
-use Rattle.std.proofs.Common.{◌+◌, ◌-◌, ◌*◌}
+use Rattle.std.proofs.Common.{◌+◌, ◌*◌}
 use Rattle.combine_span.proofs.Sent as turns
 use Rattle.combine_span.proofs.pages.+combine_entry_combine_page.Given as goal
 
@@ -11,7 +11,4 @@ abbrev pub decreases-combine_page : goal.decreases-combine_page
 decreases-combine_page l = 2 * l.level + 1
 
 abbrev pub invariant-combine_page-loop-i : goal.invariant-combine_page-loop-i
-invariant-combine_page-loop-i l = turns.Sending l.q l.level l.hi l.p l.half l.initial.img l.n l.i l.img
-
-abbrev pub decreases-combine_page-loop-i : goal.decreases-combine_page-loop-i
-decreases-combine_page-loop-i l = l.n - l.i
+invariant-combine_page-loop-i l = turns.Sending l.q l.level l.hi l.p l.half l.initial.img l.i-end l.i l.img

@@ -34,14 +34,14 @@ grow_root-requires c =
     let head = c.head_of-h.ensures X h tt in
     let ready = root_ready _ c.args.t X head c.root_entry.ensures (r.root inside) in
     let grew = root_cut _ c.args.t X head c.root_entry.ensures (c.cut_entry.ensures X h ready) in
-    let g = told c.in-Split.is grew in
+    let g = told c.in-Some.is grew in
     record { image = _; holds = g.holds; ready = root_growable _ _ X head g (r.root inside) })
 
-pub returns : goal.returns
-returns c X h r =
+pub returns-in-Some : goal.returns-in-Some
+returns-in-Some c X h r =
     let inside : c.args.t < END = omega (arith, c.if-t-eq-END.false) in
     let head = c.head_of-h.ensures X h tt in
     let ready = root_ready _ c.args.t X head c.root_entry.ensures (r.root inside) in
     let grew = root_cut _ c.args.t X head c.root_entry.ensures (c.cut_entry.ensures X h ready) in
-    let g = told c.in-Split.is grew in
+    let g = told c.in-Some.is grew in
     root_two _ _ X head g inside (c.grow_root.ensures _ g.holds (root_growable _ _ X head g (r.root inside)))

@@ -1,7 +1,8 @@
 -- `cut_entry` calls itself on the entry of the page below and meets its contract. Assumes nothing.
-use Rattle.std.proofs.Common.{arith}
+use Rattle.std.proofs.Common.{sym, arith}
 use Rattle.store.proofs.Encoding.{from, readied}
 use Rattle.cut.proofs.Cutting.{leaf_as, page_cuttable, searched, found_cut, found_same, found_insertable, found_two}
+use Rattle.cut.proofs.Splitting.{told}
 use Rattle.cut.proofs.entries.+cut_entry.Goals as goal
 
 pub returns-then-level-eq0 : goal.returns-then-level-eq0
@@ -16,21 +17,21 @@ cut_entry-requires n c = (
   readied c.requires (λ X h r. (searched c.args.e c.args.hi c.if-level-eq0.false h r c.find_entry-found.ensures).below),
 )
 
-pub returns-in_default : goal.returns-in_default
-returns-in_default n c X h r =
+pub returns-in_err-right : goal.returns-in_err-right
+returns-in_err-right n c X h r =
     let k = searched c.args.e c.args.hi c.if-level-eq0.false h r c.find_entry-found.ensures in
-    found_same k (found_cut k c.in_default.is (c.cut_entry.ensures X h k.below))
+    told (sym c.from_residual.ensures) (found_same k (found_cut k c.in_err-right.was (c.cut_entry.ensures X h k.below)))
 
 pub insert_after-requires : goal.insert_after-requires
 insert_after-requires n c =
     from c.requires
     (λ X h r.
     let k = searched c.args.e c.args.hi c.if-level-eq0.false h r c.find_entry-found.ensures in
-    let b = found_cut k c.in-Split.is (c.cut_entry.ensures X h k.below) in
+    let b = found_cut k c.in_ok-right.was (c.cut_entry.ensures X h k.below) in
     record { image = _; holds = b.holds; ready = (_, found_insertable k b) })
 
 pub returns : goal.returns
 returns n c X h r =
     let k = searched c.args.e c.args.hi c.if-level-eq0.false h r c.find_entry-found.ensures in
-    let b = found_cut k c.in-Split.is (c.cut_entry.ensures X h k.below) in
+    let b = found_cut k c.in_ok-right.was (c.cut_entry.ensures X h k.below) in
     found_two k b (c.insert_after.ensures _ b.holds _ (found_insertable k b))

@@ -18,7 +18,7 @@ returns-then-not-entry_count_ok c =
 -- the count of entries is compared before anything uses it
 pub starts_ok-requires : goal.starts_ok-requires
 starts_ok-requires c =
-    let o = c.requires.le_half in
+    let o = c.requires.bytes in
     let number = sym c.entry_count_ok.ensures ∙ c.if-not-entry_count_ok.false in
     omega (arith, compared c.args.half c.args.at c.args.s.now o.0 o.1 c.entry_count-n.ensures number)
 
@@ -31,7 +31,7 @@ returns-then-not-starts_ok c =
 
 pub unused_ok-requires : goal.unused_ok-requires
 unused_ok-requires c =
-    let o = c.requires.le_half in
+    let o = c.requires.bytes in
     let number = sym c.entry_count_ok.ensures ∙ c.if-not-entry_count_ok.false in
     compared c.args.half c.args.at c.args.s.now o.0 o.1 c.entry_count-n.ensures number
 
@@ -44,7 +44,7 @@ returns-then-not-unused_ok c =
 
 pub entries_ok-requires : goal.entries_ok-requires
 entries_ok-requires c =
-    let o = c.requires.le_half in
+    let o = c.requires.bytes in
     let number = sym c.entry_count_ok.ensures ∙ c.if-not-entry_count_ok.false in
     compared c.args.half c.args.at c.args.s.now o.0 o.1 c.entry_count-n.ensures number
 

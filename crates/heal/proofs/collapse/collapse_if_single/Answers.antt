@@ -9,11 +9,7 @@ use Rattle.store.specs.Preconditions.{TreePage}
 use Rattle.heal.specs.Healable.{Collapsible, CollapsibleIfSingle}
 use Rattle.heal.proofs.Roots.{read_root, read_len, collapsed_low, collapsed_wide, collapsed_collapse_root}
 use Rattle.heal.proofs.collapse.collapse_if_single.Goals as goal
-
-pub returns-then-h-lt2 : goal.returns-then-h-lt2
-returns-then-h-lt2 c X h s =
-    let e = ap (λ (k : Head). k.height) (c.head_of-h.ensures X h tt) in
-    subst (Encodes _ _) (collapsed_low c.args.kind X (omega (arith, c.if-h-lt2.true))) h
+use Rattle.heal.proofs.collapse.collapse_if_single.Goals.{else-h-gt1-via-then-h-gt1+else-entry_count_in-eq1, else-h-gt1-via-else-h-gt1}
 
 -- ---- the root as its head was read, of an image that the bytes encode
 
@@ -32,10 +28,17 @@ returns-then-entry_count_in-eq1 c X h s =
     let e = c.head_of-h.ensures X h tt in
     let n = c.entry_count_in.ensures in
     let one = c.if-entry_count_in-eq1.true in
-    let l = collapses e h s n (omega (arith, c.if-h-lt2.false)) one in
+    let l = collapses e h s n c.if-h-gt1.true one in
     subst (Encodes _ _) (collapsed_collapse_root c.args.kind X l.inner (sym (len e h s n) ∙ one)) (c.collapse_root.ensures X h l)
 
-pub returns-else-entry_count_in-eq1 : goal.returns-else-entry_count_in-eq1
-returns-else-entry_count_in-eq1 c X h s =
-    let n = len (c.head_of-h.ensures X h tt) h s c.entry_count_in.ensures in
-    subst (Encodes _ _) (collapsed_wide c.args.kind X (λ e. c.if-entry_count_in-eq1.false (n ∙ e))) h
+pub returns-else-h-gt1 : goal.returns-else-h-gt1
+returns-else-h-gt1 c X h s =
+    let head = c.head_of-h.ensures X h tt in
+    elim c.else-h-gt1.branch [
+      | else-h-gt1-via-then-h-gt1+else-entry_count_in-eq1 w ↦
+          let n = len head h s w.entry_count_in.ensures in
+          subst (Encodes _ _) (collapsed_wide c.args.kind X (λ e. w.if-entry_count_in-eq1.false (n ∙ e))) h
+      | else-h-gt1-via-else-h-gt1 w ↦
+          let e = ap (λ (k : Head). k.height) head in
+          subst (Encodes _ _) (collapsed_low c.args.kind X (omega (arith, w.if-h-gt1.false))) h
+    ]

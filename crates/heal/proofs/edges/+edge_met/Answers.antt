@@ -26,21 +26,21 @@ find_entry-found-requires n c = readied c.requires (λ X h s. (_, (way _ _ _ c.i
 pub sides_agree-requires : goal.sides_agree-requires
 sides_agree-requires n c =
     readied c.requires
-    (λ X h s. (found c.args.kind c.args.hi c.if-level-eq0.false c.find_entry-found.ensures X h s).sides c.if-e-t.true)
+    (λ X h s. (found c.args.kind c.args.hi c.if-level-eq0.false c.find_entry-found.ensures X h s).sides c.if-found-t.true)
 
-pub returns-then-e-t : goal.returns-then-e-t
-returns-then-e-t n c X h s =
+pub returns-then-found-t : goal.returns-then-found-t
+returns-then-found-t n c X h s =
     let k = found c.args.kind c.args.hi c.if-level-eq0.false c.find_entry-found.ensures X h s in
-    c.sides_agree.ensures X h (k.sides c.if-e-t.true) ∙ k.parted c.if-e-t.true
+    c.sides_agree.ensures X h (k.sides c.if-found-t.true) ∙ k.parted c.if-found-t.true
 
 pub edge_met-requires : goal.edge_met-requires
 edge_met-requires n c = (
   omega (arith, c.if-level-eq0.false),
   readied c.requires
-      (λ X h s. (found c.args.kind c.args.hi c.if-level-eq0.false c.find_entry-found.ensures X h s).below c.if-e-t.false),
+      (λ X h s. (found c.args.kind c.args.hi c.if-level-eq0.false c.find_entry-found.ensures X h s).below c.if-found-t.false),
 )
 
-pub returns : goal.returns
-returns n c X h s =
+pub returns-else-found-t : goal.returns-else-found-t
+returns-else-found-t n c X h s =
     let k = found c.args.kind c.args.hi c.if-level-eq0.false c.find_entry-found.ensures X h s in
-    c.edge_met.ensures X h (k.below c.if-e-t.false) ∙ k.on c.if-e-t.false
+    c.edge_met.ensures X h (k.below c.if-found-t.false) ∙ k.on c.if-found-t.false

@@ -3,18 +3,15 @@
 use mathlib.Core.Path.{subst⁻¹}
 use Rattle.std.proofs.Common.{◌≡◌, ℕ, suc, ◌-◌, ◌<◌, ◌∙◌, arith}
 use Rattle.rule.specs.Pairs.{combine}
+use Rattle.rule.proofs.Laws.{pairs_equal}
 use Rattle.page.specs.declared.Entry.{Entry}
 use Rattle.page.specs.Entries.{at}
 use Rattle.image.specs.Images.{Image}
 use Rattle.steps.specs.Supply.{entries}
 use Rattle.store.specs.Preconditions.{HasEntry}
 use Rattle.heal.specs.Edges.{UnderTotalled, SidesReadable}
-use Rattle.heal.proofs.Sides.{sides_first, sides_later}
+use Rattle.heal.proofs.Sides.{sides_later}
 use Rattle.heal.proofs.edges.sides_agree.Goals as goal
-
-pub returns-then-i-eq0 : goal.returns-then-i-eq0
-returns-then-i-eq0 c X h s =
-    sides_first (combine c.args.kind) c.args.t c.args.p c.args.below c.args.found.index X c.if-i-eq0.true
 
 -- ---- an entry that isn't the first, of an image that the bytes encode
 
@@ -36,6 +33,6 @@ returns c X h s =
     let kind = c.args.kind in
     let some = c.if-i-eq0.false in
     let before = c.entry_of-before.ensures X h _ (has_before kind some s) in
-    c.same_pair.ensures
+    c.eq.ensures ∙ pairs_equal _ _
     ∙ sides_later (combine kind) c.args.t c.args.p c.args.below c.args.found.index X some s.read before
     (c.total_under-right.ensures X h (right kind some s)) (c.total_under-left.ensures X h (left kind some s before))

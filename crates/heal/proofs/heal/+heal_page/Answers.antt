@@ -9,14 +9,14 @@ use Rattle.heal.proofs.Paths.{leaf_ready, inner, found_inner}
 use Rattle.heal.proofs.heal.+heal_page.Goals as goal
 
 pub heal_leaf-requires : goal.heal_leaf-requires
-heal_leaf-requires n c = readied c.requires (λ X h s. leaf_ready _ c.args.kind c.args.edge _ _ c.if-level-eq0.true s)
+heal_leaf-requires n c = readied c.requires (λ X h s. leaf_ready _ c.args.by.kind c.args.by.edge _ _ c.if-level-eq0.true s)
 
 pub returns-then-level-eq0 : goal.returns-then-level-eq0
 returns-then-level-eq0 n c X h s =
     let e = c.if-level-eq0.true in
     subst⁻¹
-    (λ l. Encodes c.args.half c.heal_leaf.new.img (heal c.args.half (combine c.args.kind) c.args.edge c.args.t l c.args.p X)) e
-    (c.heal_leaf.ensures X h (leaf_ready _ c.args.kind c.args.edge _ _ e s) c.args.kind)
+    (λ l. Encodes c.args.half c.heal_leaf.new.img (heal c.args.half (combine c.args.by.kind) c.args.by.edge c.args.by.t l c.args.p X)) e
+    (c.heal_leaf.ensures X h (leaf_ready _ c.args.by.kind c.args.by.edge _ _ e s) c.args.by.kind)
 
 pub find_entry-found-requires : goal.find_entry-found-requires
 find_entry-found-requires n c = readied c.requires (λ X h s. (_, (inner _ _ _ _ _ c.if-level-eq0.false s).searchable))

@@ -13,8 +13,8 @@ size : {img : List ℕ} {q : SpanQuery} {on : Cursor} {s : List ℕ} → ValidCu
     → length s ≡ page_size q.half
 size sits e = ap length e ∙ page_length sits
 
-pub found_fit-requires-clause-le_half : goal.found_fit-requires-clause-le_half
-found_fit-requires-clause-le_half c = (c.requires.valid_cursor.half_least, size c.requires.valid_cursor c.page_at-s.ensures)
+pub found_fit-requires-clause-whole_page : goal.found_fit-requires-clause-whole_page
+found_fit-requires-clause-whole_page c = (c.requires.valid_cursor.half_least, size c.requires.valid_cursor c.page_at-s.ensures)
 
 pub found_fit-requires-clause-bounded : goal.found_fit-requires-clause-bounded
 found_fit-requires-clause-bounded c = sits_bounded c.requires.valid_cursor

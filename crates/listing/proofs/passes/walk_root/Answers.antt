@@ -36,23 +36,24 @@ module _ {img : List ℕ} {at : PageContext} (q : SpanQuery) (e : at ≡ root_co
   room h = rw whole h
 
 pub root_context-requires : goal.root_context-requires
-root_context-requires c = (opened_ranges c.requires.le_half.2).height_least
+root_context-requires g c = (opened_ranges c.requires.opened.2).height_least
 
 pub check_page-requires : goal.check_page-requires
-check_page-requires c =
+check_page-requires g c =
     let w = c.requires in
     let e = c.root_context.ensures in
-    record { valid_cursor = stands _ e w.le_half; known_fit = room_known _ _ _ (room c.args.q e w.le_half w.room) }
+    record { valid_cursor = stands _ e w.opened; known_fit = room_known _ _ _ (room c.args.q e w.opened w.room) }
 
-pub returns-in_default : goal.returns-in_default
-returns-in_default c =
-    rw (sym (whole c.args.q c.root_context.ensures c.requires.le_half) ∙ opened_unfit _ _ _ c.in_default.ensures) (does_stopped _ _ _)
+pub returns-in_err-n : goal.returns-in_err-n
+returns-in_err-n g c =
+    rw (c.from_residual.ensures, sym (whole c.args.q c.root_context.ensures c.requires.opened) ∙ opened_unfit _ _ _ c.in_err-n.ensures)
+    (does_stopped _ _ _)
 
 pub walk_page-requires : goal.walk_page-requires
-walk_page-requires c =
+walk_page-requires g c =
     let w = c.requires in
     let e = c.root_context.ensures in
-    record { valid_cursor = stands _ e w.le_half; n_value = c.in-Entries.ensures; room = room c.args.q e w.le_half w.room }
+    record { valid_cursor = stands _ e w.opened; fit_page = c.in_ok-n.ensures; room = room c.args.q e w.opened w.room }
 
 pub returns : goal.returns
-returns c = rw (whole c.args.q c.root_context.ensures c.requires.le_half) at c.walk_page.ensures
+returns g c = rw (whole c.args.q c.root_context.ensures c.requires.opened) at c.walk_page.ensures

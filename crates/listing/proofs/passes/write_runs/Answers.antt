@@ -6,7 +6,7 @@ use Rattle.listing.proofs.passes.write_runs.Goals as goal
 pub walk_root-requires-clause-room : goal.walk_root-requires-clause-room
 walk_root-requires-clause-room c =
     let w = c.requires in
-    room_writing c.args.a c.args.b _ w.le_half.1 w.le_half.2 w.b_value w.b_in_bounds
+    room_writing c.args.a c.args.b _ w.opened.1 w.opened.2 w.all_fit w.room
 
 pub returns : goal.returns
-returns c = c.walk_root.ensures.writes ∙ output_all _ _ c.requires.b_in_bounds
+returns c = c.walk_root.ensures.writes ∙ output_all _ _ c.requires.room

@@ -25,50 +25,51 @@ meets least opened m inner u is told = record { come = comes least opened m inne
 
 pub returns-then-at-eq0 : goal.returns-then-at-eq0
 returns-then-at-eq0 n c p m =
-    let o = c.requires.le_half in
+    let o = c.requires.opened in
     leaf_looked o.0 o.1 m.come (found_level _ _ _ _ _ m.found) c.if-at-eq0.true
 
 pub context_under-under-requires : goal.context_under-under-requires
 context_under-under-requires n c =
-    let o = c.requires.le_half in
+    let o = c.requires.opened in
     (omega (arith, c.if-at-eq0.false), (come_on_path o.0 o.1 c.requires.met.1.come).bounded)
 
-pub level_answer-requires-clause-le_half : goal.level_answer-requires-clause-le_half
-level_answer-requires-clause-le_half n c =
-    let o = c.requires.le_half in
+pub level_answer-requires-clause-inside : goal.level_answer-requires-clause-inside
+level_answer-requires-clause-inside n c =
+    let o = c.requires.opened in
     (o.0, come_within o.0 o.1 (comes o.0 o.1 c.requires.met.1 (omega (arith, c.if-at-eq0.false)) c.context_under-under.ensures))
 
 pub level_answer-requires-clause-on_path : goal.level_answer-requires-clause-on_path
 level_answer-requires-clause-on_path n c =
-    let o = c.requires.le_half in
+    let o = c.requires.opened in
     come_on_path o.0 o.1 (comes o.0 o.1 c.requires.met.1 (omega (arith, c.if-at-eq0.false)) c.context_under-under.ensures)
 
 pub returns-in_default : goal.returns-in_default
 returns-in_default n c p m =
-    let o = c.requires.le_half in
-    unfit_below o.0 o.1 m.come (found_level _ _ _ _ _ m.found) (omega (arith, c.if-at-eq0.false))
-    (rw c.context_under-under.ensures at (unfit_level _ _ _ _ _ (sym c.in_default.is ∙ c.level_answer.ensures)))
+    let o = c.requires.opened in
+    rw c.unfit_after.ensures
+    (unfit_below o.0 o.1 m.come (found_level _ _ _ _ _ m.found) (omega (arith, c.if-at-eq0.false))
+    (rw c.context_under-under.ensures at (unfit_level _ _ _ _ _ (sym c.in_default.is ∙ c.level_answer.ensures))))
 
 pub look-requires : goal.look-requires
 look-requires n c =
-    let o = c.requires.le_half in
+    let o = c.requires.opened in
     let met =
     meets o.0 o.1 c.requires.met.1 (omega (arith, c.if-at-eq0.false)) c.context_under-under.ensures c.in-Entry.is c.level_answer.ensures
     in (
       omega (arith, ap (λ (at : PageContext). at.level) c.context_under-under.ensures, c.if-at-eq0.false),
-      (c.requires.le_half, (c.args.e.child, met)),
+      (c.requires.opened, (c.args.e.child, met)),
     )
 
 pub combine_above-requires : goal.combine_above-requires
 combine_above-requires n c =
-    let o = c.requires.le_half in
+    let o = c.requires.opened in
     let m = c.requires.met.1 in
     below_combinable o.0 o.1 m.come (found_level _ _ _ _ _ m.found) (omega (arith, c.if-at-eq0.false)) c.look.result
     (rw c.context_under-under.ensures at (c.look.ensures _ (meets o.0 o.1 m (omega (arith, c.if-at-eq0.false)) c.context_under-under.ensures c.in-Entry.is c.level_answer.ensures)))
 
 pub returns : goal.returns
 returns n c p m =
-    let o = c.requires.le_half in
+    let o = c.requires.opened in
     c.combine_above.ensures
     ∙ inner_looked o.0 o.1 m.come (found_level _ _ _ _ _ m.found) (omega (arith, c.if-at-eq0.false)) c.look.result
     (rw c.context_under-under.ensures at (c.look.ensures _ (meets o.0 o.1 m (omega (arith, c.if-at-eq0.false)) c.context_under-under.ensures c.in-Entry.is c.level_answer.ensures)))

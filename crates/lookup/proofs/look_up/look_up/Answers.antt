@@ -18,8 +18,8 @@ comes : {half : ℕ} {img : List ℕ} {h : Head} {at : PageContext} → 1 ≤ ha
     → ComeTo h at h.root t
 comes {h = h} least opened t e = subst⁻¹ (λ at. ComeTo h at h.root t) e (come_root least opened t)
 
-pub level_answer-requires-clause-le_half : goal.level_answer-requires-clause-le_half
-level_answer-requires-clause-le_half c = (c.requires.0, come_within c.requires.0 c.requires.1 (comes c.requires.0 c.requires.1 c.args.t c.root_context-at.ensures))
+pub level_answer-requires-clause-inside : goal.level_answer-requires-clause-inside
+level_answer-requires-clause-inside c = (c.requires.0, come_within c.requires.0 c.requires.1 (comes c.requires.0 c.requires.1 c.args.t c.root_context-at.ensures))
 
 pub level_answer-requires-clause-on_path : goal.level_answer-requires-clause-on_path
 level_answer-requires-clause-on_path c = come_on_path c.requires.0 c.requires.1 (comes c.requires.0 c.requires.1 _ c.root_context-at.ensures)
@@ -32,8 +32,9 @@ looked {half} {img} {h} least opened t e =
 
 pub returns-in_default : goal.returns-in_default
 returns-in_default c =
-    unfit_looked c.requires.0 c.requires.1 (comes c.requires.0 c.requires.1 _ c.root_context-at.ensures) (unfit_level _ _ _ _ _ (sym c.in_default.is ∙ c.level_answer.ensures))
-    ∙ looked c.requires.0 c.requires.1 _ c.root_context-at.ensures
+    rw c.unfit_after.ensures
+    (unfit_looked c.requires.0 c.requires.1 (comes c.requires.0 c.requires.1 _ c.root_context-at.ensures) (unfit_level _ _ _ _ _ (sym c.in_default.is ∙ c.level_answer.ensures))
+    ∙ looked c.requires.0 c.requires.1 _ c.root_context-at.ensures)
 
 pub look-requires-clause-met : goal.look-requires-clause-met
 look-requires-clause-met c =

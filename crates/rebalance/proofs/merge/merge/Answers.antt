@@ -5,22 +5,22 @@ use Rattle.store.proofs.Encoding.{from}
 use Rattle.rebalance.proofs.Outcomes.{next_fits, merged_parent, right_there, left_there, merge_is}
 use Rattle.rebalance.proofs.merge.merge.Goals as goal
 
-pub overflow_add-l : goal.overflow_add-l
-overflow_add-l c = from c.requires (λ X h s. omega (arith, next_fits s.1.siblings h))
+pub overflow_add-at : goal.overflow_add-at
+overflow_add-at c = from c.requires (λ X h s. omega (arith, next_fits s.1.siblings h))
 
 pub remove_entry-requires : goal.remove_entry-requires
 remove_entry-requires c =
     from c.requires
     (λ X h s.
     let t = s.1.siblings in
-    record { image = _; holds = c.join_siblings.ensures X h _ s.1; ready = (_, right_there t (merged_parent t c.args.kind)) })
+    record { image = _; holds = c.join_siblings.ensures X h _ s.1; ready = (_, right_there t (merged_parent t c.args.at.kind)) })
 
 pub empty_pair-requires : goal.empty_pair-requires
 empty_pair-requires c =
     from c.requires
     (λ X h s.
     let t = s.1.siblings in
-    let k = merged_parent t c.args.kind in
+    let k = merged_parent t c.args.at.kind in
     record {
       image = _;
       holds = c.remove_entry.ensures _ (c.join_siblings.ensures X h _ s.1) _ (right_there t k);
@@ -29,7 +29,7 @@ empty_pair-requires c =
 
 pub returns : goal.returns
 returns c X h v s =
-    let kind = c.args.kind in
+    let kind = c.args.at.kind in
     let t = s.siblings in
     let k = merged_parent t kind in
     subst (Encodes _ _) (merge_is t kind)

@@ -3,7 +3,7 @@ use Rattle.rebalance.proofs.Pushing.{none, next, more, all}
 use Rattle.rebalance.proofs.push.push_down.Goals as goal
 
 pub loop-i-init : goal.loop-i-init
-loop-i-init c = none _ _ (λ X h v s. (c.entry_count_in-n.ensures X h v s.tree_page).0)
+loop-i-init c = none _ _ (λ X h v s. (c.entry_count_in-i-end.ensures X h v s.tree_page).0)
 
 pub push_entry-requires : goal.push_entry-requires
 push_entry-requires c = next _ _ c.loop-i.invariant c.loop-i-test.true c.requires

@@ -14,6 +14,6 @@ returns c X h v s =
     let es = entries X q in
     let e = c.entry_of-e.result in
     subst (Encodes _ _)
-    (ap (λ r. put q (tree v (splice c.args.i (entry e.start r e.child ∷ []) es)) X) c.combine-both.ensures
+    (ap (λ r. put q (tree v (splice c.args.i (entry e.start r e.child ∷ []) es)) X) c.combine-pair.ensures
     ∙ ap (λ e. put q (tree v (splice c.args.i (with_pair c.args.kind c.args.pair e ∷ []) es)) X) (c.entry_of-e.ensures X h v s.has))
     (c.set_entry.ensures X h v s.has)

@@ -15,8 +15,8 @@ use Rattle.rebalance.specs.Siblings.{Siblings}
 use Rattle.rebalance.proofs.Outcomes.{entry_there, push_else, pushed_else, next_fits}
 use Rattle.rebalance.proofs.push.push_siblings.Goals as goal
 
-pub overflow_add-l : goal.overflow_add-l
-overflow_add-l c = from c.requires (λ X h s. omega (arith, next_fits s.1 h))
+pub overflow_add-at : goal.overflow_add-at
+overflow_add-at c = from c.requires (λ X h s. omega (arith, next_fits s.1 h))
 
 -- ---- the two entries as they were read, of every image that the bytes encode
 
@@ -39,10 +39,10 @@ pub push_down-requires-2 : goal.push_down-requires-2
 push_down-requires-2 c =
     from c.requires
     (λ X h s.
-    let kind = c.args.kind in
+    let kind = c.args.at.kind in
     let left = c.entry_of-a.ensures X h _ (entry_there s.1 (omega arith)) in
     let right =
-    c.entry_of-b.ensures X h _ (entry_there s.1 (omega arith)) ∙ ap (at (entries X c.args.p)) (add-one c.args.l) in
+    c.entry_of-b.ensures X h _ (entry_there s.1 (omega arith)) ∙ ap (at (entries X c.args.at.p)) (add-one c.args.at.l) in
     record {
       image = _;
       holds = c.push_down.ensures X h _ (left_ready kind s.1 left right);
@@ -51,11 +51,11 @@ push_down-requires-2 c =
 
 pub returns : goal.returns
 returns c X h v s =
-    let kind = c.args.kind in
+    let kind = c.args.at.kind in
     let f = combine kind in
     let a = c.entry_of-a.ensures X h _ (entry_there s (omega arith)) in
     let b =
-    c.entry_of-b.ensures X h _ (entry_there s (omega arith)) ∙ ap (at (entries X c.args.p)) (add-one c.args.l) in
+    c.entry_of-b.ensures X h _ (entry_there s (omega arith)) ∙ ap (at (entries X c.args.at.p)) (add-one c.args.at.l) in
     let e = c.entry_of-b.result in
     record {
       left = ap (λ (x : Entry). x.child) a;

@@ -11,7 +11,7 @@ use Rattle.store.specs.Encoding.{Encodes, PostLevel}
 use Rattle.store.specs.Preconditions.{TreePage, HasEntry}
 use Rattle.store.proofs.Encoding.{from, readied}
 use Rattle.rebalance.specs.Siblings.{Rebalanceable}
-use Rattle.rebalance.proofs.Rebalancing.{rebalance_sibling, rebalance_entry, rebalance_redistributable, rebalance_mergeable}
+use Rattle.rebalance.proofs.Rebalancing.{left_before, rebalance_sibling, rebalance_entry, rebalance_redistributable, rebalance_mergeable}
 use Rattle.rebalance.proofs.Rebalancing.{rebalance_redistributed, rebalance_merged}
 use Rattle.rebalance.proofs.rebalance.rebalance.Goals as goal
 
@@ -46,12 +46,13 @@ redistribute-requires c =
     (λ X h s.
     let n = len c.sibling.ensures c.entry_of-e.ensures c.entry_count_in-n.ensures h s.1 in
     let most = few c.sibling.ensures c.entry_of-e.ensures c.entry_count_in-n.ensures h s.1 in
-    let ready = rebalance_redistributable c.left_of.ensures n c.left_share.ensures c.if-n-half.true most s.1 in
+    let l = c.saturating_sub-l.ensures ∙ left_before c.args.i in
+    let ready = rebalance_redistributable l n c.left_share.ensures c.if-n-half.true most s.1 in
     record { image = X; holds = h; ready = (_, ready) })
 
 pub returns-then-n-half : goal.returns-then-n-half
 returns-then-n-half c X h v s =
-    let l = c.left_of.ensures in
+    let l = c.saturating_sub-l.ensures ∙ left_before c.args.i in
     let k = c.left_share.ensures in
     let n = len c.sibling.ensures c.entry_of-e.ensures c.entry_count_in-n.ensures h s in
     let most = few c.sibling.ensures c.entry_of-e.ensures c.entry_count_in-n.ensures h s in
@@ -63,11 +64,11 @@ merge-requires c =
     from c.requires
     (λ X h s.
     let n = len c.sibling.ensures c.entry_of-e.ensures c.entry_count_in-n.ensures h s.1 in
-    record { image = X; holds = h; ready = (_, rebalance_mergeable c.left_of-2.ensures n c.if-n-half.false s.1) })
+    record { image = X; holds = h; ready = (_, rebalance_mergeable (c.saturating_sub-l.ensures ∙ left_before c.args.i) n c.if-n-half.false s.1) })
 
-pub returns : goal.returns
-returns c X h v s =
-    let l = c.left_of-2.ensures in
+pub returns-else-n-half : goal.returns-else-n-half
+returns-else-n-half c X h v s =
+    let l = c.saturating_sub-l.ensures ∙ left_before c.args.i in
     let n = len c.sibling.ensures c.entry_of-e.ensures c.entry_count_in-n.ensures h s in
     subst (Encodes _ _) (rebalance_merged _ c.args.kind v c.args.p c.args.i X l n c.if-n-half.false)
     (c.merge.ensures X h v (rebalance_mergeable l n c.if-n-half.false s))

@@ -10,10 +10,10 @@ share-requires c =
     from c.requires
     (λ X h s.
     let d = c.push_siblings-s.ensures X h _ s.1.siblings in
-    record { image = _; holds = d.holds; ready = (_, down_sharable s.1.siblings c.args.kind d.left d.right s.1) })
+    record { image = _; holds = d.holds; ready = (_, down_sharable s.1.siblings c.args.at.kind d.left d.right s.1) })
 
 pub returns : goal.returns
 returns c X h v s =
     let d = c.push_siblings-s.ensures X h v s.siblings in
-    subst (Encodes _ _) (shared_is s.siblings c.args.kind d.left d.right c.args.k)
-    (c.share.ensures _ d.holds v (down_sharable s.siblings c.args.kind d.left d.right s))
+    subst (Encodes _ _) (shared_is s.siblings c.args.at.kind d.left d.right c.args.k)
+    (c.share.ensures _ d.holds v (down_sharable s.siblings c.args.at.kind d.left d.right s))

@@ -6,7 +6,7 @@ use Rattle.rebalance.proofs.share.append_all.Goals as goal
 pub loop-i-init : goal.loop-i-init
 loop-i-init c =
     append_none _ _ (λ X h v s. (c.entry_count_in-m.ensures X h v s.pages.left).0)
-    (λ X h v s. (c.entry_count_in-n.ensures X h v s.pages.right).0)
+    (λ X h v s. (c.entry_count_in-i-end.ensures X h v s.pages.right).0)
 
 pub entry_of-e-requires : goal.entry_of-e-requires
 entry_of-e-requires c = append_has _ _ c.loop-i.invariant c.loop-i-test.true c.requires

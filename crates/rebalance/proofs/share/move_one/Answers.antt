@@ -11,22 +11,22 @@ remove_entry-requires c =
     then_other c.entry_of-e.ensures c.insert_entry.ensures (λ v X s. first_there s less) (λ v X s. last_fits s less)
     (λ v X s. first_goes s less) c.requires
 
-pub returns-then-m-k-clause-post_level : goal.returns-then-m-k-clause-post_level
-returns-then-m-k-clause-post_level c =
+pub returns-then-m-k-clause-shared : goal.returns-then-m-k-clause-shared
+returns-then-m-k-clause-shared c =
     let less = c.if-m-k.true in
     both_edited c.entry_of-e.ensures c.insert_entry.ensures (λ v X s. first_there s less) (λ v X s. last_fits s less)
     (λ v X s. first_goes s less) (λ v X s. went_left s less) c.remove_entry.ensures
 
 -- ---- to the right
 
-pub insert_entry-requires-2 : goal.insert_entry-requires-2
-insert_entry-requires-2 c =
+pub insert_entry-requires-else-m-k : goal.insert_entry-requires-else-m-k
+insert_entry-requires-else-m-k c =
     let some = c.if-m-k.false in
-    then_other c.entry_of-e-2.ensures c.remove_entry-2.ensures (λ v X s. last_there s some) (λ v X s. last_there s some)
+    then_other c.entry_of-e-else-m-k.ensures c.remove_entry-else-m-k.ensures (λ v X s. last_there s some) (λ v X s. last_there s some)
     (λ v X s. first_fits s some) c.requires
 
-pub returns-clause-post_level : goal.returns-clause-post_level
-returns-clause-post_level c =
+pub returns-else-m-k-clause-shared : goal.returns-else-m-k-clause-shared
+returns-else-m-k-clause-shared c =
     let some = c.if-m-k.false in
-    both_edited c.entry_of-e-2.ensures c.remove_entry-2.ensures (λ v X s. last_there s some) (λ v X s. last_there s some)
-    (λ v X s. first_fits s some) (λ v X s. went_right s some) c.insert_entry-2.ensures
+    both_edited c.entry_of-e-else-m-k.ensures c.remove_entry-else-m-k.ensures (λ v X s. last_there s some) (λ v X s. last_there s some)
+    (λ v X s. first_fits s some) (λ v X s. went_right s some) c.insert_entry-else-m-k.ensures

@@ -11,4 +11,4 @@ move_one-m-requires c = share_next _ _ _ c.loop-m.invariant c.loop-m-test.true c
 pub loop-m-preserved : goal.loop-m-preserved
 loop-m-preserved c =
     share_more _ _ _ c.loop-m.invariant c.loop-m-test.true c.move_one-m.auto.img c.move_one-m.ensures.nearer
-    c.move_one-m.ensures.post_level
+    c.move_one-m.ensures.shared

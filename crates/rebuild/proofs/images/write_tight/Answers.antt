@@ -36,14 +36,14 @@ unfolding tree_size
 head_is half m h made pages size =
     made ∙ (λ j. tight_head half (pages j) h.kind h.window h.changes (size j).pages (size j).height)
 
-pub write_runs-requires-clause-b_in_bounds : goal.write_runs-requires-clause-b_in_bounds
+pub write_runs-requires-clause-room : goal.write_runs-requires-clause-room
 unfolding full_runs runs_over
-write_runs-requires-clause-b_in_bounds c =
+write_runs-requires-clause-room c =
     let pre = c.requires.0 in
     omega (arith, target_enough pre, pre.counted)
 
-pub write_tree-requires-clause-runs_bound : goal.write_tree-requires-clause-runs_bound
-write_tree-requires-clause-runs_bound c = omega (arith, target_enough c.requires.0)
+pub write_tree-requires-clause-room : goal.write_tree-requires-clause-room
+write_tree-requires-clause-room c = omega (arith, target_enough c.requires.0)
 
 pub overflow_cast-pages : goal.overflow_cast-pages
 overflow_cast-pages c =

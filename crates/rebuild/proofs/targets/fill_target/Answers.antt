@@ -1,11 +1,10 @@
 -- `rebuild::targets::fill_target` meets its contract: a law for each way out. Assumes nothing.
-use Rattle.std.proofs.Common.{◌≡◌, ◌<◌, ℕ, true, List, length, ap, arith}
+use Rattle.std.proofs.Common.{rules, refl, ◌≡◌, Some, None, Option, IsSome, sym, ◌∙◌, ◌<◌, ℕ, true, List, length, ap, arith}
 use Rattle.page.specs.declared.Head.{Head}
 use Rattle.image.specs.Images.{pages_in}
 use Rattle.image.specs.Sound.{sound_before}
 use Rattle.soundness.proofs.Sound.{sound_whole}
 use Rattle.tight.specs.Tight.{pages_used}
-use Rattle.access.specs.declared.HeadCheck.TheVariants.{Fit}
 use Rattle.access.specs.Access.{OpenImage, head_check}
 use Rattle.access.proofs.Laws.{opened}
 use Rattle.image.specs.Listing.{walk_over, join}
@@ -17,7 +16,7 @@ use Rattle.rebuild.specs.declared.TreeSize.{TreeSize}
 use Rattle.rebuild.proofs.Laws.Targets.{not_shut, some_told, fills_not, rebuildable, fills}
 use Rattle.rebuild.proofs.targets.fill_target.Goals as goal
 
-headed : {half : ℕ} {source : List ℕ} {h : Head} → sound_before half source ≡ true → Fit h ≡ head_check half source → OpenImage half source h
+headed : {half : ℕ} {source : List ℕ} {h : Head} → sound_before half source ≡ true → Some h ≡ head_check half source → OpenImage half source h
 headed fits e = opened _ _ (sound_whole _ _ fits) e
 
 -- the runs counted are those of the full listing
@@ -31,36 +30,40 @@ unfolding tree_size
 used half m e = ap (λ (t : TreeSize). t.pages) e
 
 pub open_head-requires : goal.open_head-requires
-open_head-requires c = (c.requires.le_half.0, c.requires.le_half.1, sound_whole _ _ c.requires.source_value.0)
+open_head-requires c = (c.requires.capacity_bounds.0, c.requires.capacity_bounds.1, sound_whole _ _ c.requires.sound_source.0)
 
-pub returns-in_default : goal.returns-in_default
-returns-in_default c = absurd (not_shut _ _ c.requires.source_value.0 c.in_default.ensures)
+is_there : (o : Option Head) → (None ≡ o → ⊥) → IsSome o
+is_there None n = absurd (n refl)
+is_there (Some h) n = search rules
+
+pub unwrap-h-requires : goal.unwrap-h-requires
+unwrap-h-requires c = is_there _ (λ e. not_shut _ _ c.requires.sound_source.0 (e ∙ c.open_head.ensures))
 
 -- the audit has found every page fit
 pub count_known_runs-runs-requires : goal.count_known_runs-runs-requires
 count_known_runs-runs-requires c =
     let pre = c.requires in
-    let fits = pre.source_value.0 in
-    record { le_half = (omega (arith, pre.le_half), pre.le_half.1, headed fits c.in-Fit.ensures); b_value = sound_walk _ _ fits _ _ }
+    let fits = pre.sound_source.0 in
+    record { opened = (omega (arith, pre.capacity_bounds), pre.capacity_bounds.1, headed fits (sym c.unwrap-h.ensures ∙ c.open_head.ensures)); all_fit = sound_walk _ _ fits _ _ }
 
 pub tree_size-tree-requires : goal.tree_size-tree-requires
 tree_size-tree-requires c =
     let pre = c.requires in
-    (pre.le_half.0, pre.le_half.1, some_told _ _ pre.source_value.0 _ (runs_told _ _ c.count_known_runs-runs.ensures))
+    (pre.capacity_bounds.0, pre.capacity_bounds.1, some_told _ _ pre.sound_source.0 _ (runs_told _ _ c.count_known_runs-runs.ensures))
 
 pub returns-then-page_count-tree : goal.returns-then-page_count-tree
 returns-then-page_count-tree c =
-    fills_not _ _ c.requires.source_value.0 _ (runs_told _ _ c.count_known_runs-runs.ensures) _
+    fills_not _ _ c.requires.sound_source.0 _ (runs_told _ _ c.count_known_runs-runs.ensures) _
     (omega (arith, c.if-page_count-tree.true, used _ _ c.tree_size-tree.ensures, c.page_count.ensures))
 
 pub write_tight-requires : goal.write_tight-requires
 write_tight-requires c =
     let pre = c.requires in
-    let fits = pre.source_value.0 in
+    let fits = pre.sound_source.0 in
     let room : pages_used c.args.half c.count_known_runs-runs.result < pages_in c.args.half c.args.target.now =
     omega (arith, c.if-page_count-tree.false, used _ _ c.tree_size-tree.ensures, c.page_count.ensures) in (
-      rebuildable _ _ fits _ (runs_told _ _ c.count_known_runs-runs.ensures) _ room pre.le_half.0 pre.le_half.1
-          (headed fits c.in-Fit.ensures) pre.source_value.1,
+      rebuildable _ _ fits _ (runs_told _ _ c.count_known_runs-runs.ensures) _ room pre.capacity_bounds.0 pre.capacity_bounds.1
+          (headed fits (sym c.unwrap-h.ensures ∙ c.open_head.ensures)) pre.sound_source.1,
       c.tree_size-tree.ensures,
     )
 
@@ -68,4 +71,4 @@ pub returns : goal.returns
 returns c =
     let room : pages_used c.args.half c.count_known_runs-runs.result < pages_in c.args.half c.args.target.now =
     omega (arith, c.if-page_count-tree.false, used _ _ c.tree_size-tree.ensures, c.page_count.ensures) in
-    fills _ _ c.requires.source_value.0 _ (runs_told _ _ c.count_known_runs-runs.ensures) _ room c.write_tight.ensures
+    fills _ _ c.requires.sound_source.0 _ (runs_told _ _ c.count_known_runs-runs.ensures) _ room c.write_tight.ensures

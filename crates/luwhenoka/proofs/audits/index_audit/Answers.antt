@@ -1,0 +1,26 @@
+-- `luwhenoka::audits::index_audit` meets its contract: by half the capacity that the image names. Assumes nothing.
+use Rattle.std.proofs.Common.{◌∙◌}
+use Rattle.calls.specs.Refusals.{borrowed}
+use Rattle.calls.specs.Calls.{audit}
+use Rattle.calls.specs.Index.{index_audit}
+use Rattle.calls.proofs.Numbers.{refused_not_accepted, handed_on}
+use Rattle.luwhenoka.proofs.Laws.Judged.{half_ranged, by_half, by_refusal}
+use Rattle.luwhenoka.proofs.audits.index_audit.Goals as goal
+
+pub returns-in_err-judge : goal.returns-in_err-judge
+unfolding index_audit
+returns-in_err-judge c =
+    let refusal = c.in_err-judge.field-0.0 in
+    rw (handed_on c.from_residual.result refusal c.from_residual.ensures)
+    (by_refusal c.args.img.now c.in_err-judge.ensures.status (refused_not_accepted refusal) _
+    (λ half. audit borrowed half c.args.img.now c.args.scratch.now))
+
+pub audit-requires : goal.audit-requires
+audit-requires c = half_ranged c.args.img.now c.in_ok-judge.ensures.status c.in_ok-judge.ensures.named
+
+pub returns : goal.returns
+unfolding index_audit
+returns c =
+    c.audit.ensures
+    ∙ by_half c.args.img.now c.in_ok-judge.ensures.status c.in_ok-judge.ensures.named _
+    (λ half. audit borrowed half c.args.img.now c.args.scratch.now)

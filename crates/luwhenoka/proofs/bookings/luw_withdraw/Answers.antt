@@ -1,8 +1,0 @@
--- `luwhenoka::bookings::luw_withdraw` meets its contract, which is that of `index_book` for its side. Assumes nothing.
-use Rattle.std.proofs.Common.{to_z-of_z}
-use Rattle.booking.specs.Sides.{side_of}
-use Rattle.luwhenoka.proofs.bookings.luw_withdraw.Goals as goal
-
-pub returns : goal.returns
-unfolding side_of
-returns c = rw (to_z-of_z c.ranges.v) at c.index_book.ensures
