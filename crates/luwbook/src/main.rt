@@ -21,6 +21,10 @@ const LAST_LINE: u64 = 9223372036854775807;
 #[derive(Clone, Copy)]
 struct Failed;
 
+// The text was read to its end, and no read or write failed: `read_all` alone makes one.
+#[derive(Drop)]
+struct ReadToEnd;
+
 // A line on standard error. Nothing is left to be told where that fails, too.
 fn say(rt: &HostRuntime, line: &str) {
     let _ = rt.eprintln(line);
@@ -116,21 +120,21 @@ fn read_some(rt: &HostRuntime, img: &mut [u8], r: &mut Reading) -> Result<usize,
 
 // Reads to the end, or to a failure. A proved loop has to end, and nothing says that the input does: so it counts its turns, up to a
 // number that no run comes to.
-fn read_all(rt: &HostRuntime, img: &mut [u8], r: &mut Reading) -> Result<(), Failed>
+fn read_all(rt: &HostRuntime, img: &mut [u8], r: &mut Reading) -> Result<ReadToEnd, Failed>
     requires { Standing r.old img.old }
     ensures { Well result r.new img.new }
 {
     for _turn in 0..u64::MAX {
         if read_some(rt, img, r)? == 0 {
-            return Ok(());
+            return Ok(ReadToEnd);
         }
     }
     Err(Failed)
 }
 
 // The last line, if its newline is missing, and the runs; whether all is written. A text that could not be read to its end has no runs:
-// they would look like those of all of it.
-fn finish(rt: &HostRuntime, img: &mut [u8], r: &mut Reading) -> Result<(), Failed>
+// they would look like those of all of it. So this takes the word of `read_all`.
+fn finish(rt: &HostRuntime, img: &mut [u8], r: &mut Reading, _end: ReadToEnd) -> Result<(), Failed>
     requires { Standing r.old img.old }
     ensures { OnOk result (Ends r.old img.old img.new) }
 {
@@ -151,8 +155,8 @@ fn run(rt: &HostRuntime) -> Result<(), Failed> {
     let mut img = [0u8; IMAGE_BYTES];
     begin(&mut img);
     let mut r = at_first();
-    read_all(rt, &mut img, &mut r)?;
-    finish(rt, &mut img, &mut r)
+    let end = read_all(rt, &mut img, &mut r)?;
+    finish(rt, &mut img, &mut r, end)
 }
 
 // What failed was told: nothing is left to do.

@@ -13,3 +13,8 @@ module _ {half : ℕ} {Start : Image → Type 0} {before mid : List ℕ} {to : I
   some_then s =
       let X : Image = s.image in
       record { image = to X; holds = reach X s.holds s.ready; ready = ready X s.holds s.ready }
+
+  -- and was
+  pub then : {after : List ℕ} {step : Image → Image} → Post half mid Ready (λ X. Encodes half after (step X))
+      → Post half before Start (λ X. Encodes half after (step (to X)))
+  then g X h s = g (to X) (reach X h s) (ready X h s)

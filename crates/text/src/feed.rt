@@ -1,5 +1,5 @@
 // A line that comes byte by byte, of any length, in a buffer of fixed size.
-ghost use Rattle.std.specs.Prelude.{◌≡◌, ℕ, ◌≤◌, List, [], ◌∷◌, ◌++◌, take, length};
+ghost use Rattle.std.specs.Prelude.{◌≡◌, ℕ, List, [], ◌∷◌, ◌++◌, take, length};
 ghost use Rattle.calls.specs.Program.{cut_at, line_from};
 ghost use Rattle.text.specs.Reading.{line_of, Holds};
 
@@ -11,16 +11,14 @@ use std::marker::Model;
 // The line that is being read: its first bytes, as many as there is room for. A line of any length is told from a booking by these.
 #[derive(Drop)]
 pub struct Fed {
-    bytes: [u8; FED_BYTES],
-    length: usize,
+    pub bytes: [u8; FED_BYTES],
+    pub length: usize,
 }
 
 impl Model for Fed {
     ghost Value = { List ℕ };
 
     ghost view = { λ f. take f.length f.bytes };
-
-    ghost invariant = { λ f. f.length ≤ 36 };
 }
 
 impl Fed {
@@ -44,11 +42,11 @@ impl Fed {
         }
     }
 
-    // What is kept of it.
+    // What is kept of it: no more than the buffer, whatever the length says.
     fn kept(&self) -> &[u8]
         ensures { result.now ≡ self.now }
     {
-        &self.bytes[..self.length]
+        &self.bytes[..self.length.min(FED_BYTES)]
     }
 
     // How many bytes of it are kept.

@@ -2,13 +2,16 @@
 use Prim.Native.Nat.{ℕ}
 use mathlib.Core.Path.{◌≡◌, sym, ap, ◌∙◌}
 use mathlib.Core.Logic.{◌≢◌}
-use mathlib.Core.Bool.{cond}
-use mathlib.Core.List.{List}
+use mathlib.Core.Bool.{true, cond, not}
+use mathlib.Core.List.{List, [], ◌∷◌, ◌++◌}
+use native.Mathlib.Omega.{arith}
 use lib.Dec.{eqb}
-use borrow.Author.Tests.{ne_eqb}
+use borrow.Author.Tests.{ne_eqb, not-false}
 use Rattle.image.specs.Images.{pages_in}
+use Rattle.image.specs.Sound.{sound_before}
 use Rattle.calls.specs.Refusals.{Row, first, borrowed, scratch_after}
 use Rattle.calls.specs.Calls.{rebuilt_bytes, audit_input_rows, rebuild_state_rows, rebuild_status, rebuild}
+use Rattle.calls.proofs.Rows.{first_none}
 use Rattle.luwhenoka.proofs.Laws.Audits.{early_status, late_status}
 
 module _ (half : ℕ) (source target scratch : List ℕ) where
@@ -41,3 +44,13 @@ module _ (half : ℕ) (source target scratch : List ℕ) where
       → record { status = n; target = made; scratch = left } ≡ rebuild borrowed half source target scratch
   unfolding rebuild_status
   rebuild_late z e m a = by_status (e ∙ late_status half source scratch late z) m a
+
+-- A source that no row of an audit by document 01's rule turns back is sound by that rule.
+pub audited_sound : (half : ℕ) (source scratch : List ℕ)
+    → first (audit_input_rows borrowed half source scratch ++ ((21, not (sound_before half source)) ∷ [])) ≡ 0
+    → sound_before half source ≡ true
+unfolding audit_input_rows
+audited_sound half source scratch all =
+    let behind_16 = (first_none 16 _ _ (omega arith) all).1 in
+    let behind_17 = (first_none 17 _ _ (omega arith) behind_16).1 in
+    not-false _ (first_none 21 _ _ (omega arith) behind_17).0

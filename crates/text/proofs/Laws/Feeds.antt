@@ -5,13 +5,13 @@ use native.Mathlib.Numerals.{add-one}
 use native.Mathlib.Omega.{arith}
 use mathlib.Core.List.{List, [], ◌∷◌, ◌++◌}
 use lib.ListN.{length, set, take, length-append, length-take}
-use lib.Seq.{take_all, take-append-le, take-suc-set, length-take-le}
+use lib.Seq.{take_all, take-append-le, take-suc-set}
 use Rattle.text.specs.Reading.{Holds}
 
 -- the first n bytes of a buffer are what is kept of a line
-module _ (line buffer : List ℕ) (n : ℕ) (l : length buffer ≡ 36) (m : n ≤ 36) (h : Holds (take n buffer) line) where
-  count : n ≡ min 36 (length line)
-  count = sym (length-take-le n buffer (omega arith)) ∙ ap length h ∙ length-take 36 line
+module _ (line buffer : List ℕ) (n : ℕ) (l : length buffer ≡ 36) (h : Holds (take n buffer) line) where
+  count : min n (length buffer) ≡ min 36 (length line)
+  count = sym (length-take n buffer) ∙ ap length h ∙ length-take 36 line
 
   -- a byte more, where there is room, and where there is none
   pub fed_more : (b : ℕ) → n < 36 → Holds (take (n + 1) (set buffer n b)) (line ++ (b ∷ []))

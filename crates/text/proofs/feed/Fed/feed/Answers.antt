@@ -4,8 +4,8 @@ use Rattle.text.proofs.Laws.Feeds.{fed_more, fed_full}
 use Rattle.text.proofs.feed.Fed.feed.Goals as goal
 
 pub returns-then-self-lt-FED_BYTES : goal.returns-then-self-lt-FED_BYTES
-returns-then-self-lt-FED_BYTES c line h = fed_more line _ _ (search rules) c.self.invariant (c.self.view_is ∙ h) _ c.if-self-lt-FED_BYTES.true
+returns-then-self-lt-FED_BYTES c line h = fed_more line _ _ (search rules) (c.self.view_is ∙ h) _ c.if-self-lt-FED_BYTES.true
 
 pub returns-else-self-lt-FED_BYTES : goal.returns-else-self-lt-FED_BYTES
 returns-else-self-lt-FED_BYTES c line h =
-    sym c.self.view_is ∙ fed_full line _ _ (search rules) c.self.invariant (c.self.view_is ∙ h) _ c.if-self-lt-FED_BYTES.false
+    sym c.self.view_is ∙ fed_full line _ _ (search rules) (c.self.view_is ∙ h) _ c.if-self-lt-FED_BYTES.false
