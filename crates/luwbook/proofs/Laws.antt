@@ -11,7 +11,6 @@ use Rattle.fields.proofs.Laws.Parts.{part_patch_same}
 use Rattle.rule.specs.Time.{END}
 use Rattle.calls.specs.Calls.{listing}
 use Rattle.print.specs.Written.{Put}
-use Rattle.print.proofs.Laws.Puts.{put_length}
 use Rattle.program.specs.declared.Reading.{Reading}
 use Rattle.program.specs.State.{ProgramState, at_first, unwritten, after_bytes, ended, listed_text}
 use Rattle.program.specs.Simulation.{Simulates, SimulatesStep, Begins, Flushes}
@@ -26,25 +25,22 @@ begun {r} {img} b e =
 
 -- ---- what is printed
 
-put_room : {had bs out : List ℕ} {n : ℕ} → Put had 0 bs out n → n ≤ length out
-put_room p = omega (arith, p.offset, p.room, put_length p)
-
 put_first : {had bs out : List ℕ} {n : ℕ} → Put had 0 bs out n → take n out ≡ bs
 unfolding part
 put_first {had} {bs} {out} {n} p = ap (λ o. take n o) p.written ∙ part_patch_same had 0 bs n (omega (arith, p.offset)) (omega arith)
 
 -- nothing takes no place
-pub put_none : {had bs out : List ℕ} {n : ℕ} → Put had 0 bs out n → bs ≡ [] → n ≡ 0
-put_none p e = omega (arith, p.offset, ap length e)
+pub put_none : {had bs out : List ℕ} {n : ℕ} → Put had 0 bs out n → bs ≡ [] → length (take n out) ≡ 0
+put_none p e = ap length (put_first p ∙ e)
 
 -- the output's first bytes may be written
-pub writable : {had bs out : List ℕ} {n : ℕ} → Put had 0 bs out n → Printed bs → (n ≤ length out) × Printed (take n out)
-writable p q = (put_room p, subst⁻¹ Printed (put_first p) q)
+pub writable : {had bs out : List ℕ} {n : ℕ} → Put had 0 bs out n → Printed bs → Printed (take n out)
+writable p q = subst⁻¹ Printed (put_first p) q
 
 -- and so the runs, of the image behind the last line
 pub runs_writable : {g : ProgramState} {img out after : List ℕ} {n : ℕ} (list : List ℕ) → Reached g
     → img ≡ (ended 12 64 (unwritten g)).image → length list ≡ 22656
-    → Put out 0 (listed_text (listing 12 0 END img list)) after n → (n ≤ length after) × Printed (take n after)
+    → Put out 0 (listed_text (listing 12 0 END img list)) after n → Printed (take n after)
 runs_writable list reached e l p =
     writable p (subst⁻¹ (λ x. Printed (listed_text (listing 12 0 END x list))) e (by_runs reached list l))
 

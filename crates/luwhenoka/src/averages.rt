@@ -67,9 +67,7 @@ fn kind_of(img: &[u8]) -> u32
 fn index_average(img: &[u8], t: u32) -> Result<Average, Refusal>
     ensures { average_of result ≡ index_average t img.now }
 {
-    let Some(found) = index_instant(img, t)?.found else {
-        return Err(Refusal::Unsound);
-    };
+    let found = index_instant(img, t)?.found.ok_or(Refusal::Unsound)?;
     Ok(average(kind_of(img), found.pair))
 }
 

@@ -17,7 +17,7 @@ fn index_book(img: &mut [u8], scratch: &mut [u8], booking: Booking) -> Result<()
     book(judge(img)?, img, scratch, booking)
 }
 
-// "an entry adds (v, 1)": value v on [s, e).
+// "an entry adds (v, 1)": value v on [s, e). C has two calls, with no side to hand over: so there are two here.
 pub fn luw_enter(img: &mut [u8], scratch: &mut [u8], v: i64, s: u32, e: u32) -> u32
     ensures { Books entering v s e img.old scratch.old result img.new scratch.new }
 {

@@ -69,9 +69,7 @@ fn instant(half: usize, img: &[u8], t: u32) -> Result<LookupAnswer, Refusal>
     if t == END {
         return Err(Refusal::InstantEnd);
     }
-    let Some(h) = open_head(half, img) else {
-        return Err(Refusal::Unsound);
-    };
+    let h = open_head(half, img).ok_or(Refusal::Unsound)?;
     Ok(look_up(half, img, h, t))
 }
 

@@ -9,6 +9,8 @@ use fields::field::Field;
 use page::capacities::{capacity_named, capacity_ok};
 use page::layout::{HEAD_BYTES, HEAD_CAPACITY};
 
+// Each `index_..` that goes on from here is written out: it is one line, and a function of a closure has the same clauses besides.
+
 // Half the capacity that an image names: "In an image K is read before the length is judged: under 40 bytes gives 16, a bad K 21 ahead
 // of 16".
 pub(crate) fn judge(img: &[u8]) -> Result<usize, Refusal>

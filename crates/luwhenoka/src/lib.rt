@@ -42,7 +42,7 @@ pub struct AverageAnswer {
 
 // The status, document 01's number, with the number of runs.
 #[repr(C)]
-#[derive(Clone, Copy)]
+#[derive(Clone, Copy, Default)]
 pub struct ListingAnswer {
     pub status: u32,
     pub runs: u32,

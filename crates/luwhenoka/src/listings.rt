@@ -25,7 +25,7 @@ impl From<Result<u32, Refusal>> for ListingAnswer {
             },
             Err(refusal) => ListingAnswer {
                 status: refusal.into(),
-                runs: 0,
+                ..ListingAnswer::default()
             },
         }
     }
@@ -43,12 +43,8 @@ pub fn list_runs(half: usize, img: &[u8], a: u32, b: u32, out: &mut [u8]) -> Res
     if b <= a {
         return Err(Refusal::SpanEmpty);
     }
-    let Some(h) = open_head(half, img) else {
-        return Err(Refusal::Unsound);
-    };
-    let Some(runs) = count_runs(half, img, h, a, b) else {
-        return Err(Refusal::Unsound);
-    };
+    let h = open_head(half, img).ok_or(Refusal::Unsound)?;
+    let runs = count_runs(half, img, h, a, b).ok_or(Refusal::Unsound)?;
     if out.len() / RUN_BYTES < runs as usize {
         return Err(Refusal::OutputShort);
     }
@@ -56,7 +52,7 @@ pub fn list_runs(half: usize, img: &[u8], a: u32, b: u32, out: &mut [u8]) -> Res
     Ok(runs)
 }
 
-// The same as numbers.
+// The same, as C gets it.
 pub fn listing(half: usize, img: &[u8], a: u32, b: u32, out: &mut [u8]) -> ListingAnswer
     requires { (2 ≤ half) × (half ≤ 12) }
     ensures { listing_answer result out.new ≡ listing half a b img.now out.old }

@@ -6,7 +6,7 @@ ghost use Rattle.print.specs.Written.{Put};
 ghost use Rattle.program.specs.State.{listed_text};
 
 use crate::printed::put_runs;
-use luwhenoka::listings::listing;
+use luwhenoka::listings::list_runs;
 use page::layout::HALF;
 use print::Printer;
 use rule::limits::END;
@@ -19,8 +19,7 @@ pub fn put_listing(img: &[u8], list: &mut [u8], out: &mut [u8]) -> usize
     ensures { Put out.old 0
         (listed_text (listing 12 0 END img.now list.old)) out.new result }
 {
-    let answer = listing(HALF, img, 0, END, list);
-    let runs = answer.runs;
+    let runs = list_runs(HALF, img, 0, END, list).unwrap_or(0);
     let mut printer = Printer { out, at: 0 };
     printer.put_runs_line(u64::from(runs));
     put_runs(&mut printer, list, runs as usize);

@@ -16,7 +16,7 @@ pub const PAGES: usize = 64;
 
 pub const IMAGE_BYTES: usize = PAGES * PAGE_BYTES;
 
-// Document 02, (vi): a bit for each page. A constant's value has no call, as of `div_ceil`.
+// Document 02, (vi): a bit for each page; by hand, since a constant's value can't call `div_ceil`.
 pub const SCRATCH_BYTES: usize = (PAGES + 7) / 8;
 
 // Room for as many runs as 64 pages can have: 59 leaf pages.

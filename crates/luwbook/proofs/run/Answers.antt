@@ -3,4 +3,4 @@ use Rattle.luwbook.proofs.Laws.{begun}
 use Rattle.luwbook.proofs.run.Goals as goal
 
 pub read_all-requires : goal.read_all-requires
-read_all-requires c = begun c.at_first-r.ensures (search)
+read_all-requires c = begun c.at_first.ensures (search)

@@ -4,7 +4,8 @@ use mathlib.Core.Path.{◌≡◌, sym, ap, ◌∙◌}
 use mathlib.Core.Logic.{◌≢◌}
 use mathlib.Core.List.{List}
 use native.Mathlib.Omega.{arith}
-use Rattle.std.specs.Prelude.{Result, Ok, Err, IsErr, IsErrAnd}
+use Rattle.std.specs.Prelude.{Option, None, Result, Ok, Err, IsErr, IsErrAnd}
+use Rattle.std.specs.Option.{ok_or}
 use Rattle.calls.specs.declared.refusals.Refusal.{Refusal}
 use Rattle.image.specs.Images.{half_of}
 use Rattle.image.proofs.Capacity.{own_half}
@@ -30,3 +31,11 @@ by_refusal img e n refused call = ap refused e ∙ sym (judged_refused refused c
 pub handed_on_is : {A : Type 0} (r : Result A Refusal) (refusal : Refusal) → IsErr r × IsErrAnd r (λ e. e ≡ refusal) → r ≡ Err refusal
 handed_on_is (Ok x) refusal h = absurd (h.1)
 handed_on_is (Err e) refusal h = ap Err h.1
+
+same_refusal : {A : Type 0} {e told : Refusal} → ◌≡◌ {A = Result A Refusal} (Err e) (Err told) → e ≡ told
+same_refusal s = cc
+
+-- and where it is that of an `ok_or` which had nothing
+pub handed_on_none : {A B : Type 0} (r : Result A Refusal) (o : Option B) (refusal told : Refusal)
+    → IsErr r × IsErrAnd r (λ e. e ≡ refusal) → Err refusal ≡ ok_or o told → o ≡ None → r ≡ Err told
+handed_on_none r o refusal told h e n = handed_on_is r refusal h ∙ ap Err (same_refusal (e ∙ ap (λ x. ok_or x told) n))

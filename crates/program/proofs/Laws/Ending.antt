@@ -1,5 +1,5 @@
 -- The full listing, printed from what the call returned. Assumes nothing.
-use mathlib.Core.Path.{◌≡◌, refl, sym, ap}
+use mathlib.Core.Path.{◌≡◌, refl, sym, ap, ◌∙◌}
 use mathlib.Core.Bool.{Bool, true, false, cond, not, ◌&&◌}
 use mathlib.Core.List.{List, [], ◌∷◌, ◌++◌}
 use Prim.Native.Nat.{ℕ, ◌+◌, ◌*◌, ◌≤◌}
@@ -7,6 +7,8 @@ use native.Mathlib.Omega.{arith}
 use lib.ListN.{length, length-append}
 use lib.Dec.{eqb, ltb}
 use borrow.Author.Tests.{ltb-false}
+use Rattle.std.specs.Prelude.{Result, Ok, Err}
+use Rattle.std.specs.Result.{result_unwrap_or}
 use Rattle.rule.specs.Time.{span_ok}
 use Rattle.image.specs.Images.{length_ok}
 use Rattle.image.specs.Listing.{walk_over}
@@ -16,8 +18,8 @@ use Rattle.calls.specs.Program.{decimal, runs_text}
 use Rattle.print.specs.declared.Printer.{Printer}
 use Rattle.print.specs.Written.{Prints, runs_line}
 use Rattle.print.proofs.Laws.Numbers.{length_decimal}
-use Rattle.luwhenoka.specs.declared.ListingAnswer.{ListingAnswer}
-use Rattle.luwhenoka.specs.Answers.{listing_answer}
+use Rattle.calls.specs.declared.refusals.Refusal.{Refusal}
+use Rattle.luwhenoka.specs.Answers.{listed_of, runs_of}
 use Rattle.program.specs.Listed.{runs_at}
 use Rattle.program.specs.State.{listed_text}
 
@@ -36,18 +38,26 @@ has_room false false true z runs size e = omega arith
 has_room false false false true runs size e = omega arith
 has_room false false false false runs size e = ltb-false size (16 * runs) (sym e)
 
-module _ (a b : ℕ) (img out : List ℕ) (r : ListingAnswer) (after : List ℕ) (e : listing_answer r after ≡ listing 12 a b img out) where
-  pub listed_room : 16 * r.runs ≤ length out
-  unfolding listing_answer listing listing_status too_short
+-- no run is told at a refusal
+runs_told : (r : Result ℕ Refusal) → result_unwrap_or r 0 ≡ runs_of r
+runs_told (Ok n) = refl
+runs_told (Err refusal) = refl
+
+module _ (a b : ℕ) (img out : List ℕ) (r : Result ℕ Refusal) (after : List ℕ) (e : listed_of r after ≡ listing 12 a b img out) (n : ℕ)
+    (told : n ≡ result_unwrap_or r 0) where
+  pub listed_room : 16 * n ≤ length out
+  unfolding listing listing_status too_short
   listed_room =
       let runs = length (runs_over 12 a b img) in
       omega (
         arith,
+        told,
+        runs_told r,
         ap (λ (l : Listed). l.runs) e,
         has_room (not (length_ok 12 img)) (not (span_ok a b)) (not (head_ok 12 img && (walk_over 12 img a b).fit))
             (ltb (length out) (16 * runs)) runs (length out) refl,
       )
 
-  pub listed_printed : runs_line r.runs ++ runs_text (runs_at after 0 r.runs) ≡ listed_text (listing 12 a b img out)
-  unfolding listing_answer listed_text
-  listed_printed = ap listed_text e
+  pub listed_printed : runs_line n ++ runs_text (runs_at after 0 n) ≡ listed_text (listing 12 a b img out)
+  unfolding listed_text
+  listed_printed = ap (λ k. runs_line k ++ runs_text (runs_at after 0 k)) (told ∙ runs_told r) ∙ ap listed_text e

@@ -1,7 +1,7 @@
--- `luwbook::take_in` meets its contract: a law for each answer of a read. Assumes nothing.
+-- `luwbook::Running::take_in` meets its contract: a law for each answer of a read. Assumes nothing.
 use Rattle.std.proofs.Common.{refl, rules}
 use Rattle.luwbook.proofs.Laws.{takes_failed, takes_ended, takes_more}
-use Rattle.luwbook.proofs.take_in.Goals as goal
+use Rattle.luwbook.proofs.Running.take_in.Goals as goal
 
 pub returns-in_default : goal.returns-in_default
 returns-in_default c = takes_failed _ _ _ _ c.in_default.is refl
