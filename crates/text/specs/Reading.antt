@@ -1,5 +1,5 @@
 -- Reading a line: what a field is, and which line an answer of `parse` is. Assumes nothing.
-use Rattle.std.specs.Prelude.{ℕ, ◌≡◌, cond, Option, Some, None, ℤ, List, [], ◌∷◌, take, eqb}
+use Rattle.std.specs.Prelude.{ℕ, min, ◌≡◌, cond, Option, Some, None, ℤ, List, [], ◌∷◌, length, take, eqb}
 use Rattle.calls.specs.Program.{Line, booking, unread, number_read, number_from, instant_read, value_read, value_from}
 use Rattle.calls.specs.declared.bookings.Side as declared
 use Rattle.calls.specs.declared.bookings.Side.TheVariants.{Entering, Withdrawing}
@@ -29,6 +29,12 @@ unfoldable pub line_of : Option Booking → Line
 line_of (Some b) = booking (side_of b.side) b.value b.start b.end
 line_of None = unread
 
--- what is kept of a line: its first 36 bytes
-abbrev pub Holds : List ℕ → List ℕ → Type 0
-Holds kept line = kept ≡ take 36 line
+-- a line that comes byte by byte, as a contract sees it: how many bytes of it are kept, and which
+pub record Kept : Type 0 where
+  pub length : ℕ
+  pub bytes : List ℕ
+
+-- what is kept of a line: its first 36 bytes, and how many of them there are
+pub record Holds (kept : Kept) (line : List ℕ) : Type 0 where
+  pub count : kept.length ≡ min (length line) 36
+  pub same : kept.bytes ≡ take 36 line

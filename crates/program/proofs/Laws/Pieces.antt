@@ -12,7 +12,7 @@ use Rattle.page.specs.Layout.{capacity_ok}
 use Rattle.calls.specs.Calls.{Formatted, format}
 use Rattle.calls.specs.Index.{index_format}
 use Rattle.calls.specs.Program.{Line, cut_at, line_from, ran_line}
-use Rattle.text.specs.Reading.{Holds}
+use Rattle.text.specs.Reading.{Kept, Holds}
 use Rattle.text.proofs.Laws.Feeds.{held_none, held_some}
 use Rattle.print.specs.declared.Printer.{Printer}
 use Rattle.print.specs.Written.{Put}
@@ -33,7 +33,7 @@ put_at f e = record { room = f.room; written = f.written; offset = sym e ∙ f.o
 
 -- ---- a line that ends
 
-pub goes_line : {r : Reading} {img left after : List ℕ} {line : Line} {none : List ℕ} {p q : Printer} → p.at ≡ r.at
+pub goes_line : {r : Reading} {img left after : List ℕ} {line : Line} {none : Kept} {p q : Printer} → p.at ≡ r.at
     → ((text : List ℕ) → Holds r.fed text → line ≡ line_from (cut_at 32 text)) → Holds none []
     → Does (ran_line 12 64 r.number line img) left p q → after ≡ q.out.now
     → SimulatesStep (line_run 12 64) r img p.out.now (record { fed = none; number = r.number + 1; at = q.at }) left after
@@ -44,7 +44,7 @@ goes_line {p = p} a parsed empty d f had from g s =
     let here : Put had from g.written p.out.now p.at = put_at s.printed (sym a) in
     record { fed = empty; number = omega (arith, s.number); image = d'.image; printed = put_left f (put_then here d'.printed.put) }
 
-pub within_line : {r : Reading} {fed : List ℕ} {next : ℕ} → next ≤ r.at + 55
+pub within_line : {r : Reading} {fed : Kept} {next : ℕ} → next ≤ r.at + 55
     → Advances 1 r (record { fed = fed; number = r.number + 1; at = next })
 within_line h = record { number = omega arith; at = omega arith }
 
@@ -68,7 +68,7 @@ pub goes_end : {b : ℕ} {r q : Reading} {img out left after : List ℕ} → b �
     → SimulatesStep (after_byte 12 64 b) r img out q left after
 goes_end {b} e f had from g s = shows_as (goes_newline 12 64 b g e) (f had from g s)
 
-pub goes_fed : {b : ℕ} {r : Reading} {img out : List ℕ} {more : List ℕ} → (b ≡ 10 → ⊥)
+pub goes_fed : {b : ℕ} {r : Reading} {img out : List ℕ} {more : Kept} → (b ≡ 10 → ⊥)
     → ((line : List ℕ) → Holds r.fed line → Holds more (line ++ (b ∷ [])))
     → SimulatesStep (after_byte 12 64 b) r img out (record { fed = more; number = r.number; at = r.at }) img out
 goes_fed {b} n f had from g s =
@@ -144,10 +144,10 @@ module _ (half pages : ℕ) (g : ProgramState) where
   unfolding ended
   ended_line n = ap (λ t. cond t g (line_run half pages g)) (sym (ne_eqb (length g.line) 0 n))
 
-pub goes_empty : {r : Reading} {img out : List ℕ} → length r.fed ≡ 0 → SimulatesStep (ended 12 64) r img out r img out
+pub goes_empty : {r : Reading} {img out : List ℕ} → length r.fed.bytes ≡ 0 → SimulatesStep (ended 12 64) r img out r img out
 goes_empty e had from g s = shows_as (ended_empty 12 64 g (held_none g.line s.fed e)) s
 
-pub goes_last : {r q : Reading} {img out left after : List ℕ} → (length r.fed ≡ 0 → ⊥)
+pub goes_last : {r q : Reading} {img out left after : List ℕ} → (length r.fed.bytes ≡ 0 → ⊥)
     → SimulatesStep (line_run 12 64) r img out q left after
     → SimulatesStep (ended 12 64) r img out q left after
 goes_last {r} n f had from g s = shows_as (ended_line 12 64 g (λ e. n (held_some g.line s.fed e))) (f had from g s)

@@ -138,7 +138,7 @@ module _ (v : List ℕ) (p : pointwise nat_eq (take 1 v) (45 ∷ []) ≡ false) 
   plain_some h f = ap Some f ∙ sym (plain_value v p ∙ ap (option_map pos) (sym h))
 
 -- the machine's opposite of a number of ten digits
-opposite : (n : ℕ) → n < 10 ^ 10 → pos 0 -ℤ to_z w64 n ≡ neg_ℤ (pos n)
+pub opposite : (n : ℕ) → n < 10 ^ 10 → pos 0 -ℤ to_z w64 n ≡ neg_ℤ (pos n)
 opposite n h = ap (λ z. pos 0 -ℤ z) (to_z_pos w64 n (omega arith)) ∙ +ℤ_idl (neg_ℤ (pos n))
 
 pub opposite_fits : (n : ℕ) → n < 10 ^ 10 → SFits w64 (pos 0 -ℤ to_z w64 n)
