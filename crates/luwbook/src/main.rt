@@ -21,9 +21,11 @@ const LAST_LINE: u64 = 9223372036854775807;
 #[derive(Clone, Copy)]
 struct Failed;
 
-// The text was read to its end, and no read or write failed: `read_all` alone makes one.
+// The text was read to its end, and no read or write failed: `read_all` alone makes one, of a read that brought no byte.
 #[derive(Drop)]
-struct ReadToEnd;
+struct ReadToEnd {
+    came: usize,
+}
 
 // A line on standard error. Nothing is left to be told where that fails, too.
 fn say(rt: &HostRuntime, line: &str) {
@@ -120,11 +122,13 @@ impl Running<'_> {
     // number that no run comes to.
     fn read_all(&mut self, rt: &HostRuntime) -> Result<ReadToEnd, Failed>
         requires { Standing self.old.reading self.old.img.now }
-        ensures { Well result self.new.reading self.new.img.now }
+        ensures standing { Well result self.new.reading self.new.img.now }
+        ensures ended { IfOk result (λ read. read.came ≡ 0) }
     {
         for _turn in 0..u64::MAX {
-            if self.read_some(rt)? == 0 {
-                return Ok(ReadToEnd);
+            let came = self.read_some(rt)?;
+            if came == 0 {
+                return Ok(ReadToEnd { came });
             }
         }
         Err(Failed)
@@ -132,8 +136,9 @@ impl Running<'_> {
 
     // The last line, if its newline is missing, and the runs; whether all is written. A text that could not be read to its end has no runs:
     // they would look like those of all of it. So this takes the word of `read_all`.
-    fn finish(&mut self, rt: &HostRuntime, _end: ReadToEnd) -> Result<(), Failed>
-        requires { Standing self.old.reading self.old.img.now }
+    fn finish(&mut self, rt: &HostRuntime, read: ReadToEnd) -> Result<(), Failed>
+        requires standing { Standing self.old.reading self.old.img.now }
+        requires ended { read.came ≡ 0 }
         ensures { OnOk result (Ends self.old.reading self.old.img.now self.new.img.now) }
     {
         if self.reading.number > LAST_LINE {

@@ -6,12 +6,12 @@ use Rattle.luwbook.proofs.Running.finish.Goals as goal
 
 pub write_out-requires : goal.write_out-requires
 write_out-requires c =
-    let was = c.requires in
+    let was = c.requires.standing in
     writable (shown c.flush.ensures.flushes c.run_last.ensures.simulates_step was.stands).printed (by_last was.reached)
 
 pub write_out-requires-2 : goal.write_out-requires-2
 write_out-requires-2 c =
-    let was = c.requires in
+    let was = c.requires.standing in
     runs_writable _ was.reached (shown c.flush.ensures.flushes c.run_last.ensures.simulates_step was.stands).image
     (omega arith) c.put_listing-end.ensures
 
