@@ -1,5 +1,5 @@
 #!/usr/bin/env python3
-"""Every must-fail edit changes code or a definition, and neither a proof nor a contract.
+"""Every must-fail edit changes code or a definition, and neither a proof nor a contract: no clause, no ghost item, no tactic.
 
 usage: tests/edits/check.py     in the repository; prints what is wrong, then how many edits were read; fails if one is wrong or there is none
 """
@@ -9,12 +9,12 @@ import os
 import re
 import sys
 
-CLAUSE = re.compile(r"\b(?:requires|ensures)\*?\s*(?:\w+\s*)?\{")
+CLAUSE = re.compile(r"\b(?:requires|ensures)\*?\s*(?:\w+\s*)?\{|\bghost \w+\s*[:=]\s*\{")
 
 
 def clauses(text):
-    """The contracts of a file of code: what stands in the braces behind requires and ensures."""
-    found = []
+    """The contracts of a file of code: its tactics, and what stands in the braces behind requires, ensures and a ghost item's name."""
+    found = re.findall(r"^\s*#!?\[tactic\b.*$", text, re.M)
     for it in CLAUSE.finditer(text):
         depth, at = 1, it.end()
         while depth and at < len(text):
