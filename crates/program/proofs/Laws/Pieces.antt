@@ -145,12 +145,12 @@ module _ (half pages : ℕ) (g : ProgramState) where
   ended_line n = ap (λ t. cond t g (line_run half pages g)) (sym (ne_eqb (length g.line) 0 n))
 
 pub goes_empty : {r : Reading} {img out : List ℕ} → length r.fed.bytes ≡ 0 → SimulatesStep (ended 12 64) r img out r img out
-goes_empty e had from g s = shows_as (ended_empty 12 64 g (held_none g.line s.fed e)) s
+goes_empty e had from g s = shows_as (ended_empty 12 64 g (held_none g.line s.fed.same e)) s
 
 pub goes_last : {r q : Reading} {img out left after : List ℕ} → (length r.fed.bytes ≡ 0 → ⊥)
     → SimulatesStep (line_run 12 64) r img out q left after
     → SimulatesStep (ended 12 64) r img out q left after
-goes_last {r} n f had from g s = shows_as (ended_line 12 64 g (λ e. n (held_some g.line s.fed e))) (f had from g s)
+goes_last {r} n f had from g s = shows_as (ended_line 12 64 g (λ e. n (held_some g.line s.fed.same e))) (f had from g s)
 
 -- ---- the first byte, and an output that is empty again
 
